@@ -88,10 +88,7 @@ module _ (letters : ℕ) (compare : Compare) (rank : List ℕ → List ℕ) (law
   lead_occurs none =
       let at : signed is.negated m.scale *ℤ coefficient_of g.poly.terms g.lead ≡ pos 0 = sym (coefficient_of-multiple (signed is.negated m.scale) g.poly.terms g.lead) ∙ is.divided.at g.lead ∙ none in
       let gone : coefficient_of g.poly.terms g.lead ≡ pos 0 = cancel_nonzero (signed is.negated m.scale) (coefficient_of g.poly.terms g.lead) (signed_nonzero is.negated m.scale is.positive) at in
-      clash g.leading is.is_rule.positive (sym lead_coefficient ∙ gone)
-    where
-      clash : (k : ℤ) → pos 0 <ℤ k → k ≡ pos 0 → ⊥
-      clash k above same = omega (arith, ints, above, same)
+      (omega (arith, ints, is.is_rule.positive, (sym lead_coefficient ∙ gone)))
 
   new_apart : (i : ℕ) (f : Rule) → rule_at rules i ≡ Some f → OccursNowhere g.lead f.lead
   new_apart i f numbered =
@@ -122,10 +119,7 @@ module _ (letters : ℕ) (compare : Compare) (rank : List ℕ → List ℕ) (law
       by_sign true w divided =
           traced-negated generators (polynomials_of rules) rows w
           ∙ ap neg_ℤ (adds.sum.at w ∙ sym divided ∙ coefficient_of-multiple (neg_ℤ m.scale) g.poly.terms w ∙ neg_ℤ-*ℤ m.scale (coefficient_of g.poly.terms w))
-          ∙ twice (m.scale *ℤ coefficient_of g.poly.terms w)
-        where
-          twice : (a : ℤ) → neg_ℤ (neg_ℤ a) ≡ a
-          twice a = omega (arith, ints)
+          ∙ (omega (arith, ints))
       by_sign false w divided = adds.sum.at w ∙ sym divided ∙ coefficient_of-multiple m.scale g.poly.terms w
 
   -- what a record traces is traced over more rules

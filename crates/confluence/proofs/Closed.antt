@@ -38,11 +38,8 @@ module _ (o : Order) (g : Rules o) (q : Allowed o) (res : Resolved o g q) where
       by_number (inr n) = by_place (λ e. absurd (n e))
       by_number (inl e) = by_left (word_eq x.left y.left) refl
         where
-          clash_bool : false ≡ true → ⊥
-          clash_bool k = cc
-
           by_left : (t : Bool) → word_eq x.left y.left ≡ t → Meet M a b
-          by_left false h = by_place (λ _ l. clash_bool (sym h ∙ ap (λ z. word_eq x.left z) (sym l) ∙ word_eq-same x.left))
+          by_left false h = by_place (λ _ l. (cc (sym h ∙ ap (λ z. word_eq x.left z) (sym l) ∙ word_eq-same x.left)))
           by_left true h = (1, pos 1, omega arith, nothing _ (λ w. ap (λ z. pos 1 *ℤ z +ℤ neg_ℤ (pos 1 *ℤ b w)) (equal w) ∙ +ℤ_invr (pos 1 *ℤ b w)))
             where
               rights : x.right ≡ y.right
@@ -68,10 +65,7 @@ module _ (o : Order) (g : Rules o) (q : Allowed o) (res : Resolved o g q) where
   zero_or_reducible f sp = finish (topped setting (λ _. Unit {0}) f (span_bind _ _ each f sp))
     where
       each : (b : Coefs) → ((M : Word) × Row o g q M b) → Span (λ d. (L : Word) × Unit {0} × Row o g q L d) b
-      each b (M, row) = more b (λ _. pos 0) b (pos 1) (M, tt, row) (nothing _ (λ _. refl)) (λ w. one_times (b w))
-        where
-          one_times : (x : ℤ) → x ≡ pos 1 *ℤ x +ℤ pos 0
-          one_times x = omega (arith, ints)
+      each b (M, row) = more b (λ _. pos 0) b (pos 1) (M, tt, row) (nothing _ (λ _. refl)) (λ w. (omega (arith, ints)))
 
       finish : (((w : Word) → f w ≡ pos 0) ⊎ ((N : Word) × Unit {0} × Span (AtMost setting N) f × SomeRow setting N)) → ((w : Word) → f w ≡ pos 0) ⊎ HasTopRow setting f
       finish (inl z) = inl z

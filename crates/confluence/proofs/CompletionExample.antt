@@ -133,10 +133,7 @@ closed = resolved_at_once_is_kept 1 word_cmp (rank_of 1) generators (rule ∷ []
 -- there is no other ambiguity
 only_rule : (n : ℕ) (g : Rule) → rule_at (rule ∷ []) n ≡ Some g → (n ≡ 1) × (g ≡ rule)
 only_rule zero g is = absurd (cc)
-only_rule (suc zero) g is = (refl, same rule g is)
-  where
-    same : (f g : Rule) → ◌≡◌ {A = Option Rule} (Some f) (Some g) → g ≡ f
-    same f g e = cc
+only_rule (suc zero) g is = (refl, (cc))
 only_rule (suc (suc n)) g is = absurd (cc)
 
 only_itself : (a : Ambiguity) → IsAmbiguity (rule ∷ []) a → a ≡ itself
@@ -162,10 +159,7 @@ nothing_pending : NothingPending (rule ∷ []) (itself ∷ [])
 nothing_pending a is untreated = untreated (zero, omega arith, sym (only_itself a is))
 
 all_done : AreAllDone generators (1 ∷ [])
-all_done n first last = (zero, omega arith, one n first last)
-  where
-    one : (n : ℕ) → 1 ≤ n → n ≤ 1 → 1 ≡ n
-    one n first last = omega (arith, first, last)
+all_done n first last = (zero, omega arith, (omega (arith, first, last)))
 
 -- x is its own normal form, and so it is outside
 abbrev x : List Term
@@ -200,10 +194,7 @@ x_is_outside_alone inside = clash (rests_of_ideal_are_zero 1 word_cmp (rank_of 1
     (record { at = words_with_coefficients (IsOver 1) x x_over }) x_reduced)
   where
     clash : IsZero x → ⊥
-    clash none = differ (none.at (0 ∷ []))
-      where
-        differ : pos 1 ≡ pos 0 → ⊥
-        differ e = cc
+    clash none = cc (none.at (0 ∷ []))
 
 -- with the ambiguity left out nothing can be concluded: it is pending
 left_out : NothingPending (rule ∷ []) [] → ⊥

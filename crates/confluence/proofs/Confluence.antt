@@ -30,10 +30,8 @@ filtered : (d c b g n : ℤ) → d *ℤ (c *ℤ b +ℤ g) +ℤ n ≡ (d *ℤ c) 
 filtered d c b g n = ap (λ z. z +ℤ n) (*ℤ-+ℤ d (c *ℤ b) g ∙ ap (λ z. z +ℤ d *ℤ g) (sym (*ℤ_assoc d c b))) ∙ +ℤ_assoc ((d *ℤ c) *ℤ b) (d *ℤ g) n
 
 joined : (x d c y k a b g : ℤ) → (x *ℤ d) *ℤ (c *ℤ b +ℤ g) +ℤ neg_ℤ (((d *ℤ c) *ℤ y +ℤ x *ℤ k) *ℤ a) ≡ (d *ℤ c) *ℤ (x *ℤ b +ℤ neg_ℤ (y *ℤ a)) +ℤ x *ℤ (d *ℤ g +ℤ neg_ℤ (k *ℤ a))
-joined x d c y k a b g = simp (*ℤ-+ℤ, +ℤ-*ℤ, *ℤ_assoc, *ℤ-neg_ℤ) (let e : x *ℤ (d *ℤ (c *ℤ b)) ≡ d *ℤ (c *ℤ (x *ℤ b)) = three x d c b in omega (arith, ints, e))
-  where
-    three : (x d c b : ℤ) → x *ℤ (d *ℤ (c *ℤ b)) ≡ d *ℤ (c *ℤ (x *ℤ b))
-    three x d c b = mul_swap x d (c *ℤ b) ∙ ap (λ z. d *ℤ z) (mul_swap x c b)
+joined x d c y k a b g = simp (*ℤ-+ℤ, +ℤ-*ℤ, *ℤ_assoc, *ℤ-neg_ℤ) (let e : x *ℤ (d *ℤ (c *ℤ b)) ≡ d *ℤ (c *ℤ (x *ℤ b)) =
+    (mul_swap x d (c *ℤ b) ∙ ap (λ z. d *ℤ z) (mul_swap x c b)) in omega (arith, ints, e))
 
 module _ (s : Setting) where
   abbrev pub Lower : Word → Coefs → Type 0
@@ -85,10 +83,7 @@ module _ (s : Setting) where
       joined_below L (inr e) (inr h) = inr (s.less_trans L M N e h)
 
       each : (b : Coefs) → AtMost M b → Span (AtMost N) b
-      each b (L, w, row) = more b (λ _. pos 0) b (pos 1) (L, joined_below L w r, row) (nothing _ (λ _. refl)) (λ w. one_times (b w))
-        where
-          one_times : (x : ℤ) → x ≡ pos 1 *ℤ x +ℤ pos 0
-          one_times x = omega (arith, ints)
+      each b (L, w, row) = more b (λ _. pos 0) b (pos 1) (L, joined_below L w r, row) (nothing _ (λ _. refl)) (λ w. (omega (arith, ints)))
 
   abbrev pub SomeRow : Word → Type 0
   SomeRow N = (d : Coefs) × s.Row N d
@@ -151,7 +146,9 @@ module _ (s : Setting) where
             where
               by_top : (f M ≡ pos 0) ⊎ (f M ≢ pos 0) → ((w : Word) → f w ≡ pos 0) ⊎ HasTopRow f
               by_top (inr n) = inr (record { word = M; occurs = n; greatest = λ w above. at_most_zero M w f above sp; row = (b, hb) })
-              by_top (inl z) = lowered (part f (λ w. pos e *ℤ f w) e pe (span_same (Lower M) _ _ l (λ w. sym (gone w))) (λ w. refl))
+              by_top (inl z) = lowered (part f (λ w. pos e *ℤ f w) e pe (span_same (Lower M) _ _ l
+                  (λ w. sym (ap (λ z. pos e *ℤ f w +ℤ neg_ℤ (z *ℤ b w)) c_zero ∙ ap (λ z. pos e *ℤ f w +ℤ neg_ℤ z) (zero-*ℤ (b w)) ∙ +ℤ_idr
+                  (pos e *ℤ f w)))) (λ w. refl))
                 where
                   c_zero : c ≡ pos 0
                   c_zero = from_lead (s.lead M b hb)
@@ -161,6 +158,3 @@ module _ (s : Setting) where
 
                       from_lead : ((k : ℕ) × (0 < k) × (b M ≡ pos k)) → c ≡ pos 0
                       from_lead (k, pk, at) = *ℤ_cancel k c pk (*ℤ_comm (pos k) c ∙ ap (λ z. c *ℤ z) (sym at) ∙ alone (pos e *ℤ f M) (c *ℤ b M) (ap (λ z. pos e *ℤ z) z ∙ *ℤ-zero (pos e)) (lower_zero M _ l))
-
-                  gone : (w : Word) → pos e *ℤ f w +ℤ neg_ℤ (c *ℤ b w) ≡ pos e *ℤ f w
-                  gone w = ap (λ z. pos e *ℤ f w +ℤ neg_ℤ (z *ℤ b w)) c_zero ∙ ap (λ z. pos e *ℤ f w +ℤ neg_ℤ z) (zero-*ℤ (b w)) ∙ +ℤ_idr (pos e *ℤ f w)

@@ -41,12 +41,9 @@ has_content (t ∷ p) = go (has_content p)
     go : HasContent p → HasContent (t ∷ p)
     go rest = record { content = gcd_of rest.content t.0; is = content_with t p rest.content rest.is }
 
-no_terms : (p : List Term) → 0 < length p → p ≡ [] → ⊥
-no_terms p some none = omega (arith, some, ap length none)
-
 -- that of a polynomial other than zero is positive
 pub positive_content : (p : List Term) (g : ℤ) → 0 < length p → All (λ t. t.0 ≢ pos 0) p → IsContent p g → pos 0 <ℤ g
-positive_content p (pos zero) some nonzero content = absurd (no_terms p some ((content-zero p (pos 0) nonzero content).0 refl))
+positive_content p (pos zero) some nonzero content = absurd (omega (arith, some, ap length ((content-zero p (pos 0) nonzero content).0 refl)))
 positive_content p (pos (suc n)) some nonzero content = omega (arith, ints)
 positive_content p (negsuc n) some nonzero content = absurd (omega (arith, ints, content.nonnegative))
 

@@ -47,10 +47,7 @@ difference = refl
 -- there is no other
 only_rule : (n : ℕ) (g : Rule) → rule_at (rule ∷ []) n ≡ Some g → (n ≡ 1) × (g ≡ rule)
 only_rule zero g is = absurd (cc)
-only_rule (suc zero) g is = (refl, same rule g is)
-  where
-    same : (f g : Rule) → ◌≡◌ {A = Option Rule} (Some f) (Some g) → g ≡ f
-    same f g e = cc
+only_rule (suc zero) g is = (refl, (cc))
 only_rule (suc (suc n)) g is = absurd (cc)
 
 -- b a b overlaps itself in one letter alone

@@ -20,9 +20,6 @@ positive_nat (negsuc n) h = absurd (omega (arith, ints, h))
 pub nonzero_or : (x : ℤ) → (x ≡ pos 0) ⊎ (x ≢ pos 0)
 nonzero_or x = go (int_eq x (pos 0)) refl
   where
-    clash : true ≡ false → ⊥
-    clash q = cc
-
     go : (b : Bool) → int_eq x (pos 0) ≡ b → (x ≡ pos 0) ⊎ (x ≢ pos 0)
     go true e = inl ((Decides-int_eq x (pos 0)).0 e)
-    go false e = inr (λ z. clash (sym ((Decides-int_eq x (pos 0)).1 z) ∙ e))
+    go false e = inr (λ z. (cc (sym ((Decides-int_eq x (pos 0)).1 z) ∙ e)))

@@ -59,13 +59,11 @@ module _ (letters : ℕ) (compare : Compare) (rank : List ℕ → List ℕ) (law
     accounted_span rest is bounded =
         more (coefficient_of rest) (λ _. pos 0) (coefficient_of (poly_between [] (led_at (leds_of rules) is.number).poly [])) is.scale
         (_, row_at order (leds_of rules) (leds_are letters compare rank laws rules are) q is.number [] [] (has_led rules is.number is.rule is.numbered) (subst order.Range (sym (append-nil (led_at (leds_of rules) is.number).lead)) top.0) (subst q.May (sym (append-nil (led_at (leds_of rules) is.number).lead)) top.1))
-        (nothing _ (λ _. refl)) value
+        (nothing _ (λ _. refl)) (λ w. at w ∙ ap (λ z. is.scale *ℤ z) (sym (coefficient_of-bare (led_at (leds_of rules) is.number).poly w))
+        ∙ sym (+ℤ_idr _))
       where
         at : (w : Word) → coefficient_of rest w ≡ is.scale *ℤ coefficient_of (led_at (leds_of rules) is.number).poly w
         at w = sym (is.divided.at w) ∙ coefficient_of-multiple is.scale is.rule.poly.terms w ∙ ap (λ r. is.scale *ℤ coefficient_of r.poly w) (sym (led_at-is rules is.number is.rule is.numbered))
-
-        value : (w : Word) → coefficient_of rest w ≡ is.scale *ℤ coefficient_of (poly_between [] (led_at (leds_of rules) is.number).poly []) w +ℤ pos 0
-        value w = at w ∙ ap (λ z. is.scale *ℤ z) (sym (coefficient_of-bare (led_at (leds_of rules) is.number).poly w)) ∙ sym (+ℤ_idr _)
 
         occurs : coefficient_of rest (led_at (leds_of rules) is.number).lead ≢ pos 0
         occurs none = leading_nonzero order (led_at (leds_of rules) is.number) (leds_are letters compare rank laws rules are is.number (has_led rules is.number is.rule is.numbered)) (cancel_nonzero is.scale (coefficient_of (led_at (leds_of rules) is.number).poly (led_at (leds_of rules) is.number).lead) is.nonzero (sym (at (led_at (leds_of rules) is.number).lead) ∙ none))

@@ -23,16 +23,10 @@ pub rule_from_pushed : (letters : ℕ) (compare : Compare) (g : Rule) → rule_f
     → All (λ t. 0 < length t.1) g.poly.terms → All (λ t. IsOver letters t.1) g.poly.terms → IsRule letters compare g
 rule_from_pushed letters compare g from positive nonempty over = go (leading_term compare g.poly.terms) refl from positive
   where
-    same_rule : (f h : Rule) → ◌≡◌ {A = Option Rule} (Some f) (Some h) → f ≡ h
-    same_rule f h e = cc
-
-    none : ◌≡◌ {A = Option Rule} None (Some g) → ⊥
-    none e = cc
-
     go : (o : Option Term) → leading_term compare g.poly.terms ≡ o → option_map (λ t. record { leading = t.0; lead = t.1; poly = g.poly }) o ≡ Some g → IsSomeAnd o (λ t. pos 0 <ℤ t.0) → IsRule letters compare g
-    go None at e some = absurd (none e)
+    go None at e some = absurd (cc)
     go (Some t) at e some =
-        let same : record { leading = t.0; lead = t.1; poly = g.poly } ≡ g = same_rule (record { leading = t.0; lead = t.1; poly = g.poly }) g e in
+        let same : record { leading = t.0; lead = t.1; poly = g.poly } ≡ g = (cc) in
         let leading : leading_term compare g.poly.terms ≡ Some (g.leading, g.lead) = at ∙ ap (λ (f : Rule). Some (f.leading, f.lead)) same in
         record {
           leading = leading;

@@ -24,10 +24,8 @@ total_span Base F (t ∷ p) e = more _ (total p F) (F t.1) t.0 e.0 (total_span B
 
 total-sum : (p : List Term) (c : ℤ) (F G : Word → Coefs) (w : Word) → total p (λ u v. c *ℤ F u v +ℤ G u v) w ≡ c *ℤ total p F w +ℤ total p G w
 total-sum [] c F G w = sym (ap (λ z. z +ℤ pos 0) (*ℤ-zero c))
-total-sum (t ∷ p) c F G w = ap (λ z. t.0 *ℤ (c *ℤ F t.1 w +ℤ G t.1 w) +ℤ z) (total-sum p c F G w) ∙ regroup t.0 c (F t.1 w) (G t.1 w) (total p F w) (total p G w)
-  where
-    regroup : (a c f g x y : ℤ) → a *ℤ (c *ℤ f +ℤ g) +ℤ (c *ℤ x +ℤ y) ≡ c *ℤ (a *ℤ f +ℤ x) +ℤ (a *ℤ g +ℤ y)
-    regroup a c f g x y = simp *ℤ-+ℤ (let e : a *ℤ (c *ℤ f) ≡ c *ℤ (a *ℤ f) = mul_swap a c f in omega (arith, ints, e))
+total-sum (t ∷ p) c F G w = ap (λ z. t.0 *ℤ (c *ℤ F t.1 w +ℤ G t.1 w) +ℤ z) (total-sum p c F G w)
+    ∙ (simp *ℤ-+ℤ (let e : t.0 *ℤ (c *ℤ (F t.1 w)) ≡ c *ℤ (t.0 *ℤ (F t.1 w)) = mul_swap t.0 c (F t.1 w) in omega (arith, ints, e)))
 
 total-zero : (p : List Term) (w : Word) → total p (λ u v. pos 0) w ≡ pos 0
 total-zero [] w = refl
@@ -50,10 +48,7 @@ coefficient_of-total h [] w = refl
 coefficient_of-total h (t ∷ p) w = ap (λ z. cond (word_eq (h t.1) w) t.0 (pos 0) +ℤ z) (coefficient_of-total h p w) ∙ by_test (word_eq (h t.1) w)
   where
     by_test : (b : Bool) → cond b t.0 (pos 0) +ℤ total p (λ u. hit (h u)) w ≡ t.0 *ℤ cond b (pos 1) (pos 0) +ℤ total p (λ u. hit (h u)) w
-    by_test true = ap (λ z. z +ℤ total p (λ u. hit (h u)) w) (sym (times_one t.0))
-      where
-        times_one : (x : ℤ) → x *ℤ pos 1 ≡ x
-        times_one x = *ℤ_comm x (pos 1) ∙ omega (arith, ints)
+    by_test true = ap (λ z. z +ℤ total p (λ u. hit (h u)) w) (sym (*ℤ_comm t.0 (pos 1) ∙ omega (arith, ints)))
     by_test false = ap (λ z. z +ℤ total p (λ u. hit (h u)) w) (sym (*ℤ-zero t.0))
 
 -- the product of two polynomials with a word between them, written both ways
@@ -259,14 +254,15 @@ module _ (o : Order) (g : Rules o) (q : Allowed o) where
         at = e2 ∙ ap (λ z. z ++ ((g.rule j).lead ++ r2)) a ∙ append_assoc l1 s ((g.rule j).lead ++ r2) ∙ ap (λ z. l1 ++ z) (sym (append_assoc s (g.rule j).lead r2))
     meets M l1 i r1 l2 j r2 hi hj rm am e1 e2 differ (inside s t pe a b) = by_number (g.same_number i j)
       where
-        front_empty : (p s t : Word) → p ≡ s ++ (p ++ t) → s ≡ []
-        front_empty p s t e = nil_from_length s (omega (arith, ap length e, length-append s (p ++ t), length-append p t))
-
-        same_place : i ≡ j → l1 ≡ l2
-        same_place e = sym (a ∙ ap (λ z. l1 ++ z) (front_empty (g.rule i).lead s t (pe ∙ ap (λ z. s ++ ((g.rule z).lead ++ t)) (sym e))) ∙ append-nil l1)
-
         by_number : (i ≡ j) ⊎ (i ≢ j) → Meets M l1 i r1 l2 j r2
-        by_number (inl e) = absurd (differ e (same_place e))
+        by_number (inl e) = absurd (differ e (sym (a ∙ ap (λ z. l1 ++ z)
+            (nil_from_length s (omega (
+              arith,
+              ap length (pe ∙ ap (λ z. s ++ ((g.rule z).lead ++ t)) (sym e)),
+              length-append s
+                  ((g.rule i).lead ++ t),
+              length-append (g.rule i).lead t,
+            ))) ∙ append-nil l1)))
         by_number (inr n) = meets_at M (l1 ++ ((g.rule i).lead ++ r1)) l1 (l1 ++ []) r1 r1 l2 (l1 ++ s) r2 (t ++ r1) i j (sym e1) (append-nil l1) refl (sym a) (sym b) (meets_shift l1 r1 (g.rule i).lead [] i [] s j t (subst o.Range e1 rm) (subst q.May e1 am) (res.inclusions i j s t hi hj n pe (o.factor l1 (g.rule i).lead r1 (subst o.Range e1 rm)) (may_factor l1 (g.rule i).lead r1 (subst o.Range e1 rm) (subst q.May e1 am))))
     meets M l1 i r1 l2 j r2 hi hj rm am e1 e2 differ (outside t nt qe a b) = by_number (g.same_number i j)
       where

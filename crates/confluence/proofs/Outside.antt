@@ -74,10 +74,7 @@ module _ (o : Order) (g : Rules o) where
       divided (inl z) = inl (*ℤ_cancel e (f w) pe (sym (h w) ∙ z))
 
   one_row : (q : Allowed o) (M : Word) (b : Coefs) → Row o g q M b → Span (AnyRow q) b
-  one_row q M b row = more b (λ _. pos 0) b (pos 1) (M, row) (nothing _ (λ _. refl)) (λ w. one_times (b w))
-    where
-      one_times : (x : ℤ) → x ≡ pos 1 *ℤ x +ℤ pos 0
-      one_times x = omega (arith, ints)
+  one_row q M b row = more b (λ _. pos 0) b (pos 1) (M, row) (nothing _ (λ _. refl)) (λ w. (omega (arith, ints)))
 
   -- rows over other polynomials, in which each word is in range and may be a top
   pub record Piece (q : Allowed o) (inner : List Term) (b : Coefs) : Type 0 where

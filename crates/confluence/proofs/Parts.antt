@@ -92,14 +92,11 @@ parted_below o r h = all_words_filtered (λ u. o.Less u r.lead) (is_lower r) r.p
         parts : (not (word_eq r.lead w) ≡ true) × (not (int_eq (coefficient_of r.poly w) (pos 0)) ≡ true)
         parts = and_parts _ _ k
 
-        clash : true ≡ false → ⊥
-        clash q = cc
-
         nonzero : coefficient_of r.poly w ≢ pos 0
-        nonzero z = clash (sym ((Decides-int_eq (coefficient_of r.poly w) (pos 0)).1 z) ∙ not_true _ parts.1)
+        nonzero z = cc (sym ((Decides-int_eq (coefficient_of r.poly w) (pos 0)).1 z) ∙ not_true _ parts.1)
 
         pick : (w ≡ r.lead) ⊎ o.Less w r.lead → o.Less w r.lead
-        pick (inl e) = absurd (clash (sym (word_eq-same r.lead) ∙ ap (λ z. word_eq r.lead z) (sym e) ∙ not_true _ parts.0))
+        pick (inl e) = absurd (cc (sym (word_eq-same r.lead) ∙ ap (λ z. word_eq r.lead z) (sym e) ∙ not_true _ parts.0))
         pick (inr l) = l
 
 pub same_nat : (i j : ℕ) → (i ≡ j) ⊎ (i ≢ j)
@@ -140,13 +137,8 @@ module _ (o : Order) (g h : Rules o) (x : Extends o g h) where
   }
 
   pub any_more : (q : Allowed o) (f : Coefs) → Span (AnyRow o g q) f → Span (AnyRow o h q) f
-  any_more q = span_bind (AnyRow o g q) (AnyRow o h q) (λ b r. single b (r.0, row_more q r.0 b r.1))
-    where
-      one_times : (x : ℤ) → x ≡ pos 1 *ℤ x +ℤ pos 0
-      one_times x = omega (arith, ints)
-
-      single : (b : Coefs) → AnyRow o h q b → Span (AnyRow o h q) b
-      single b r = more b (λ _. pos 0) b (pos 1) r (nothing _ (λ _. refl)) (λ w. one_times (b w))
+  any_more q = span_bind (AnyRow o g q) (AnyRow o h q) (λ b r. (more b (λ _. pos 0) b (pos 1) (r.0, row_more q r.0 b r.1)
+      (nothing _ (λ _. refl)) (λ w. (omega (arith, ints)))))
 
 -- another bound
 pub row_bound : (o : Order) (g : Rules o) (q p : Allowed o) (M : Word) (b : Coefs) → Row o g q M b → p.May M → Row o g p M b

@@ -102,10 +102,7 @@ module _ (o : Order) where
           at2 = ap (coefficient_of (poly_between be (led_at rules a.j).poly bh)) (e ∙ t2) ∙ coefficient_of-between_at be bh (led_at rules a.j).poly (led_at rules a.j).lead ∙ (ok a.j has.1).at_lead
 
           balance : (x k y l : ℕ) → x * k ≡ y * l → pos x *ℤ pos k +ℤ neg_ℤ (pos y) *ℤ pos l ≡ pos 0
-          balance x k y l e = ap (λ z. z +ℤ neg_ℤ (pos y) *ℤ pos l) (pos-*ℤ-pos x k ∙ ap pos e) ∙ ap (λ z. pos (y * l) +ℤ z) (neg_ℤ-*ℤ (pos y) (pos l) ∙ ap neg_ℤ (pos-*ℤ-pos y l)) ∙ gone (pos (y * l))
-            where
-              gone : (z : ℤ) → z +ℤ neg_ℤ z ≡ pos 0
-              gone z = omega (arith, ints)
+          balance x k y l e = ap (λ z. z +ℤ neg_ℤ (pos y) *ℤ pos l) (pos-*ℤ-pos x k ∙ ap pos e) ∙ ap (λ z. pos (y * l) +ℤ z) (neg_ℤ-*ℤ (pos y) (pos l) ∙ ap neg_ℤ (pos-*ℤ-pos y l)) ∙ (omega (arith, ints))
 
       by_up_to : o.Range w × ((w ≡ O) ⊎ o.Less w O) → (coefficient_of p w ≡ pos 0) ⊎ (o.Range w × o.Less w O)
       by_up_to (r, inl e) = inl (cancels e)

@@ -47,14 +47,8 @@ same_place rules a O O' f f' b b' h h' (inclusion s t k h1 h2 n e pl ew ea eb ec
   where
     go : (s ≡ s') × ((led_at rules a.j).lead ++ t ≡ (led_at rules a.j).lead ++ t') → (O ≡ O') × (f ≡ f') × (b ≡ b') × (h ≡ h')
     go (p, q) = (ew ∙ sym ew', ea ∙ sym ea', eb ∙ p ∙ sym eb', ec ∙ append_cancel_left (led_at rules a.j).lead t t' q ∙ sym ec')
-same_place rules a O O' f f' b b' h h' (overlap s m t k h1 h2 ns nm nt e1 e2 pl ew ea eb ec) (inclusion s' t' k' h1' h2' n' e' pl' ew' ea' eb' ec') = absurd (clash (sym k ∙ k'))
-  where
-    clash : Overlap ≡ Inclusion → ⊥
-    clash q = cc
-same_place rules a O O' f f' b b' h h' (inclusion s t k h1 h2 n e pl ew ea eb ec) (overlap s' m' t' k' h1' h2' ns' nm' nt' e1' e2' pl' ew' ea' eb' ec') = absurd (clash (sym k' ∙ k))
-  where
-    clash : Overlap ≡ Inclusion → ⊥
-    clash q = cc
+same_place rules a O O' f f' b b' h h' (overlap s m t k h1 h2 ns nm nt e1 e2 pl ew ea eb ec) (inclusion s' t' k' h1' h2' n' e' pl' ew' ea' eb' ec') = absurd (cc (sym k ∙ k'))
+same_place rules a O O' f f' b b' h h' (inclusion s t k h1 h2 n e pl ew ea eb ec) (overlap s' m' t' k' h1' h2' ns' nm' nt' e1' e2' pl' ew' ea' eb' ec') = absurd (cc (sym k' ∙ k))
 
 module _ (o : Order) where
   module _ (rules : List Led) (ok : (n : ℕ) → HasLed rules n → IsLed o (led_at rules n)) where

@@ -61,10 +61,7 @@ module _ (letters : ℕ) (compare : Compare) (rules : List Rule) (p : List Term)
   rest_span Asked asked sp =
       let Base = Numbered (polynomials_of rules) Asked in
       span_same Base _ (coefficient_of s.rest) (span_add Base _ _ (span_scale Base s.multiplier (coefficient_of p) sp) (span_scale Base (negsuc 0) (reduced_part p s) (numbered_span letters compare rules p s reduced Asked asked)))
-      (λ w. less (s.multiplier *ℤ coefficient_of p w) (coefficient_of s.rest w))
-    where
-      less : (m r : ℤ) → r ≡ m +ℤ negsuc 0 *ℤ (m +ℤ neg_ℤ r)
-      less m r = omega (arith, ints)
+      (λ w. (omega (arith, ints)))
 
 pub rests_of_ideal_are_zero : RestsOfIdealAreZero
 rests_of_ideal_are_zero letters compare rank rules p s laws are resolved inside over reduced =

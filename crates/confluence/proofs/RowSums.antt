@@ -97,10 +97,7 @@ module _ (generators polys : List (List Term)) where
   traced-negated (row ∷ rows) w =
       traced-cons (negated_row row) (negated_rows rows) w
       ∙ ap₂ ◌+ℤ◌ (neg_ℤ-*ℤ row.coef (row_at row w)) (traced-negated rows w)
-      ∙ opposite (row.coef *ℤ row_at row w) (sum_at rows w) ∙ ap neg_ℤ (sym (traced-cons row rows w))
-    where
-      opposite : (a b : ℤ) → neg_ℤ a +ℤ neg_ℤ b ≡ neg_ℤ (a +ℤ b)
-      opposite a b = omega (arith, ints)
+      ∙ (omega (arith, ints)) ∙ ap neg_ℤ (sym (traced-cons row rows w))
 
 -- which rows they are over
 module _ (P : Origin → Type 0) where

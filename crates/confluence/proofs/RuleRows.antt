@@ -39,10 +39,7 @@ module _ (o : Order) where
       go (inr k) (inr l) = (o.less_range u h.word l, q.closed u h.word l k.1)
 
   pub leading_nonzero : (r : Led) → IsLed o r → coefficient_of r.poly r.lead ≢ pos 0
-  leading_nonzero r h z = clash r.leading h.positive (sym h.at_lead ∙ z)
-    where
-      clash : (k : ℕ) → 0 < k → pos k ≡ pos 0 → ⊥
-      clash k p e = omega (arith, ints, p, e)
+  leading_nonzero r h z = omega (arith, ints, h.positive, (sym h.at_lead ∙ z))
 
   module _ (rules : List Led) (ok : (n : ℕ) → HasLed rules n → IsLed o (led_at rules n)) where
     -- a row over the rule with this number
@@ -62,8 +59,5 @@ module _ (o : Order) where
 pub from_rest : (Base : Coefs → Type 0) (p rest : List Term) (m : ℤ) → pos 0 <ℤ m → Span Base (λ w. m *ℤ coefficient_of p w +ℤ neg_ℤ (coefficient_of rest w)) → Span Base (coefficient_of rest) → Span Base (coefficient_of p)
 from_rest Base p rest m h a b = go (positive_nat m h)
   where
-    back : (x r : ℤ) → (x +ℤ neg_ℤ r) +ℤ r ≡ x
-    back x r = omega (arith, ints)
-
     go : ((n : ℕ) × (0 < n) × (m ≡ pos n)) → Span Base (coefficient_of p)
-    go (n, pn, e) = part (coefficient_of p) _ n pn (span_add Base _ _ a b) (λ w. back (m *ℤ coefficient_of p w) (coefficient_of rest w) ∙ ap (λ z. z *ℤ coefficient_of p w) e)
+    go (n, pn, e) = part (coefficient_of p) _ n pn (span_add Base _ _ a b) (λ w. (omega (arith, ints)) ∙ ap (λ z. z *ℤ coefficient_of p w) e)

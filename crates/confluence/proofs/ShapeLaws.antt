@@ -50,10 +50,7 @@ none_in os more none = go (first_overflow os) refl (sym (first-append os more) �
   where
     go : (o : Option Overflow) → first_overflow os ≡ o → or_first (first_overflow os) (first_overflow more) ≡ None → NoneIn os more
     go None at e = record { first = at; rest = sym (ap (λ o. or_first o (first_overflow more)) at) ∙ e }
-    go (Some x) at e = absurd (some_none (sym (ap (λ o. or_first o (first_overflow more)) at) ∙ e))
-      where
-        some_none : ◌≡◌ {A = Option Overflow} (Some x) None → ⊥
-        some_none e = cc
+    go (Some x) at e = absurd (cc (sym (ap (λ o. or_first o (first_overflow more)) at) ∙ e))
 
 fits : {A : Type 0} (os : List Overflow) (x : A) → first_overflow os ≡ None → checked os x ≡ Ok x
 fits os x none = ap (λ o. unless_overflow o (Ok x)) none

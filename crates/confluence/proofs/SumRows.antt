@@ -49,13 +49,10 @@ listed polys Asked _ (more f g b c hb hg h) = go (listed polys Asked g hg)
     }
 listed polys Asked _ (part f g e pe hg h) = go (listed polys Asked g hg)
   where
-    pos_mul : (x y : ℕ) → 0 < x → 0 < y → 0 < x * y
-    pos_mul x y p q = grind arith
-
     go : Listed polys Asked g → Listed polys Asked f
     go k = record {
       multiplier = k.multiplier * e;
-      positive = pos_mul k.multiplier e k.positive pe;
+      positive = grind arith;
       rows = k.rows;
       sum = λ w. k.sum w ∙ ap (λ z. pos k.multiplier *ℤ z) (h w) ∙ sym (*ℤ_assoc (pos k.multiplier) (pos e) (f w));
       within = k.within;
@@ -89,9 +86,6 @@ module _ (o : Order) (rules : List Led) (ok : (n : ℕ) → HasLed rules n → I
   pub comes_from_span : ((u : Word) → o.Range u → q.May u → Asked u) → (p : List Term) → Span (AnyRow o (rules_of o rules ok) q) (coefficient_of p) → Comes (polys_of rules) Asked p
   comes_from_span ask p sp = combination_from (polys_of rules) Asked p (listed (polys_of rules) Asked (coefficient_of p) (span_bind _ _ each (coefficient_of p) sp))
     where
-      one_times : (x : ℤ) → x ≡ pos 1 *ℤ x +ℤ pos 0
-      one_times x = omega (arith, ints)
-
       each : (b : Coefs) → AnyRow o (rules_of o rules ok) q b → Span (Numbered (polys_of rules) Asked) b
       each b (M, row) = more b (λ _. pos 0) b (pos 1) (record {
         number = row.number;
@@ -99,7 +93,7 @@ module _ (o : Order) (rules : List Led) (ok : (n : ℕ) → HasLed rules n → I
         right = row.right;
         is = by_poly;
         asked = λ w n. from_word w n (row_word o (rules_of o rules ok) q M (row.left ++ (w ++ row.right)) b row);
-      }) (nothing _ (λ _. refl)) (λ w. one_times (b w))
+      }) (nothing _ (λ _. refl)) (λ w. (omega (arith, ints)))
         where
           by_poly : (w : Word) → b w ≡ coefficient_of (poly_between row.left (generator_at (polys_of rules) row.number) row.right) w
           by_poly w = row.is w ∙ same_between row.left row.right (poly (parted (led_at rules row.number))) (led_at rules row.number).poly (coefficient_of-parted o (led_at rules row.number) (ok row.number row.has)) w ∙ ap (λ z. coefficient_of (poly_between row.left z row.right) w) (sym (poly_at rules row.number))
@@ -112,9 +106,6 @@ module _ (o : Order) (rules : List Led) (ok : (n : ℕ) → HasLed rules n → I
   pub span_from_numbered : ((u : Word) → Asked u → o.Range u × q.May u) → (f : Coefs) → Span (Numbered (polys_of rules) Asked) f → Span (AnyRow o (rules_of o rules ok) q) f
   span_from_numbered ask f sp = span_bind _ _ each f sp
     where
-      one_times : (x : ℤ) → x ≡ pos 1 *ℤ x +ℤ pos 0
-      one_times x = omega (arith, ints)
-
       each : (b : Coefs) → Numbered (polys_of rules) Asked b → Span (AnyRow o (rules_of o rules ok) q) b
       each b k = go (has_decided rules k.number)
         where
@@ -123,7 +114,7 @@ module _ (o : Order) (rules : List Led) (ok : (n : ℕ) → HasLed rules n → I
 
           go : HasLed rules k.number ⊎ (led_at rules k.number ≡ no_led) → Span (AnyRow o (rules_of o rules ok) q) b
           go (inr e) = nothing b (λ w. by_rule w ∙ ap (λ z. coefficient_of (poly_between k.left z.poly k.right) w) e)
-          go (inl h) = more b (λ _. pos 0) (coefficient_of (poly_between k.left (led_at rules k.number).poly k.right)) (pos 1) (_, row_at o rules ok q k.number k.left k.right h top.0 top.1) (nothing _ (λ _. refl)) (λ w. by_rule w ∙ one_times _)
+          go (inl h) = more b (λ _. pos 0) (coefficient_of (poly_between k.left (led_at rules k.number).poly k.right)) (pos 1) (_, row_at o rules ok q k.number k.left k.right h top.0 top.1) (nothing _ (λ _. refl)) (λ w. by_rule w ∙ (omega (arith, ints)))
             where
               top : o.Range (k.left ++ ((led_at rules k.number).lead ++ k.right)) × q.May (k.left ++ ((led_at rules k.number).lead ++ k.right))
               top = ask _ (k.asked (led_at rules k.number).lead (λ z. leading_nonzero o (led_at rules k.number) (ok k.number h) (ap (λ y. coefficient_of y (led_at rules k.number).lead) (sym (poly_at rules k.number)) ∙ z)))

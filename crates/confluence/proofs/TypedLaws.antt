@@ -56,10 +56,7 @@ joined_in_play : (play : ℕ → Bool) (u v : Word) → IsInPlay play u → IsIn
 joined_in_play play u v left right = list_all-append play u v ∙ and_from (list_all play u) (list_all play v) left right
 
 lead_in_play : (play : ℕ → Bool) (letters : ℕ) (compare : Compare) (g : Rule) → IsRule letters compare g → IsPolyInPlay play g.poly.terms → IsInPlay play g.lead
-lead_in_play play letters compare g is in_play = in_play.at g.lead (λ none. clash g.leading is.positive (sym (leading_coefficient compare g.poly.terms (g.leading, g.lead) g.poly.canonical.shaped is.leading) ∙ none))
-  where
-    clash : (k : ℤ) → pos 0 <ℤ k → k ≡ pos 0 → ⊥
-    clash k above none = omega (arith, ints, above, none)
+lead_in_play play letters compare g is in_play = in_play.at g.lead (λ none. (omega (arith, ints, is.positive, (sym (leading_coefficient compare g.poly.terms (g.leading, g.lead) g.poly.canonical.shaped is.leading) ∙ none))))
 
 -- words of l g r, where l lead r is in play
 between_in_play : (play : ℕ → Bool) (g : Rule) (l r : Word) → IsPolyInPlay play g.poly.terms → IsInPlay play (l ++ (g.lead ++ r)) → (w : Word) → coefficient_of (poly_between l g.poly.terms r) w ≢ pos 0 → IsInPlay play w
@@ -87,11 +84,10 @@ module _ (q : Quiver) (play : ℕ → Bool) (letters : ℕ) (compare : Compare) 
       lead : (n : ℕ) (g : Rule) → rule_at rules n ≡ Some g → IsInPlay play g.lead
       lead n g numbered = lead_in_play play letters compare g (rule_at-all (IsRule letters compare) rules n g numbered are) (rule_in_play n g numbered)
 
-      taken : (n : ℕ) (u : Word) → IsInPlay play u → IsInPlay play (take n u)
-      taken n u held = (parts_in_play play (take n u) (drop n u) (subst (IsInPlay play) (sym (take-append-drop n u)) held)).0
-
       joined : (k : Kind) → IsInPlay play (joined_word k is.first.lead is.second.lead a.place)
-      joined Overlap = joined_in_play play (take a.place is.first.lead) is.second.lead (taken a.place is.first.lead (lead a.i is.first is.first_numbered)) (lead a.j is.second is.second_numbered)
+      joined Overlap = joined_in_play play (take a.place is.first.lead) is.second.lead ((parts_in_play play (take a.place is.first.lead)
+          (drop a.place is.first.lead) (subst (IsInPlay play) (sym (take-append-drop a.place is.first.lead))
+          (lead a.i is.first is.first_numbered))).0) (lead a.j is.second is.second_numbered)
       joined Inclusion = lead a.i is.first is.first_numbered
 
 pub s_polynomials_stay_typed : SPolynomialsStayTyped

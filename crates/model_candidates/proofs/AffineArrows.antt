@@ -49,9 +49,9 @@ unsolved_map q solved a =
     (nat_eq a (star q l.0))) solved
 
 -- the map whose adjoint the letter is
-unsolved_adjoint : (q : Quiver) (solved : List Letter) (a : ℕ) → star q (star q a) ≡ a → is_solved q solved a ≡ false
+unsolved_adjoint : (q : Quiver) (solved : List Letter) {a : ℕ} → star q (star q a) ≡ a → is_solved q solved a ≡ false
     → is_solved_map solved (star q a) ≡ false
-unsolved_adjoint q solved a back = none_passes (λ l. nat_eq (star q a) l.0) (λ l. nat_eq a l.0 || nat_eq a (star q l.0)) other solved
+unsolved_adjoint q solved {a} back = none_passes (λ l. nat_eq (star q a) l.0) (λ l. nat_eq a l.0 || nat_eq a (star q l.0)) other solved
   where
     other : (l : Letter) → (nat_eq a l.0 || nat_eq a (star q l.0)) ≡ false → nat_eq (star q a) l.0 ≡ false
     other l none = false_from_ne_true (nat_eq (star q a) l.0) (λ same.
@@ -114,9 +114,9 @@ module _ (q : Quiver) (s : Shape) (solved : List Letter) (drawn : List ℕ) wher
       same row column = value_unsolved (entry_shown q a row column)
           (ap (is_solved_map solved) (map-entry_shown a row column) ∙ unsolved) values
 
-  matrix_entries : (a i j : ℕ) → i < side_in s (target q a) → j < side_in s (source q a)
+  matrix_entries : (a : ℕ) {i j : ℕ} → i < side_in s (target q a) → j < side_in s (source q a)
       → IsAffine s.modulus unknowns (λ values. entry_at (matrix_by q s (all_values values) a) i j)
-  matrix_entries a i j in_rows in_columns =
+  matrix_entries a {i} {j} in_rows in_columns =
       affine_equal s.modulus unknowns (λ values. entry_at (matrix_by q s (all_values values) a) i j) (value_in (entry_shown q a i j))
       (λ values. entry_at-matrix_of s.modulus (side_in s (target q a))
       (side_in s (source q a)) (λ row column. value_in (entry_shown q a row column) values) i j in_rows in_columns)
@@ -129,14 +129,13 @@ module _ (q : Quiver) (s : Shape) (solved : List Letter) (drawn : List ℕ) wher
 
     pub arrow_of_map : (values : List ℕ) (a : ℕ) → IsMap q a → arrow_at a values ≡ matrix_by q s (all_values values) a
     arrow_of_map values a is =
-        arrow_of-map q (model_at values) a is.map is.declared
-        ∙ ap (matrix_or_zero s.modulus) (map_at-model_by q s 0 (all_values values) a is)
+        arrow_of-map q (model_at values) a is.map is.declared ∙ ap (matrix_or_zero s.modulus) (map_at-model_by s 0 (all_values values) is)
 
     pub arrow_of_adjoint : (values : List ℕ) (a : ℕ) → q.objects ≤ a → star q a < a → IsMap q (star q a)
         → arrow_at a values ≡ transpose s.modulus (matrix_by q s (all_values values) (star q a))
     arrow_of_adjoint values a map below is =
         arrow_of-adjoint q (model_at values) a map below
-        ∙ ap (λ x. transpose s.modulus (matrix_or_zero s.modulus x)) (map_at-model_by q s 0 (all_values values) (star q a) is)
+        ∙ ap (λ x. transpose s.modulus (matrix_or_zero s.modulus x)) (map_at-model_by s 0 (all_values values) is)
 
     pub map_of : (a : ℕ) → q.objects ≤ a → a < letters q → star q a < a → IsMap q (star q a)
     map_of = adjoint_is_map q quiver (model_at []) (model_by_is_model q s quiver shape 0 (all_values []))
@@ -154,8 +153,7 @@ module _ (q : Quiver) (s : Shape) (solved : List Letter) (drawn : List ℕ) wher
         go (inr map) (inl below) =
             let is = map_of a map letter below in
             arrow_of_adjoint values a map below is
-            ∙ ap (transpose s.modulus) (matrix_unsolved (star q a)
-            (unsolved_adjoint q solved a (quiver.star_star a letter) unsolved) values)
+            ∙ ap (transpose s.modulus) (matrix_unsolved (star q a) (unsolved_adjoint q solved (quiver.star_star a letter) unsolved) values)
             ∙ sym (arrow_of_adjoint [] a map below is)
 
     -- each letter's matrix is affine
@@ -174,7 +172,7 @@ module _ (q : Quiver) (s : Shape) (solved : List Letter) (drawn : List ℕ) wher
             let is : IsMap q a = record { map = map; letter = letter; declared = declared } in
             affine_equal s.modulus unknowns (λ values. entry_at (arrow_at a values) i j)
             (λ values. entry_at (matrix_by q s (all_values values) a) i j)
-            (λ values. ap (λ y. entry_at y i j) (arrow_of_map values a is)) (matrix_entries a i j in_rows in_columns)
+            (λ values. ap (λ y. entry_at y i j) (arrow_of_map values a is)) (matrix_entries a in_rows in_columns)
         go (inr map) (inl below) =
             let b = star q a in
             let row_of_star : i < side_in s (source q b) = subst (λ v. i < side_in s v) (sym (quiver.star_source a letter)) in_rows in
@@ -185,7 +183,7 @@ module _ (q : Quiver) (s : Shape) (solved : List Letter) (drawn : List ℕ) wher
             let x = matrix_by q s (all_values values) b in
             ap (λ y. entry_at y i j) (arrow_of_adjoint values a map below (map_of a map letter below))
             ∙ entry_at-matrix_of s.modulus x.columns x.rows (λ row column. entry_at x column row) i j row_of_star column_of_star)
-            (matrix_entries b j i column_of_star row_of_star)
+            (matrix_entries b column_of_star row_of_star)
 
     -- for values of the solved entries
     module _ (count : length drawn ≡ length (entries_of q s)) (drawn_below : All (λ value. value < s.modulus) drawn) where

@@ -35,9 +35,9 @@ module _ (m n : ℕ) where
   }
 
   module _ (rows columns : ℕ) where
-    pub affine_matrix_sum : (f g : List ℕ → Matrix) → HasAffineEntries m n rows columns f → HasAffineEntries m n rows columns g
+    pub affine_matrix_sum : {f g : List ℕ → Matrix} → HasAffineEntries m n rows columns f → HasAffineEntries m n rows columns g
         → HasAffineEntries m n rows columns (λ values. matrix_sum m (f values) (g values))
-    affine_matrix_sum f g a b = record {
+    affine_matrix_sum {f} {g} a b = record {
       matrix = λ values one_each below.
           (matrices_laws m).add_is_arrow columns rows (f values) (g values) (a.matrix values one_each below)
           (b.matrix values one_each below);
@@ -53,9 +53,9 @@ module _ (m n : ℕ) where
           (b.entries i j in_rows in_columns)));
     }
 
-    pub affine_matrix_negative : (f : List ℕ → Matrix) → HasAffineEntries m n rows columns f
+    pub affine_matrix_negative : {f : List ℕ → Matrix} → HasAffineEntries m n rows columns f
         → HasAffineEntries m n rows columns (λ values. matrix_negative m (f values))
-    affine_matrix_negative f a = record {
+    affine_matrix_negative {f} a = record {
       matrix = λ values one_each below. (matrices_laws m).negate_is_arrow columns rows (f values) (a.matrix values one_each below);
       entries = λ i j in_rows in_columns.
           affine_alike m n (λ values. entry_at (matrix_negative m (f values)) i j) (λ values. (m - entry_at (f values) i j) % m)
@@ -72,9 +72,9 @@ module _ (m n : ℕ) where
     }
 
     -- multiples
-    no_multiple : (f : List ℕ → Matrix) → HasAffineEntries m n rows columns f
+    no_multiple : {f : List ℕ → Matrix} → HasAffineEntries m n rows columns f
         → HasAffineEntries m n rows columns (λ values. zero_matrix m (f values).rows (f values).columns)
-    no_multiple f a = record {
+    no_multiple {f} a = record {
       matrix = λ values one_each below.
           let is = a.matrix values one_each below in
           let laws = matrices_laws m in
@@ -89,17 +89,15 @@ module _ (m n : ℕ) where
           (affine_constant m n 0);
     }
 
-    affine_natural_multiple : (k : ℕ) (f : List ℕ → Matrix) → HasAffineEntries m n rows columns f
+    affine_natural_multiple : (k : ℕ) {f : List ℕ → Matrix} → HasAffineEntries m n rows columns f
         → HasAffineEntries m n rows columns (λ values. natural_multiple (matrices m) k (f values))
-    affine_natural_multiple zero f a = no_multiple f a
-    affine_natural_multiple (suc k) f a =
-        affine_matrix_sum f (λ values. natural_multiple (matrices m) k (f values)) a (affine_natural_multiple k f a)
+    affine_natural_multiple zero a = no_multiple a
+    affine_natural_multiple (suc k) a = affine_matrix_sum a (affine_natural_multiple k a)
 
-    pub affine_matrix_multiple : (k : ℤ) (f : List ℕ → Matrix) → HasAffineEntries m n rows columns f
+    pub affine_matrix_multiple : (k : ℤ) {f : List ℕ → Matrix} → HasAffineEntries m n rows columns f
         → HasAffineEntries m n rows columns (λ values. multiple (matrices m) k (f values))
-    affine_matrix_multiple (pos k) f a = affine_natural_multiple k f a
-    affine_matrix_multiple (negsuc k) f a =
-        affine_matrix_negative (λ values. natural_multiple (matrices m) (suc k) (f values)) (affine_natural_multiple (suc k) f a)
+    affine_matrix_multiple (pos k) a = affine_natural_multiple k a
+    affine_matrix_multiple (negsuc k) a = affine_matrix_negative (affine_natural_multiple (suc k) a)
 
   -- products
   module _ (rows middle columns : ℕ) (f g : List ℕ → Matrix) (a : HasAffineEntries m n rows middle f)
@@ -112,10 +110,9 @@ module _ (m n : ℕ) where
         (matrices_laws m).compose_is_arrow columns middle rows (f values) (g values) (a.matrix values one_each below)
         (b.matrix values one_each below)
 
-    entry_at-product_at : (i j : ℕ) → i < rows → j < columns
-        → ForValues m n
+    entry_at-product_at : {i j : ℕ} → i < rows → j < columns → ForValues m n
         (λ values. entry_at (product_at values) i j % m ≡ total middle (λ k. entry_at (f values) i k * entry_at (g values) k j) % m)
-    entry_at-product_at i j in_rows in_columns values one_each below =
+    entry_at-product_at {i} {j} in_rows in_columns values one_each below =
         let left = a.matrix values one_each below in
         let right = b.matrix values one_each below in
         let sum : ℕ → ℕ → ℕ → ℕ = λ count row column. total count (λ k. entry_at (f values) row k * entry_at (g values) k column) in
@@ -125,28 +122,26 @@ module _ (m n : ℕ) where
         ∙ ap (λ count. sum count i j % m) left.source
 
     -- with a matrix on the left that is the same for all values
-    pub affine_product_left : (x : Matrix) → ((values : List ℕ) → f values ≡ x) → HasAffineEntries m n rows columns product_at
-    affine_product_left x same = record {
+    pub affine_product_left : {x : Matrix} → ((values : List ℕ) → f values ≡ x) → HasAffineEntries m n rows columns product_at
+    affine_product_left {x} same = record {
       matrix = product_is_arrow;
       entries = λ i j in_rows in_columns.
           affine_alike m n (λ values. entry_at (product_at values) i j)
           (λ values. total middle (λ k. entry_at x i k * entry_at (g values) k j))
-          (λ values one_each below.
-          entry_at-product_at i j in_rows in_columns values one_each below
+          (λ values one_each below. entry_at-product_at in_rows in_columns values one_each below
           ∙ ap (λ y. total middle (λ k. entry_at y i k * entry_at (g values) k j) % m) (same values))
           (affine_total m n middle (λ k values. entry_at x i k * entry_at (g values) k j)
           (λ k inside. affine_multiple m n (entry_at x i k) (λ values. entry_at (g values) k j) (b.entries k j inside in_columns)));
     }
 
     -- and on the right
-    pub affine_product_right : (x : Matrix) → ((values : List ℕ) → g values ≡ x) → HasAffineEntries m n rows columns product_at
-    affine_product_right x same = record {
+    pub affine_product_right : {x : Matrix} → ((values : List ℕ) → g values ≡ x) → HasAffineEntries m n rows columns product_at
+    affine_product_right {x} same = record {
       matrix = product_is_arrow;
       entries = λ i j in_rows in_columns.
           affine_alike m n (λ values. entry_at (product_at values) i j)
           (λ values. total middle (λ k. entry_at (f values) i k * entry_at x k j))
-          (λ values one_each below.
-          entry_at-product_at i j in_rows in_columns values one_each below
+          (λ values one_each below. entry_at-product_at in_rows in_columns values one_each below
           ∙ ap (λ y. total middle (λ k. entry_at (f values) i k * entry_at y k j) % m) (same values))
           (affine_total m n middle (λ k values. entry_at (f values) i k * entry_at x k j)
           (λ k inside. affine_multiple_right m n (entry_at x k j) (λ values. entry_at (f values) i k) (a.entries i k in_rows inside)));

@@ -94,14 +94,12 @@ module _ (q : Quiver) (s : Shape) (solved : List Letter) (drawn : List ℕ) (qui
       go true is rest =
           let none : solved_count q solved (b ∷ w) ≡ 0 = omega (arith, count_with a (b ∷ w) is, few) in
           affine_product_right s.modulus (unknowns q s solved drawn) (side_in s v) (side_in s (source q a)) (side_in s u) (word_at a [])
-          (word_at b w)
-          (letter_is_affine u v a (b ∷ w) path) (rest (omega (arith, none))) (word_at b w [])
+          (word_at b w) (letter_is_affine u v a (b ∷ w) path) (rest (omega (arith, none)))
           (word_unsolved u (source q a) b w first.rest none)
       go false is rest =
           affine_product_left s.modulus (unknowns q s solved drawn) (side_in s v) (side_in s (source q a)) (side_in s u) (word_at a [])
           (word_at b w)
-          (letter_is_affine u v a (b ∷ w) path) (rest (omega (arith, count_without a (b ∷ w) is, few)))
-          (word_at a [] []) (arrow_unsolved q s solved drawn quiver shape a first.letter is)
+          (letter_is_affine u v a (b ∷ w) path) (rest (omega (arith, count_without a (b ∷ w) is, few))) (arrow_unsolved q s solved drawn quiver shape a first.letter is)
 
   -- polynomials
   module _ (u v : ℕ) (in_u : u < q.objects) (in_v : v < q.objects) where
@@ -137,8 +135,8 @@ module _ (q : Quiver) (s : Shape) (solved : List Letter) (drawn : List ℕ) (qui
 
     value_is_affine : (p : List (ℤ × List ℕ)) → HasFew q solved 1 p → AreAffine u v (value_of p)
     value_is_affine [] linear =
-        affine_zero s.modulus (unknowns q s solved drawn) (side_in s v) (side_in s u) (side_is_object q s quiver shape v in_v)
-        (side_is_object q s quiver shape u in_u)
+        affine_zero s.modulus (unknowns q s solved drawn) (side_in s v) (side_in s u) (side_is_object q s quiver shape in_v)
+        (side_is_object q s quiver shape in_u)
     value_is_affine (t ∷ p) linear = go (is_path q u v t.1) refl (value_is_affine p linear.1)
       where
         go : (b : Bool) → is_path q u v t.1 ≡ b → AreAffine u v (value_of p)
@@ -149,37 +147,35 @@ module _ (q : Quiver) (s : Shape) (solved : List Letter) (drawn : List ℕ) (qui
             let n = unknowns q s solved drawn in
             let rows = side_in s v in
             let columns = side_in s u in
-            affine_matrix_sum m n rows columns (multiple_of t) (value_of p)
-            (affine_matrix_multiple m n rows columns t.0 (value_of_word t.1) (path_is_affine t.1 path linear.0)) rest
+            affine_matrix_sum m n rows columns (affine_matrix_multiple m n rows columns t.0 (path_is_affine t.1 path linear.0)) rest
 
 -- The entries of the value are affine in the solved entries.
-pub values_are_affine : (q : Quiver) (s : Shape) (solved : List Letter) (drawn : List ℕ) → IsQuiver q → IsShape q.objects s
+pub values_are_affine : {q : Quiver} {s : Shape} (solved : List Letter) (drawn : List ℕ) → IsQuiver q → IsShape q.objects s
     → length drawn ≡ length (entries_of q s) → All (λ value. value < s.modulus) drawn
-    → (p : List (ℤ × List ℕ)) → HasFew q solved 1 p → (u v : ℕ) → u < q.objects → v < q.objects → (i j : ℕ) → i < side_in s v
+    → (p : List (ℤ × List ℕ)) → HasFew q solved 1 p → {u v : ℕ} → u < q.objects → v < q.objects → (i j : ℕ) → i < side_in s v
     → j < side_in s u
     → IsAffine s.modulus (set_count (solved_flags q s solved))
     (λ values. entry_at (value_at (matrices s.modulus) q (representation_of q
     (model_by q s 0 (filled (solved_flags q s solved) drawn values))) u v p) i j)
-values_are_affine q s solved drawn quiver shape count drawn_below p linear u v in_u in_v =
+values_are_affine {q} {s} solved drawn quiver shape count drawn_below p linear {u} {v} in_u in_v =
     (value_is_affine q s solved drawn quiver shape count drawn_below u v in_u in_v p linear).entries
 
 -- With values below the modulus it is a matrix modulo it from the side of u to that of v, whatever the words are.
-pub value_is_matrix : (q : Quiver) (s : Shape) (solved : List Letter) (drawn : List ℕ) → IsQuiver q → IsShape q.objects s
+pub value_is_matrix : {q : Quiver} {s : Shape} (solved : List Letter) (drawn : List ℕ) → IsQuiver q → IsShape q.objects s
     → length drawn ≡ length (entries_of q s) → All (λ value. value < s.modulus) drawn
-    → (p : List (ℤ × List ℕ)) (u v : ℕ) → u < q.objects → v < q.objects → (values : List ℕ) → All (λ value. value < s.modulus) values
+    → (p : List (ℤ × List ℕ)) {u v : ℕ} → u < q.objects → v < q.objects → (values : List ℕ) → All (λ value. value < s.modulus) values
     → IsArrow (matrices s.modulus) (side_in s u) (side_in s v)
     (value_at (matrices s.modulus) q (representation_of q (model_by q s 0 (filled (solved_flags q s solved) drawn values))) u v p)
-value_is_matrix q s solved drawn quiver shape count drawn_below p u v in_u in_v values below =
+value_is_matrix {q} {s} solved drawn quiver shape count drawn_below p {u} {v} in_u in_v values below =
     value_is_arrow (matrices_laws s.modulus) q (representation_of q (model_at q s solved drawn values))
     (represents_at q s solved drawn quiver shape count drawn_below values below) u v in_u in_v p
 
 -- and so its entries are below the modulus
-pub value_entry_below : (q : Quiver) (s : Shape) (solved : List Letter) (drawn : List ℕ) → IsQuiver q → IsShape q.objects s
+pub value_entry_below : {q : Quiver} {s : Shape} (solved : List Letter) (drawn : List ℕ) → IsQuiver q → IsShape q.objects s
     → length drawn ≡ length (entries_of q s) → All (λ value. value < s.modulus) drawn
-    → (p : List (ℤ × List ℕ)) (u v : ℕ) → u < q.objects → v < q.objects → (values : List ℕ) → All (λ value. value < s.modulus) values
-    → (i j : ℕ) → i < side_in s v → j < side_in s u
-    → entry_at (value_at (matrices s.modulus) q (representation_of q
+    → (p : List (ℤ × List ℕ)) {u v : ℕ} → u < q.objects → v < q.objects → (values : List ℕ) → All (λ value. value < s.modulus) values
+    → {i j : ℕ} → i < side_in s v → j < side_in s u → entry_at (value_at (matrices s.modulus) q (representation_of q
     (model_by q s 0 (filled (solved_flags q s solved) drawn values))) u v p) i j < s.modulus
-value_entry_below q s solved drawn quiver shape count drawn_below p u v in_u in_v values below i j in_rows in_columns =
-    let is = value_is_matrix q s solved drawn quiver shape count drawn_below p u v in_u in_v values below in
+value_entry_below {s} solved drawn quiver shape count drawn_below p in_u in_v values below {i} {j} in_rows in_columns =
+    let is = value_is_matrix solved drawn quiver shape count drawn_below p in_u in_v values below in
     entry_at_below s.modulus _ i j is.arrow (subst (λ n. i < n) (sym is.target) in_rows) (subst (λ n. j < n) (sym is.source) in_columns)

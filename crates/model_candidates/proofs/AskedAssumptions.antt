@@ -27,16 +27,16 @@ use Rattle.model_checker.proofs.Places.{all_at, zip_at}
 use Rattle.model_checker.proofs.Values.{zero_from_value}
 
 -- lists that are filtered
-pub filter_more : {X : Type 0} (keep : X → Bool) (xs : List X) (k : ℕ) (x : X) → slice_get xs k ≡ Some x
+pub filter_more : {X : Type 0} (keep : X → Bool) (xs : List X) (k : ℕ) {x : X} → slice_get xs k ≡ Some x
     → filter keep (take (k + 1) xs) ≡ filter keep (take k xs) ++ cond (keep x) (x ∷ []) []
-filter_more keep xs k x is =
+filter_more keep xs k {x} is =
     ap (filter keep) (take_more xs k x (slice_get_within xs k x is) ∙ ap (λ y. take k xs ++ y ∷ []) (get_or_from_slice_get xs k x x is))
     ∙ filter-append keep (take k xs) (x ∷ [])
 
-pub kept_more : (P : List (ℤ × List ℕ) → Type 0) (keep : Poly → Bool) (ps : List Poly) (k : ℕ) (p : Poly) → slice_get ps k ≡ Some p
+pub kept_more : (P : List (ℤ × List ℕ) → Type 0) (keep : Poly → Bool) (ps : List Poly) (k : ℕ) {p : Poly} → slice_get ps k ≡ Some p
     → AllByRecursion P (polynomials (filter keep (take k ps))) → (keep p ≡ true → P p.terms)
     → AllByRecursion P (polynomials (filter keep (take (k + 1) ps)))
-kept_more P keep ps k p is before here = subst (λ xs. AllByRecursion P (polynomials xs)) (sym (filter_more keep ps k p is))
+kept_more P keep ps k {p} is before here = subst (λ xs. AllByRecursion P (polynomials xs)) (sym (filter_more keep ps k is))
     (go (keep p) here)
   where
     go : (b : Bool) → (b ≡ true → P p.terms) → AllByRecursion P (polynomials (filter keep (take k ps) ++ cond b (p ∷ []) []))
@@ -48,9 +48,8 @@ kept_more P keep ps k p is before here = subst (λ xs. AllByRecursion P (polynom
         one false h = tt
 
 -- assumptions
-pub letters_within : (q : Quiver) (p : Poly) → HasSignature q p.terms → All (λ t. All (λ letter. letter < letters q) t.1) p.terms
-letters_within q p signed =
-    All-from_get_or (λ t. All (λ letter. letter < letters q) t.1) p.terms (pos 0, []) (λ k inside.
+pub letters_within : {q : Quiver} (p : Poly) → HasSignature q p.terms → All (λ t. All (λ letter. letter < letters q) t.1) p.terms
+letters_within {q} p signed = All-from_get_or (λ t. All (λ letter. letter < letters q) t.1) p.terms (pos 0, []) (λ k inside.
     let t = get_or p.terms k (pos 0, []) in
     let path : is_path q signed.source signed.target t.1 ≡ true = All-get_or (λ r. is_path q signed.source signed.target r.1 ≡ true)
     p.terms k (pos 0, []) inside (words_are_paths q signed.source signed.target p.terms p.canonical signed.typed) in
@@ -61,15 +60,14 @@ module _ (problem : Problem) where
   abbrev q : Quiver
   q = quiver_of problem.parts.quiver
 
-  pub signed_at : (k : ℕ) (p : Poly) → slice_get problem.parts.assumptions k ≡ Some p → HasSignature q p.terms
-  signed_at k p is =
-      all_at (HasSignature q) (polynomials problem.parts.assumptions) k p.terms
+  pub signed_at : (k : ℕ) {p : Poly} → slice_get problem.parts.assumptions k ≡ Some p → HasSignature q p.terms
+  signed_at k {p} is = all_at (HasSignature q) (polynomials problem.parts.assumptions) k p.terms
       (All-from_recursion (HasSignature q) (polynomials problem.parts.assumptions) (assumptions_have_signatures problem.parts problem.posed))
       (slice_get-map (λ (r : Poly). r.terms) problem.parts.assumptions k ∙ ap (option_map (λ (r : Poly). r.terms)) is)
 
-  pub terms_there : (k : ℕ) (p : Poly) → slice_get problem.parts.assumptions k ≡ Some p
+  pub terms_there : (k : ℕ) {p : Poly} → slice_get problem.parts.assumptions k ≡ Some p
       → get_or (polynomials problem.parts.assumptions) k [] ≡ p.terms
-  terms_there k p is = get_or_from_slice_get (polynomials problem.parts.assumptions) k p.terms []
+  terms_there k {p} is = get_or_from_slice_get (polynomials problem.parts.assumptions) k p.terms []
       (slice_get-map (λ (r : Poly). r.terms) problem.parts.assumptions k ∙ ap (option_map (λ (r : Poly). r.terms)) is)
 
   asked_few : (known : Bool) (p : List (ℤ × List ℕ)) → is_asked q problem.parts.solved known p ≡ true
@@ -78,11 +76,11 @@ module _ (problem : Problem) where
   asked_few false p is = (and_parts (has_few q problem.parts.solved 1 p) (not (has_few q problem.parts.solved 0 p)) is).0
 
   -- an assumption that is asked for, with its signature, is one of those
-  pub is_assumption : (known : Bool) (k : ℕ) (p : Poly) (sig : Sig) → slice_get problem.parts.assumptions k ≡ Some p
+  pub is_assumption : (known : Bool) (k : ℕ) {p : Poly} {sig : Sig} → slice_get problem.parts.assumptions k ≡ Some p
       → slice_get problem.parts.sigs k ≡ Some sig → is_asked q problem.parts.solved known p.terms ≡ true
       → IsAssumption problem (cond known 0 1) (record { place = k; sig = sig })
-  is_assumption known k p sig is at asked =
-      let terms = terms_there k p is in
+  is_assumption known k {p} {sig} is at asked =
+      let terms = terms_there k is in
       let ends = all_at (HasObjects problem.parts.quiver) problem.parts.sigs k sig problem.posed.assumption_ends at in
       record {
         place = slice_get_within problem.parts.assumptions k p is;
@@ -94,13 +92,13 @@ module _ (problem : Problem) where
       }
 
   -- zero at its signature, it is zero
-  pub zero_everywhere : (m : Model) (k : ℕ) (p : Poly) (sig : Sig) → slice_get problem.parts.assumptions k ≡ Some p
+  pub zero_everywhere : (m : Model) (k : ℕ) {p : Poly} {sig : Sig} → slice_get problem.parts.assumptions k ≡ Some p
       → slice_get problem.parts.sigs k ≡ Some sig
       → IsZeroAtSignature problem m (record { place = k; sig = sig }) → IsZeroIn problem m p.terms
-  zero_everywhere m k p sig is at vanishes =
+  zero_everywhere m k {p} {sig} is at vanishes =
       zero_from_value (matrices m.modulus) q (representation_of q m) p.terms p.canonical sig.source.0 sig.target.0
       (zip_at (IsTypedOf problem.parts.quiver) problem.parts.assumptions problem.parts.sigs k p sig problem.posed.assumptions_typed is at)
-      (subst (HasValueZeroAt (matrices m.modulus) q (representation_of q m) sig.source.0 sig.target.0) (terms_there k p is) vanishes)
+      (subst (HasValueZeroAt (matrices m.modulus) q (representation_of q m) sig.source.0 sig.target.0) (terms_there k is) vanishes)
 
   -- both kinds
   split : (P : List (ℤ × List ℕ) → Type 0) (ps : List Poly)
@@ -136,9 +134,9 @@ module _ (problem : Problem) where
       go false true known other later = (other.0, later known other.1)
       go false false known other later = later known other
 
-  pub both_asked : (conditions equations : List LinearAssumption) → AreAsked problem true conditions → AreAsked problem false equations
+  pub both_asked : {conditions equations : List LinearAssumption} → AreAsked problem true conditions → AreAsked problem false equations
       → AreLinearAssumptions problem conditions equations
-  both_asked conditions equations known other = record {
+  both_asked known other = record {
     each_condition = known.each;
     each = other.each;
     all = λ m holds zero. split (IsZeroIn problem m) problem.parts.assumptions (known.all m holds) (other.all m zero);

@@ -59,9 +59,9 @@ zero_entries m r c place = go (cases_lt place (r * c))
         get_or_past (zero_matrix m r c).entries place 0 (omega (arith, past, size))
 
 -- a matrix whose entries are zero
-is_zero_matrix : (m r c : ℕ) (x : Matrix) → IsObject m r → IsObject m c → IsMatrix m x → x.rows ≡ r → x.columns ≡ c → AreZero x.entries
+is_zero_matrix : {m r c : ℕ} {x : Matrix} → IsObject m r → IsObject m c → IsMatrix m x → x.rows ≡ r → x.columns ≡ c → AreZero x.entries
     → x ≡ zero_matrix m r c
-is_zero_matrix m r c x rows columns is is_rows is_columns none =
+is_zero_matrix {m} {r} {c} {x} rows columns is is_rows is_columns none =
     let positive : 0 < m = let least = rows.is_modulus.at_least in omega (arith, least) in
     same_matrix m x (zero_matrix m r c) is (matrix_of_is_matrix m r c (λ i j. 0) rows columns (λ i j h k. positive)) is_rows is_columns
     (λ i j h k.
@@ -113,14 +113,14 @@ module _ (problem : Problem) (s : Shape) (shape : IsShape (object_count problem.
     value values = value_in problem s (filled flags drawn values) g
 
     rows_object : IsObject s.modulus rows
-    rows_object = side_is_object q s quiver shape g.sig.target.0 is.target
+    rows_object = side_is_object q s quiver shape is.target
 
     pub columns_object : IsObject s.modulus columns
-    columns_object = side_is_object q s quiver shape g.sig.source.0 is.source
+    columns_object = side_is_object q s quiver shape is.source
 
     pub value_arrow : (values : List ℕ) → Below values → IsArrow (matrices s.modulus) columns rows (value values)
-    value_arrow values below = value_is_matrix q s problem.parts.solved drawn quiver shape count drawn_below
-        (terms_of problem g) g.sig.source.0 g.sig.target.0 is.source is.target values below
+    value_arrow values below = value_is_matrix problem.parts.solved drawn quiver shape count drawn_below
+        (terms_of problem g) is.source is.target values below
 
     pub value_length : (values : List ℕ) → Below values → length (value values).entries ≡ rows * columns
     value_length values below =
@@ -141,8 +141,8 @@ module _ (problem : Problem) (s : Shape) (shape : IsShape (object_count problem.
         affine_alike s.modulus (set_count flags) (λ values. get_or (value values).entries place 0)
         (λ values. entry_at (value values) (place / columns) (place % columns))
         (λ values one_each below. ap (λ x. x % s.modulus) (entry_is values below place))
-        (values_are_affine q s problem.parts.solved drawn quiver shape count drawn_below (terms_of problem g)
-        (few_words q problem.parts.solved 1 (terms_of problem g) is.few) g.sig.source.0 g.sig.target.0
+        (values_are_affine problem.parts.solved drawn quiver shape count drawn_below (terms_of problem g)
+        (few_words q problem.parts.solved 1 (terms_of problem g) is.few)
         is.source is.target (place / columns) (place % columns) ((div-lt_iff_lt-mul columns_object.is_side.positive).1 inside)
         (mod-lt place columns_object.is_side.positive))
 
@@ -152,7 +152,7 @@ module _ (problem : Problem) (s : Shape) (shape : IsShape (object_count problem.
     zero_value : (values : List ℕ) → Below values → AreZero (value values).entries → IsZeroAtSignature problem (model_for values) g
     zero_value values below none =
         let x = value_arrow values below in
-        is_zero_matrix s.modulus rows columns (value values) rows_object columns_object x.arrow x.target x.source none
+        is_zero_matrix rows_object columns_object x.arrow x.target x.source none
 
   -- all assumptions
   abbrev pub entries : List LinearAssumption → List ℕ → List ℕ

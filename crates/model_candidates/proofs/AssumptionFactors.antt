@@ -75,6 +75,5 @@ module _ (problem : Problem) (s : Shape) (shape : IsShape (object_count problem.
         ∙ factor_is_sum q s problem.parts.solved drawn is_quiver shape count drawn_below declared g.sig.source.0 g.sig.target.0 is.source is.target
         (place / columns) (place % columns) in_rows in_columns unknown (terms_of problem g)
         (few_words q problem.parts.solved 1 (terms_of problem g) is.few)
-        (value_entry_below q s problem.parts.solved drawn is_quiver shape count drawn_below (terms_of problem g) g.sig.source.0 g.sig.target.0
-        is.source is.target (unit_values (set_count flags) (set_count flags)) (below (set_count flags)) (place / columns) (place % columns)
-        in_rows in_columns)
+        (value_entry_below problem.parts.solved drawn is_quiver shape count drawn_below (terms_of problem g)
+        is.source is.target (unit_values (set_count flags) (set_count flags)) (below (set_count flags)) in_rows in_columns)

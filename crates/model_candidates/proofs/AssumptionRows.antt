@@ -84,9 +84,9 @@ terms_canonical [] place inside = absurd (omega (arith, inside))
 terms_canonical (p ∷ ps) zero inside = p.canonical
 terms_canonical (p ∷ ps) (suc place) inside = terms_canonical ps place (omega (arith, inside))
 
-pub assumption_paths : (problem : Problem) (g : LinearAssumption) → IsAssumption problem 1 g
+pub assumption_paths : {problem : Problem} {g : LinearAssumption} → IsAssumption problem 1 g
     → AllByRecursion (λ t. is_path (quiver_of problem.parts.quiver) g.sig.source.0 g.sig.target.0 t.1 ≡ true) (terms_of problem g)
-assumption_paths problem g is =
+assumption_paths {problem} {g} is =
     let q = quiver_of problem.parts.quiver in
     recursion_from_All (λ t. is_path q g.sig.source.0 g.sig.target.0 t.1 ≡ true) (terms_of problem g)
     (words_are_paths q g.sig.source.0 g.sig.target.0 (terms_of problem g) (terms_canonical problem.parts.assumptions g.place is.place) is.typed)
@@ -133,7 +133,7 @@ module _ (problem : Problem) (s : Shape) (shape : IsShape (object_count problem.
         let ends = value_arrow problem s shape drawn count drawn_below g is (unit_values n n) (below n) in
         let columns_is : columns ≡ value.columns = sym ends.source in
         let modulus_is : s.modulus ≡ value.modulus = sym ends.arrow.modulus_is in
-        let paths = assumption_paths problem g is in
+        let paths = assumption_paths is in
         let factor : ℕ → ℕ = λ k. terms_factor terms (place / columns) (place % columns) k in
         let each : (k : ℕ) → 0 ≤ k → k < 0 + n → factor_by s.modulus (entries g n) place (entries g k) ≡ factor k % s.modulus = λ k least less.
         factor_is problem s shape drawn count drawn_below g is k place inside
@@ -168,10 +168,10 @@ module _ (problem : Problem) (s : Shape) (shape : IsShape (object_count problem.
       ∙ sym (value_length problem s shape drawn count drawn_below g are.0 (unit_values n n) (below n)))
       ∙ ap₂ ◌++◌ (one_rows g are.0) (all_rows gs are.1)
 
-  pub system_is : (gs : List LinearAssumption) → AllByRecursion (IsAssumption problem 1) gs → (equations : List LinearRow)
+  pub system_is : (gs : List LinearAssumption) → AllByRecursion (IsAssumption problem 1) gs → {equations : List LinearRow}
       → equations ≡ flat_map (equations_of problem s zero_model) gs
       → record { modulus = s.modulus; unknowns = n; rows = equations } ≡ system_for problem s flags gs drawn
-  system_is gs are equations is =
+  system_is gs are is =
       let unknowns_are = sym (length-map-range_with_len (entries_at problem s flags gs drawn) 0 n) in
       let rows_are = is ∙ sym (all_rows gs are) in
       λ i. record { modulus = s.modulus; unknowns = unknowns_are i; rows = rows_are i }

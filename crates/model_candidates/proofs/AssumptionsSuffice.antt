@@ -187,11 +187,9 @@ module _ (problem : Problem) (m : Model) where
         go false other rest later = (λ linear. absurd (true≢false (sym (poly_linear q' posed maps p linear) ∙ other)), later rest)
 
     of_adjoint : (p : List (ℤ × List ℕ)) → IsZeroIfLinear p → AllByRecursion IsZeroIfLinear (new_adjoint q' p)
-    of_adjoint p zero = go (poly_eq (adjoint_poly q' p) p || poly_eq (adjoint_poly q' p) (poly_multiple (negsuc 0) p)) all
+    of_adjoint p zero = go (poly_eq (adjoint_poly q' p) p || poly_eq (adjoint_poly q' p) (poly_multiple (negsuc 0) p))
+        (λ linear. (sound.generators q' true [] (p ∷ []) posed tt f rep (zero (linear_from_adjoint q' posed maps p linear), tt)).1)
       where
-        all : IsLinear q' posed maps (adjoint_poly q' p) → AllByRecursion IsZero ((new_adjoint q' p ++ []) ++ [])
-        all linear = (sound.generators q' true [] (p ∷ []) posed tt f rep (zero (linear_from_adjoint q' posed maps p linear), tt)).1
-
         go : (b : Bool) → (IsLinear q' posed maps (adjoint_poly q' p) → AllByRecursion IsZero ((cond b [] (adjoint_poly q' p ∷ []) ++ []) ++ []))
             → AllByRecursion IsZeroIfLinear (cond b [] (adjoint_poly q' p ∷ []))
         go true zero = tt
@@ -225,8 +223,8 @@ module _ (problem : Problem) (m : Model) where
         adjoints true = of_adjoints ps zero
         adjoints false = tt
 
-    same_zero : (r p : List (ℤ × List ℕ)) → SamePolynomial r p → IsZero p → IsZero r
-    same_zero r p same zero = (zero_along (matrices_laws m.modulus) q' f rep.represents (r ∷ []) (p ∷ []) (same, tt) (zero, tt)).0
+    same_zero : {r p : List (ℤ × List ℕ)} → SamePolynomial r p → IsZero p → IsZero r
+    same_zero {r} {p} same zero = (zero_along (matrices_laws m.modulus) q' f rep.represents (r ∷ []) (p ∷ []) (same, tt) (zero, tt)).0
 
     back : (gs : List Poly) (ps : List (List (ℤ × List ℕ))) → AllZip SamePolynomial (polynomials gs) ps → AllByRecursion IsZeroIfLinear ps
         → AllByRecursion IsZero (polynomials (filter keep gs))
@@ -238,7 +236,7 @@ module _ (problem : Problem) (m : Model) where
         go : (b : Bool) → keep g ≡ b → AllByRecursion IsZero (polynomials (filter keep gs))
             → AllByRecursion IsZero (polynomials (cond b (g ∷ filter keep gs) (filter keep gs)))
         go true kept rest =
-            (same_zero g.terms p same.0 (zero.0 (linear_same q' posed maps g.terms p same.0 (linear_poly q' posed maps g kept))), rest)
+            (same_zero same.0 (zero.0 (linear_same q' posed maps g.terms p same.0 (linear_poly q' posed maps g kept))), rest)
         go false other rest = rest
 
     pub linear_generators_are_zero : AllByRecursion IsZero (linear_assumptions problem) → AllByRecursion IsZero (polynomials (linear_generators problem))

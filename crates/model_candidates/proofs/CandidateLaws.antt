@@ -29,10 +29,9 @@ use Rattle.model_candidates.proofs.FiniteSearch.{Begins, IsGreedyList, greedy_or
 use Rattle.model_candidates.proofs.SystemSolutions.{can_take_own}
 
 -- at most one
-pub greedy_is_unique : (problem : Problem) (s : Shape) (drawn values others : List ℕ) → IsGreedy problem s drawn values
+pub greedy_is_unique : {problem : Problem} {s : Shape} {drawn values others : List ℕ} → IsGreedy problem s drawn values
     → IsGreedy problem s drawn others → values ≡ others
-greedy_is_unique problem s drawn values others first second =
-    sym (take_all (length values) values (omega arith))
+greedy_is_unique {problem} {s} {drawn} {values} {others} first second = sym (take_all (length values) values (omega arith))
     ∙ same_fronts values others (length values) (omega arith) (omega (arith, same_length)) one_place
     ∙ take_all (length values) others (omega (arith, same_length))
   where
@@ -47,7 +46,7 @@ greedy_is_unique problem s drawn values others first second =
     shared values others first second place within within_others same chosen =
         chosen ∙ sym (second.drawn_where_it_can place within_others
         (subst (λ x. CanBegin problem s drawn (x ++ get_or drawn place 0 ∷ [])) same
-        (subst (CanTake problem s drawn values place) chosen (can_take_own problem s drawn values place within first.solution))))
+        (subst (CanTake problem s drawn values place) chosen (can_take_own within first.solution))))
 
     one_place : (place : ℕ) → place < length values → take place values ≡ take place others → get_or values place 0 ≡ get_or others place 0
     one_place place within same = go (cases_eq (get_or values place 0) (get_or drawn place 0))
@@ -64,11 +63,10 @@ greedy_is_unique problem s drawn values others first second =
         go (inr not_chosen) (inr not_chosen_either) =
             let up = first.else_least place (get_or others place 0) within (λ can. not_chosen (first.drawn_where_it_can place within can))
             (subst (λ x. CanBegin problem s drawn (x ++ get_or others place 0 ∷ [])) (sym same)
-            (can_take_own problem s drawn others place within_others second.solution)) in
+            (can_take_own within_others second.solution)) in
             let down = second.else_least place (get_or values place 0) within_others
             (λ can. not_chosen_either (second.drawn_where_it_can place within_others can))
-            (subst (λ x. CanBegin problem s drawn (x ++ get_or values place 0 ∷ [])) same
-            (can_take_own problem s drawn values place within first.solution)) in
+            (subst (λ x. CanBegin problem s drawn (x ++ get_or values place 0 ∷ [])) same (can_take_own within first.solution)) in
             omega (arith, up, down)
 
 not_both : (b : Bool) → b ≡ true → not b ≡ true → ⊥
@@ -92,8 +90,7 @@ candidate_is_unique problem number s seed k one other first second = go first se
     go (IsCandidate.numbered all is) (IsCandidate.unsolvable other_way none is_other) = absurd (not_both exhaustive all other_way)
     go (IsCandidate.drawn one_way values greedy is) (IsCandidate.numbered all is_other) = absurd (not_both exhaustive all one_way)
     go (IsCandidate.drawn one_way values greedy is) (IsCandidate.drawn other_way others greedy_other is_other) =
-        is ∙ ap (λ x. Some (model_by q s 0 x)) (greedy_is_unique problem s (draws q s number seed k) values others greedy greedy_other)
-        ∙ sym is_other
+        is ∙ ap (λ x. Some (model_by q s 0 x)) (greedy_is_unique greedy greedy_other) ∙ sym is_other
     go (IsCandidate.drawn one_way values greedy is) (IsCandidate.unsolvable other_way none is_other) = absurd (none values greedy.solution)
     go (IsCandidate.unsolvable one_way none is) (IsCandidate.numbered all is_other) = absurd (not_both exhaustive all one_way)
     go (IsCandidate.unsolvable one_way none is) (IsCandidate.drawn other_way values greedy is_other) = absurd (none values greedy.solution)
@@ -175,8 +172,8 @@ module _ (problem : Problem) (s : Shape) (drawn : List ℕ) where
   BeginsSolution front = Begins entry_number s.modulus (IsSolution problem s drawn) solution_decided (λ xs solution. solution.one_each)
       (λ xs solution. solution.below) front
 
-  can_begin : (front : List ℕ) → CanBegin problem s drawn front → BeginsSolution front
-  can_begin front can = record { rest = can.rest; passes = can.solution }
+  can_begin : {front : List ℕ} → CanBegin problem s drawn front → BeginsSolution front
+  can_begin can = record { rest = can.rest; passes = can.solution }
 
   begins_so : (front : List ℕ) → BeginsSolution front → CanBegin problem s drawn front
   begins_so front begins = record { rest = begins.rest; solution = begins.passes }
@@ -196,12 +193,10 @@ module _ (problem : Problem) (s : Shape) (drawn : List ℕ) where
         record {
           solution = found.1.passes;
           drawn_where_it_can = λ place inside can.
-              (found.1.chosen place (subst (λ n. place < n) found.1.passes.one_each inside)).preferred_if
-              (can_begin (take place found.0 ++ get_or drawn place 0 ∷ []) can);
+              (found.1.chosen place (subst (λ n. place < n) found.1.passes.one_each inside)).preferred_if (can_begin can);
           else_least = λ place value inside cannot can.
               (found.1.chosen place (subst (λ n. place < n) found.1.passes.one_each inside)).least_else value
-              (λ begins. cannot (begins_so (take place found.0 ++ get_or drawn place 0 ∷ []) begins))
-              (can_begin (take place found.0 ++ value ∷ []) can);
+              (λ begins. cannot (begins_so (take place found.0 ++ get_or drawn place 0 ∷ []) begins)) (can_begin can);
         },
       )
 

@@ -38,13 +38,13 @@ shown_either_way q a i j self = go (cases_order i j)
   where
     go : (i ≡ j) ⊎ ((i < j) ⊎ (j < i)) → entry_shown q a j i ≡ entry_shown q a i j
     go (inl same) = ap₂ (entry_shown q a) (sym same) same
-    go (inr (inl less)) = shown_mirrored q a j i self less ∙ sym (shown_behind q a i j (omega (arith, less)))
-    go (inr (inr less)) = shown_behind q a j i (omega (arith, less)) ∙ sym (shown_mirrored q a i j self less)
+    go (inr (inl less)) = shown_mirrored q a self less ∙ sym (shown_behind q a i j (omega (arith, less)))
+    go (inr (inr less)) = shown_behind q a j i (omega (arith, less)) ∙ sym (shown_mirrored q a self less)
 
 -- a declared map has the matrix of its entries, whatever the values are
-pub map_at-model_by : (q : Quiver) (s : Shape) (claim : ℕ) (values : List ℕ) (a : ℕ) → IsMap q a
+pub map_at-model_by : {q : Quiver} (s : Shape) (claim : ℕ) (values : List ℕ) {a : ℕ} → IsMap q a
     → map_at (model_by q s claim values) a ≡ Some (matrix_by q s values a)
-map_at-model_by q s claim values a is =
+map_at-model_by {q} s claim values {a} is =
     let declared : is_declared_map q a ≡ true = ap₂ ◌&&◌ (le-leb q.objects a is.map) (le-leb a (star q a) is.declared) in
     get_or-map-range_with_len (place_by q s values) 0 (letters q) a a None is.letter (omega arith)
     ∙ ap (λ b. cond b (Some (matrix_by q s values a)) None) declared
@@ -58,8 +58,8 @@ module _ (q : Quiver) (s : Shape) (quiver : IsQuiver q) (shape : IsShape q.objec
       All-weaker problem.IsSide IsSide (λ side is. record { positive = is.least; at_most = let most = is.most in omega arith })
       s.sides shape.sides
 
-  pub side_is_object : (v : ℕ) → v < q.objects → IsObject s.modulus (side_in s v)
-  side_is_object v inside = record {
+  pub side_is_object : {v : ℕ} → v < q.objects → IsObject s.modulus (side_in s v)
+  side_is_object {v} inside = record {
     is_modulus = modulus_of_shape;
     is_side = All-get_or IsSide s.sides v 1 (subst (λ n. v < n) (sym shape.side_of_each) inside) each_side;
   }
@@ -83,19 +83,18 @@ module _ (q : Quiver) (s : Shape) (quiver : IsQuiver q) (shape : IsShape q.objec
             let inside : place < length (entries_of q s) = (position-Some (is_same_entry x) (entries_of q s) place (entry 0 0 0) is).0 in
             All-get_or (λ value. value < s.modulus) values place 0 (subst (λ n. place < n) (sym one_each) inside) below
 
-    matrix_by_is_matrix : (a : ℕ) → a < letters q → IsMatrix s.modulus (matrix_by q s values a)
-    matrix_by_is_matrix a letter =
-        matrix_of_is_matrix s.modulus (side_in s (target q a))
+    matrix_by_is_matrix : {a : ℕ} → a < letters q → IsMatrix s.modulus (matrix_by q s values a)
+    matrix_by_is_matrix {a} letter = matrix_of_is_matrix s.modulus (side_in s (target q a))
         (side_in s (source q a)) (λ row column. value_of_entry q s values (entry_shown q a row column))
-        (side_is_object (target q a) (quiver.target_is_object a letter)) (side_is_object (source q a) (quiver.source_is_object a letter))
+        (side_is_object (quiver.target_is_object a letter)) (side_is_object (quiver.source_is_object a letter))
         (λ i j in_rows in_columns. value_below (entry_shown q a i j))
 
-    matrix_by_is_symmetric : (a : ℕ) → a < letters q → star q a ≡ a → transpose s.modulus (matrix_by q s values a) ≡ matrix_by q s values a
-    matrix_by_is_symmetric a letter self =
+    matrix_by_is_symmetric : {a : ℕ} → a < letters q → star q a ≡ a → transpose s.modulus (matrix_by q s values a) ≡ matrix_by q s values a
+    matrix_by_is_symmetric {a} letter self =
         let m = s.modulus in
         let x = matrix_by q s values a in
         let value : ℕ → ℕ → ℕ = λ row column. value_of_entry q s values (entry_shown q a row column) in
-        let is = matrix_by_is_matrix a letter in
+        let is = matrix_by_is_matrix letter in
         let square : x.columns ≡ x.rows = ap (side_in s) (ap (source q) (sym self) ∙ quiver.star_source a letter) in
         same_matrix m (transpose m x) x ((transpose_laws m).star_is_arrow x.columns x.rows x
         (record { arrow = is; source = refl; target = refl })).arrow is square (sym square)
@@ -110,8 +109,8 @@ module _ (q : Quiver) (s : Shape) (quiver : IsQuiver q) (shape : IsShape q.objec
     model_by_has_matrices claim = record {
       each = λ a letter is. record {
         matrix = matrix_by q s values a;
-        there = map_at-model_by q s claim values a is;
-        ends = record { matrix = matrix_by_is_matrix a letter; rows = refl; columns = refl };
-        self_transposed = record { same = matrix_by_is_symmetric a letter };
+        there = map_at-model_by s claim values is;
+        ends = record { matrix = matrix_by_is_matrix letter; rows = refl; columns = refl };
+        self_transposed = record { same = matrix_by_is_symmetric letter };
       };
     }

@@ -160,6 +160,6 @@ module _ (q : Quiver) (s : Shape) where
       misses_map x j (λ e. omega (arith, e, map, less))))
 
   -- the first place of the entry at a place is this place
-  pub place_of_own : (place : ℕ) → place < length (entries_of q s)
+  pub place_of_own : {place : ℕ} → place < length (entries_of q s)
       → position (is_same_entry (get_or (entries_of q s) place (entry 0 0 0))) (entries_of q s) ≡ Some place
-  place_of_own place inside = found (is_same_entry (get_or (entries_of q s) place no_entry)) (entries_of q s) place (all_first place inside)
+  place_of_own {place} inside = found (is_same_entry (get_or (entries_of q s) place no_entry)) (entries_of q s) place (all_first place inside)

@@ -31,19 +31,19 @@ module _ (q : Quiver) (s : Shape) (maps : List Letter) where
   pub flag_of_each : length flags ≡ length (entries_of q s)
   flag_of_each = length-map (entries_of q s) (λ x. is_solved_map maps x.map)
 
-  flag_at : (place : ℕ) → place < length flags → get_or flags place false ≡ is_solved_map maps
+  flag_at : {place : ℕ} → place < length flags → get_or flags place false ≡ is_solved_map maps
       (get_or (entries_of q s) place (entry 0 0 0)).map
-  flag_at place inside = get_or-map (λ x. is_solved_map maps x.map) (entries_of q s) place (entry 0 0 0) false
+  flag_at {place} inside = get_or-map (λ x. is_solved_map maps x.map) (entries_of q s) place (entry 0 0 0) false
       (subst (λ n. place < n) flag_of_each inside)
 
   pub drawn_by_flags : (drawn values : List ℕ) → DrawnAtEntries drawn values → IsAsDrawn flags drawn values
   drawn_by_flags drawn values drawn_at place inside unset =
-      drawn_at place (get_or (entries_of q s) place (entry 0 0 0)) (place_of_own q s place (subst (λ n. place < n) flag_of_each inside))
-      (ap not (sym (flag_at place inside) ∙ unset))
+      drawn_at place (get_or (entries_of q s) place (entry 0 0 0)) (place_of_own q s (subst (λ n. place < n) flag_of_each inside))
+      (ap not (sym (flag_at inside) ∙ unset))
 
   pub drawn_by_entries : (drawn values : List ℕ) → IsAsDrawn flags drawn values → DrawnAtEntries drawn values
   drawn_by_entries drawn values as_drawn place x there unsolved =
       let found = position-Some (is_same_entry x) (entries_of q s) place (entry 0 0 0) there in
       let inside : place < length flags = subst (λ n. place < n) (sym flag_of_each) found.0 in
       let map_is = same_entry x (get_or (entries_of q s) place (entry 0 0 0)) found.1 in
-      as_drawn place inside (flag_at place inside ∙ ap (is_solved_map maps) (sym map_is) ∙ not_set (is_solved_map maps x.map) unsolved)
+      as_drawn place inside (flag_at inside ∙ ap (is_solved_map maps) (sym map_is) ∙ not_set (is_solved_map maps x.map) unsolved)

@@ -36,27 +36,26 @@ same_lengths f c from (suc n) each =
 pub other_count : (a rows columns : ℕ) → length (entries_by a false rows columns) ≡ rows * columns
 other_count a rows columns = same_lengths _ columns 0 rows (λ row. length-map _ _ ∙ ap length (filter_all (range_with_len 0 columns)) ∙ length-range_with_len 0 columns)
 
-pub self_map_count : (q : Quiver) (s : Shape) (a side : ℕ) → IsQuiver q → a < letters q → star q a ≡ a → side ≡ side_in s (target q a) → side ≤ 6
+pub self_map_count : {q : Quiver} (s : Shape) {a side : ℕ} → IsQuiver q → a < letters q → star q a ≡ a → side ≡ side_in s (target q a) → side ≤ 6
     → side * (side + 1) / 2 ≡ length (map_entries q s a)
-self_map_count q s a side is letter self rows small =
+self_map_count {q} s {a} {side} is letter self rows small =
     let ends : source q a ≡ target q a = ap (source q) (sym self) ∙ is.star_source a letter in
     sym (self_count a side small)
     ∙ ap (λ n. length (entries_by a true n n)) rows
     ∙ ap (λ n. length (entries_by a true (side_in s (target q a)) (side_in s n))) (sym ends)
     ∙ ap (λ b. length (entries_by a b (side_in s (target q a)) (side_in s (source q a)))) (sym (eq-eqb (star q a) a self))
 
-pub other_map_count : (q : Quiver) (s : Shape) (a rows columns : ℕ) → (star q a ≡ a → ⊥) → rows ≡ side_in s (target q a) → columns ≡ side_in s (source q a)
+pub other_map_count : (q : Quiver) (s : Shape) (a : ℕ) {rows columns : ℕ} → (star q a ≡ a → ⊥) → rows ≡ side_in s (target q a) → columns ≡ side_in s (source q a)
     → rows * columns ≡ length (map_entries q s a)
-other_map_count q s a rows columns other is_rows is_columns =
-    ap₂ ◌*◌ is_rows is_columns
+other_map_count q s a other is_rows is_columns = ap₂ ◌*◌ is_rows is_columns
     ∙ sym (other_count a (side_in s (target q a)) (side_in s (source q a)))
     ∙ ap (λ b. length (entries_by a b (side_in s (target q a)) (side_in s (source q a)))) (sym (ne_eqb (star q a) a other))
 
 pub few : (rows columns : ℕ) → rows ≤ 6 → columns ≤ 6 → rows * columns ≤ 36
 few rows columns h k = grind arith
 
-pub few_self : (side : ℕ) → side ≤ 6 → side * (side + 1) ≤ 42
-few_self side h = let square = few side side h h in grind arith
+pub few_self : {side : ℕ} → side ≤ 6 → side * (side + 1) ≤ 42
+few_self {side} h = let square = few side side h h in grind arith
 
 map_same : (xs : List ℕ) → map (λ x. x) xs ≡ xs
 map_same [] = refl

@@ -52,29 +52,29 @@ module _ {X : Type 0} (p : X → Bool) where
           record { inside = let within = later.inside in omega arith; first = place_cons x (xs ++ ys) fails ∙ ap suc later.first ∙ sum }
 
   -- in the pieces of a range
-  in_pieces : (g : ℕ → List X) (from n k i : ℕ) → k < n → ((j : ℕ) → j < k → Misses (g (from + j))) → FirstAt p (g (from + k)) i
+  in_pieces : (g : ℕ → List X) (from n k : ℕ) {i : ℕ} → k < n → ((j : ℕ) → j < k → Misses (g (from + j))) → FirstAt p (g (from + k)) i
       → FirstAt p (flat_map g (range_with_len from n)) (length (flat_map g (range_with_len from k)) + i)
-  in_pieces g from zero k i below none at = absurd (omega arith)
-  in_pieces g from (suc n) zero i below none at =
+  in_pieces g from zero k below none at = absurd (omega arith)
+  in_pieces g from (suc n) zero {i} below none at =
       let same : from + 0 ≡ from = omega arith in
       let none_before : i ≡ 0 + i = omega arith in
       subst (FirstAt p (g from ++ flat_map g (range_with_len (from + 1) n))) none_before (hit (g from) (flat_map g (range_with_len (from + 1) n)) i (subst (λ z. FirstAt p (g z) i) same at))
-  in_pieces g from (suc n) (suc k) i below none at =
+  in_pieces g from (suc n) (suc k) {i} below none at =
       let same : from + 0 ≡ from = omega arith in
       let there : from + suc k ≡ from + 1 + k = omega arith in
       let missed : Misses (g from) = subst (λ z. Misses (g z)) same (none 0 (omega arith)) in
-      let later = in_pieces g (from + 1) n k i (omega arith)
+      let later = in_pieces g (from + 1) n k (omega arith)
       (λ j less. let shift : from + suc j ≡ from + 1 + j = omega arith in subst (λ z. Misses (g z)) shift (none (suc j) (omega arith)))
       (subst (λ z. FirstAt p (g z) i) there at) in
       let sum : length (g from) + (length (flat_map g (range_with_len (from + 1) k)) + i) ≡ length (g from ++ flat_map g (range_with_len (from + 1) k)) + i =
       omega (arith, length-append (g from) (flat_map g (range_with_len (from + 1) k))) in
       subst (FirstAt p (g from ++ flat_map g (range_with_len (from + 1) n))) sum (miss (g from) (flat_map g (range_with_len (from + 1) n)) _ missed later)
 
-  pub in_range : (g : ℕ → List X) (n k i : ℕ) → k < n → ((j : ℕ) → j < k → Misses (g j)) → FirstAt p (g k) i
+  pub in_range : (g : ℕ → List X) {n k i : ℕ} → k < n → ((j : ℕ) → j < k → Misses (g j)) → FirstAt p (g k) i
       → FirstAt p (flat_map g (range_with_len 0 n)) (length (flat_map g (range_with_len 0 k)) + i)
-  in_range g n k i below none at =
+  in_range g {n} {k} {i} below none at =
       let start : (j : ℕ) → j ≡ 0 + j = λ j. omega arith in
-      in_pieces g 0 n k i below (λ j less. subst (λ z. Misses (g z)) (start j) (none j less)) (subst (λ z. FirstAt p (g z) i) (start k) at)
+      in_pieces g 0 n k below (λ j less. subst (λ z. Misses (g z)) (start j) (none j less)) (subst (λ z. FirstAt p (g z) i) (start k) at)
 
   pub misses_all : (g : ℕ → List X) → ((j : ℕ) → Misses (g j)) → (js : List ℕ) → Misses (flat_map g js)
   misses_all g none [] = refl
@@ -127,15 +127,15 @@ piece_misses p a row column self fails = go (is_kept self row column)
     go true = ap (λ b. b || false) fails
     go false = refl
 
-first_within : (a : ℕ) (self : Bool) (rows columns row column : ℕ) → row < rows → column < columns → is_kept self row column ≡ true
+first_within : (a : ℕ) (self : Bool) {rows columns row column : ℕ} → row < rows → column < columns → is_kept self row column ≡ true
     → FirstAt (is_same_entry (entry a row column)) (pieces a self columns rows) (place_within a self columns row column)
-first_within a self rows columns row column in_rows in_columns kept =
+first_within a self {columns} {row} {column} in_rows in_columns kept =
     let p = is_same_entry (entry a row column) in
     let itself : FirstAt p (entry a row column ∷ []) 0 = record { inside = omega arith; first = place_here p (entry a row column) [] (own_entry a row column) } in
     let here : FirstAt p (piece a self row column) 0 = subst (λ b. FirstAt p (cond b (entry a row column ∷ []) []) 0) (sym kept) itself in
-    let in_row = in_range p (piece a self row) columns column 0 in_columns (λ j less. piece_misses p a row j self (other_column a row column a row j (λ e. omega arith))) here in
+    let in_row = in_range p (piece a self row) in_columns (λ j less. piece_misses p a row j self (other_column a row column a row j (λ e. omega arith))) here in
     let nothing : length (row_pieces a self column row) + 0 ≡ length (row_pieces a self column row) = omega arith in
-    in_range p (row_pieces a self columns) rows row _ in_rows
+    in_range p (row_pieces a self columns) in_rows
     (λ r less. misses_all p (piece a self r) (λ j. piece_misses p a r j self (other_row a row column a r j (λ e. omega arith))) (range_with_len 0 columns))
     (subst (FirstAt p (row_pieces a self columns row)) nothing in_row)
 
@@ -163,30 +163,30 @@ module _ (q : Quiver) (s : Shape) where
       go true = map_misses a row column b other
       go false = refl
 
-  pub place_of_entry : (a row column : ℕ) → a < letters q → is_declared_map q a ≡ true → row < side_in s (target q a) → column < side_in s (source q a) → is_kept (is_self q a) row column ≡ true
+  pub place_of_entry : {a row column : ℕ} → a < letters q → is_declared_map q a ≡ true → row < side_in s (target q a) → column < side_in s (source q a) → is_kept (is_self q a) row column ≡ true
       → position (is_same_entry (entry a row column)) (entries_of q s) ≡ Some (length (entries_before q s a) + place_within a (is_self q a) (side_in s (source q a)) row column)
-  place_of_entry a row column letter declared in_rows in_columns kept =
+  place_of_entry {a} {row} {column} letter declared in_rows in_columns kept =
       let p = is_same_entry (entry a row column) in
       let place = place_within a (is_self q a) (side_in s (source q a)) row column in
-      let in_map : FirstAt p (map_entries q s a) place = subst (λ xs. FirstAt p xs place) (sym (map_entries-pieces a)) (first_within a (is_self q a) _ _ row column in_rows in_columns kept) in
+      let in_map : FirstAt p (map_entries q s a) place = subst (λ xs. FirstAt p xs place) (sym (map_entries-pieces a)) (first_within a (is_self q a) in_rows in_columns kept) in
       let in_declared : FirstAt p (declared_entries a) place = subst (λ b. FirstAt p (cond b (map_entries q s a) []) place) (sym declared) in_map in
-      let in_all = in_range p declared_entries (letters q) a place letter (λ b less. declared_misses a row column b (λ e. omega arith)) in_declared in
+      let in_all = in_range p declared_entries letter (λ b less. declared_misses a row column b (λ e. omega arith)) in_declared in
       ap (position p) (flat_map-filter (map_entries q s) (is_declared_map q) (range_with_len 0 (letters q)))
       ∙ found p _ _ in_all
       ∙ ap (λ xs. Some (length xs + place)) (sym (flat_map-filter (map_entries q s) (is_declared_map q) (range_with_len 0 a)))
 
-  pub kept_value : (values : List ℕ) (a row column : ℕ) → a < letters q → is_declared_map q a ≡ true → row < side_in s (target q a) → column < side_in s (source q a) → is_kept (is_self q a) row column ≡ true
+  pub kept_value : (values : List ℕ) {a row column : ℕ} → a < letters q → is_declared_map q a ≡ true → row < side_in s (target q a) → column < side_in s (source q a) → is_kept (is_self q a) row column ≡ true
       → value_of_entry q s values (entry a row column) ≡ get_or values (length (entries_before q s a) + place_within a (is_self q a) (side_in s (source q a)) row column) 0
-  kept_value values a row column letter declared in_rows in_columns kept = ap (value_at values) (place_of_entry a row column letter declared in_rows in_columns kept)
+  kept_value values letter declared in_rows in_columns kept = ap (value_at values) (place_of_entry letter declared in_rows in_columns kept)
 
   pub kept_inside : (a row column : ℕ) → a < letters q → is_declared_map q a ≡ true → row < side_in s (target q a) → column < side_in s (source q a) → is_kept (is_self q a) row column ≡ true
       → length (entries_before q s a) + place_within a (is_self q a) (side_in s (source q a)) row column < length (entries_of q s)
   kept_inside a row column letter declared in_rows in_columns kept =
-      (position-Some (is_same_entry (entry a row column)) (entries_of q s) _ (entry 0 0 0) (place_of_entry a row column letter declared in_rows in_columns kept)).0
+      (position-Some (is_same_entry (entry a row column)) (entries_of q s) _ (entry 0 0 0) (place_of_entry letter declared in_rows in_columns kept)).0
 
 -- what is shown
-pub shown_mirrored : (q : Quiver) (a row column : ℕ) → is_self q a ≡ true → column < row → entry_shown q a row column ≡ entry a column row
-shown_mirrored q a row column self less = ap (λ b. cond b (entry a column row) (entry a row column)) (ap₂ ◌&&◌ self (lt-ltb column row less))
+pub shown_mirrored : (q : Quiver) (a : ℕ) {row column : ℕ} → is_self q a ≡ true → column < row → entry_shown q a row column ≡ entry a column row
+shown_mirrored q a {row} {column} self less = ap (λ b. cond b (entry a column row) (entry a row column)) (ap₂ ◌&&◌ self (lt-ltb column row less))
 
 pub shown_itself : (q : Quiver) (a row column : ℕ) → is_self q a ≡ false → entry_shown q a row column ≡ entry a row column
 shown_itself q a row column self = ap (λ b. cond (b && nat_lt column row) (entry a column row) (entry a row column)) self
@@ -239,5 +239,5 @@ triangle a side (suc n) h =
 pub place_of_all : (a columns row column : ℕ) → row * columns + column ≡ place_within a false columns row column
 place_of_all a columns row column = sym (ap₂ ◌+◌ (rows_of_all a columns row) (row_of_all a row column))
 
-pub place_behind : (a side row column : ℕ) → row ≤ side → row ≤ column → (row * (2 * side + 1) - row * row) / 2 + column - row ≡ place_within a true side row column
-place_behind a side row column h k = omega (arith, triangle a side row h, row_behind a row column)
+pub place_behind : (a side : ℕ) {row column : ℕ} → row ≤ side → row ≤ column → (row * (2 * side + 1) - row * row) / 2 + column - row ≡ place_within a true side row column
+place_behind a side {row} {column} h k = omega (arith, triangle a side row h, row_behind a row column)

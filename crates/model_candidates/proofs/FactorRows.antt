@@ -32,10 +32,6 @@ product_added m c x y f start sum so_far =
     ∙ add_alike m f (start + c * sum) ((c * x) % m * y) ((c * x) * y) so_far (mul-mod_first (c * x) y m)
     ∙ ap (λ z. z % m) more
 
--- and nothing elsewhere
-nothing_added : (c x start sum : ℕ) → start + c * sum ≡ start + c * (sum + 0 * x)
-nothing_added c x start sum = grind arith
-
 total_more : (n : ℕ) (f : ℕ → ℕ) → total (n + 1) f ≡ total n f + f n
 total_more n f =
     let next : n + 1 ≡ suc n = omega arith in
@@ -53,9 +49,9 @@ total_split a (suc b) f =
     ap (λ n. total n f) next ∙ ap (λ x. x + f (a + b)) (total_split a b f) ∙ sum
 
 -- a place with nothing behind it adds nothing
-pub place_skipped : (t : SolvedTerm) (i j inner other k : ℕ) → entry_at t.right other j ≡ 0 → other < t.right.rows
+pub place_skipped : (t : SolvedTerm) (i j inner : ℕ) {other : ℕ} (k : ℕ) → entry_at t.right other j ≡ 0 → other < t.right.rows
     → line_factor t i j k inner other ≡ line_factor t i j k inner (other + 1)
-place_skipped t i j inner other k none in_width =
+place_skipped t i j inner {other} k none in_width =
     let place = inner * t.right.rows + other in
     let beside : entry_at t.left i (place / t.right.rows) * entry_at t.right (place % t.right.rows) j ≡ 0 =
     ap (λ y. entry_at t.left i (place / t.right.rows) * entry_at t.right y j) (mod-mul-add inner t.right.rows other in_width)
@@ -110,7 +106,7 @@ module _ (m : ℕ) (t : SolvedTerm) (i j inner : ℕ) (start factors : List ℕ)
           let none : place_factor t i j k place ≡ 0 * beside =
           ap (λ b. cond b 1 0 * beside) (ap (λ x. nat_eq x k) number_is ∙ ne_eqb number k other_number) in
           ap (λ x. x % m) (get_or-set_other factors number k value 0 (λ same. other_number (sym same)))
-          ∙ so_far k inside ∙ ap (λ x. x % m) (nothing_added t.coefficient beside (get_or start k 0) sum)
+          ∙ so_far k inside ∙ ap (λ x. x % m) (grind arith)
           ∙ ap (λ x. (get_or start k 0 + t.coefficient * (sum + x)) % m) (sym none)
 
 -- a row behind an entry that is 0
@@ -139,19 +135,19 @@ line_added m t i j k inner old new start so_far added =
     (sym (ap (λ n. total n (place_factor t i j k)) next ∙ total_split (inner * width) width (place_factor t i j k))))
 
 -- the sum with one term more
-pub term_added : (m i j k old new index : ℕ) (ts : List SolvedTerm) (t : SolvedTerm) → index < length ts → t ≡ get_or ts index t
+pub term_added : (m i j k old new : ℕ) {index : ℕ} (ts : List SolvedTerm) {t : SolvedTerm} → index < length ts → t ≡ get_or ts index t
     → new % m ≡ (old + term_factor t i j k) % m → old % m ≡ terms_factor (take index ts) i j k % m
     → new % m ≡ terms_factor (take (index + 1) ts) i j k % m
-term_added m i j k old new index ts t inside is added so_far =
+term_added m i j k old new {index} ts {t} inside is added so_far =
     let f : SolvedTerm → ℕ = λ x. term_factor x i j k in
     added ∙ add_alike m old (sum_by f (take index ts)) (f t) (f t) so_far refl
     ∙ ap (λ x. x % m) (sym (sum_by_push f (take index ts) t) ∙ ap (λ x. sum_by f (take index ts ++ x ∷ [])) is
     ∙ ap (sum_by f) (sym (take_more ts index t inside)))
 
 -- a list of residues
-pub residues : (m n : ℕ) (f : ℕ → ℕ) (xs : List ℕ) → length xs ≡ n → All (λ x. x < m) xs → ((k : ℕ) → k < n → get_or xs k 0 % m ≡ f k % m)
+pub residues : {m n : ℕ} (f : ℕ → ℕ) {xs : List ℕ} → length xs ≡ n → All (λ x. x < m) xs → ((k : ℕ) → k < n → get_or xs k 0 % m ≡ f k % m)
     → xs ≡ map (λ k. f k % m) (range_with_len 0 n)
-residues m n f xs size below each =
+residues {m} {n} f {xs} size below each =
     ext_get_or 0 xs (map (λ k. f k % m) (range_with_len 0 n)) (size ∙ sym (length-map-range_with_len (λ k. f k % m) 0 n)) (λ k inside.
     let within : k < n = omega (arith, inside, size) in
     sym (mod-eq_of_lt (All-get_or (λ x. x < m) xs k 0 inside below)) ∙ each k within

@@ -37,8 +37,8 @@ multiple_columns m (pos (suc n)) a = refl
 multiple_columns m (negsuc n) a = refl
 
 -- what a number adds to another
-pub added_by : (m x z f : ℕ) → z < m → x % m ≡ (z + f) % m → (x + m - z) % m ≡ f % m
-added_by m x z f small sum =
+pub added_by : {m : ℕ} (x : ℕ) {z : ℕ} (f : ℕ) → z < m → x % m ≡ (z + f) % m → (x + m - z) % m ≡ f % m
+added_by {m} x {z} f small sum =
     let more = (x + m - z) % m in
     let turned : more + z ≡ z + more = omega arith in
     let back : z + f ≡ f + z = omega arith in
@@ -101,9 +101,9 @@ module _ (q : Quiver) (s : Shape) (solved : List Letter) (drawn : List ℕ) (qui
         go (inr some) =
             let one : solved_count q solved w ≡ 1 = omega (arith, few, some) in
             let none = zero_matrix m (side_in s v) (side_in s u) in
-            let here = factor_one q s solved drawn quiver shape count drawn_below declared u v [] w none unknown i j in_u path refl one in_rows
+            let here = factor_one q s solved drawn quiver shape count drawn_below declared v [] w none unknown i j in_u path refl one in_rows
             in_columns in
-            let start = factor_one q s solved drawn quiver shape count drawn_below declared u v [] w none n i j in_u path refl one in_rows
+            let start = factor_one q s solved drawn quiver shape count drawn_below declared v [] w none n i j in_u path refl one in_rows
             in_columns ∙ ap (λ y. y % m) (factor_zero q s solved drawn quiver shape count drawn_below declared u v i j [] w path)
             ∙ mod-eq_of_lt positive in
             let sum : factor unknown i j w ≡ entry_at (word_at n w) i j + factor unknown i j w = omega (arith, start) in
@@ -173,4 +173,4 @@ module _ (q : Quiver) (s : Shape) (solved : List Letter) (drawn : List ℕ) (qui
     pub factor_is_sum : (unknown : ℕ) (p : List (ℤ × List ℕ)) → HasFew q solved 1 p → entry_at (value_of n p) i j < m
         → (entry_at (value_of unknown p) i j + m - entry_at (value_of n p) i j) % m ≡ factor_sum unknown i j p % m
     factor_is_sum unknown p few small =
-        added_by m (entry_at (value_of unknown p) i j) (entry_at (value_of n p) i j) (factor_sum unknown i j p) small (value_adds unknown p few)
+        added_by (entry_at (value_of unknown p) i j) (factor_sum unknown i j p) small (value_adds unknown p few)

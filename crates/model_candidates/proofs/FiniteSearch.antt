@@ -48,8 +48,8 @@ module _ (size bound : ℕ) (P : List ℕ → Type 0) (decided : (xs : List ℕ)
   next_size front x n left = omega (arith, left, length-append front (x ∷ []))
 
   -- the item behind the front is below the bound
-  next_begins : (front : List ℕ) (n : ℕ) → length front + suc n ≡ size → Begins front → (x : ℕ) × (x < bound) × Begins (front ++ x ∷ [])
-  next_begins front n left begins = go begins.rest begins.passes
+  next_begins : {front : List ℕ} (n : ℕ) → length front + suc n ≡ size → Begins front → (x : ℕ) × (x < bound) × Begins (front ++ x ∷ [])
+  next_begins {front} n left begins = go begins.rest begins.passes
     where
       go : (rest : List ℕ) → P (front ++ rest) → (x : ℕ) × (x < bound) × Begins (front ++ x ∷ [])
       go [] passes = absurd (omega (arith, left, length-append front [], of_size (front ++ []) passes))
@@ -76,7 +76,7 @@ module _ (size bound : ℕ) (P : List ℕ → Type 0) (decided : (xs : List ℕ)
     where
       go : LeastOf (λ x. Begins (front ++ x ∷ [])) ⊎ ((x : ℕ) → x < bound → Begins (front ++ x ∷ []) → ⊥) → IsDecided (Begins front)
       go (inl found) = inl (longer front found.number found.passes)
-      go (inr none) = inr (λ begins. let next = next_begins front n left begins in none next.0 next.1 next.2)
+      go (inr none) = inr (λ begins. let next = next_begins n left begins in none next.0 next.1 next.2)
 
   -- The value is the preferred one where that can stand behind the front, and else the least that can.
   pub record IsChoice (front : List ℕ) (preferred value : ℕ) : Type 0 where
@@ -89,8 +89,8 @@ module _ (size bound : ℕ) (P : List ℕ → Type 0) (decided : (xs : List ℕ)
       begins : Begins (front ++ value ∷ [])
       choice : IsChoice front (get_or prefer (length front) 0) value
 
-    choose : (n : ℕ) (front : List ℕ) → length front + suc n ≡ size → Begins front → Choice front
-    choose n front left begins = go (begins_decided n (front ++ draw ∷ []) (next_size front draw n left))
+    choose : (n : ℕ) {front : List ℕ} → length front + suc n ≡ size → Begins front → Choice front
+    choose n {front} left begins = go (begins_decided n (front ++ draw ∷ []) (next_size front draw n left))
       where
         draw : ℕ
         draw = get_or prefer (length front) 0
@@ -102,7 +102,7 @@ module _ (size bound : ℕ) (P : List ℕ → Type 0) (decided : (xs : List ℕ)
           begins = found.passes;
           choice = record { preferred_if = λ can. absurd (cannot can); least_else = λ other no can. found.least other can };
         }
-        least cannot (inr none) = let next = next_begins front n left begins in absurd (none next.0 next.1 next.2)
+        least cannot (inr none) = let next = next_begins n left begins in absurd (none next.0 next.1 next.2)
 
         go : IsDecided (Begins (front ++ draw ∷ [])) → Choice front
         go (inl can) = record {
@@ -127,7 +127,7 @@ module _ (size bound : ℕ) (P : List ℕ → Type 0) (decided : (xs : List ℕ)
       chosen = λ place least most. absurd
           (omega (arith, left, least, most));
     }
-    greedy_from (suc n) front left begins = go (choose n front left begins) (λ next. greedy_from n (front ++ next.value ∷ [])
+    greedy_from (suc n) front left begins = go (choose n left begins) (λ next. greedy_from n (front ++ next.value ∷ [])
         (next_size front next.value n left) next.begins)
       where
         go : Choice front → ((next : Choice front) → IsGreedyFrom (front ++ next.value ∷ [])) → IsGreedyFrom front

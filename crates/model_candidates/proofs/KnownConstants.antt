@@ -56,9 +56,9 @@ module _ (k : Known) (is : IsKnown k) where
           let same = count_without q s solved values quiver is.given.shape is.given.values.one_each is.given.values.below a w first in
           omega (arith, same, later)
 
-  pub few_at : (p : List (ℤ × List ℕ)) → has_few q solved 1 p ≡ true → (place : ℕ) (t : ℤ × List ℕ) → slice_get p place ≡ Some t
+  pub few_at : (p : List (ℤ × List ℕ)) → has_few q solved 1 p ≡ true → (place : ℕ) {t : ℤ × List ℕ} → slice_get p place ≡ Some t
       → solved_count q solved t.1 ≤ 1
-  few_at p few place t there =
+  few_at p few place {t} there =
       all_at (λ y. solved_count q solved y.1 ≤ 1) p place t (All-from_recursion (λ y. solved_count q solved y.1 ≤ 1) p (few_words q solved 1 p few)) there
 
   module _ (u v : ℕ) (in_u : u < q.objects) (t : ℤ × List ℕ) (path : is_path q u v t.1 ≡ true) (place : ℕ)
@@ -69,8 +69,8 @@ module _ (k : Known) (is : IsKnown k) where
     abbrev none : Matrix
     none = zero_matrix m (side_in s v) (side_in s u)
 
-    pub nothing_there : (i j : ℕ) → i < side_in s v → j < side_in s u → term_entry k.given u i j t ≡ 0
-    nothing_there i j in_rows in_columns =
+    pub nothing_there : {i j : ℕ} → i < side_in s v → j < side_in s u → term_entry k.given u i j t ≡ 0
+    nothing_there {i} {j} in_rows in_columns =
         let at = position-Some (is_solved q solved) t.1 place 0 found in
         let some = counted t.1 place at.0 at.1 in
         let one : solved_count q solved t.1 ≡ 1 = omega (arith, few, some) in
@@ -78,7 +78,7 @@ module _ (k : Known) (is : IsKnown k) where
         let n = unknowns q s solved values quiver is.given.shape is.given.values.one_each is.given.values.below declared in
         let least = (is_modulus k.given is.given).at_least in
         let positive : 0 < m = omega (arith, least) in
-        let at_zero = factor_one q s solved values quiver is.given.shape is.given.values.one_each is.given.values.below declared u v [] t.1 none n
+        let at_zero = factor_one q s solved values quiver is.given.shape is.given.values.one_each is.given.values.below declared v [] t.1 none n
         i j in_u path refl one in_rows in_columns
         ∙ ap (λ y. y % m) (factor_zero q s solved values quiver is.given.shape is.given.values.one_each is.given.values.below declared u v i j []
         t.1 path) ∙ mod-eq_of_lt positive in

@@ -58,24 +58,20 @@ module _ (k : Known) (is : IsKnown k) (g : LinearAssumption) (asked : IsAssumpti
   all_fit =
       subst (All Fit) (sym terms_are)
       (All-from_recursion Fit _ (terms_fit q s k.given.problem.now.parts.solved quiver is.given.shape (solved_declared k.given.problem.now) m
-      model maps refl g.sig.source.0 g.sig.target.0 asked.source (terms_of k.given.problem.now g)
-      (assumption_paths k.given.problem.now g asked)))
+      model maps refl g.sig.source.0 g.sig.target.0 asked.source (terms_of k.given.problem.now g) (assumption_paths asked)))
 
-  pub known_fit : (modulus unknowns : ℕ) → modulus ≡ s.modulus
+  pub known_fit : {modulus unknowns : ℕ} → modulus ≡ s.modulus
       → unknowns ≡ set_count (solved_flags q s k.given.problem.now.parts.solved) → All (FitsTerm modulus unknowns) terms
-  known_fit modulus unknowns modulus_is unknowns_are =
-      subst (λ x. All (FitsTerm x unknowns) terms) (sym modulus_is)
+  known_fit {modulus} {unknowns} modulus_is unknowns_are = subst (λ x. All (FitsTerm x unknowns) terms) (sym modulus_is)
       (subst (λ n. All (FitsTerm s.modulus n) terms) (sym unknowns_are)
       (All-weaker Fit (FitsTerm s.modulus (set_count (solved_flags q s k.given.problem.now.parts.solved))) (λ t fit. fit.fits) terms all_fit))
 
-  pub known_sides : (value : Matrix)
-      → IsArrow (matrices s.modulus) (side_of m g.sig.source.0) (side_of m g.sig.target.0) value
+  pub known_sides : {value : Matrix} → IsArrow (matrices s.modulus) (side_of m g.sig.source.0) (side_of m g.sig.target.0) value
       → All (HasSides value.rows value.columns) terms
-  known_sides value ends =
-      All-weaker Fit (HasSides value.rows value.columns) (λ t fit. record {
-        rows_are = fit.has_sides.rows_are ∙ sym ends.target;
-        columns_are = fit.has_sides.columns_are ∙ sym ends.source;
-      }) terms all_fit
+  known_sides {value} ends = All-weaker Fit (HasSides value.rows value.columns) (λ t fit. record {
+    rows_are = fit.has_sides.rows_are ∙ sym ends.target;
+    columns_are = fit.has_sides.columns_are ∙ sym ends.source;
+  }) terms all_fit
 
 -- the coefficients of an assumption
 module _ (k : Known) (is : IsKnown k) (place : ℕ) where
@@ -85,9 +81,8 @@ module _ (k : Known) (is : IsKnown k) (place : ℕ) where
   abbrev of : Poly → List ℕ
   of p = residues k.given.shape.now.modulus p.terms
 
-  pub coefficients_there : (p : Poly) → slice_get assumptions place ≡ Some p → (found : List ℕ) → found ≡ get_or k.coefficients.now place found
+  pub coefficients_there : {p : Poly} → slice_get assumptions place ≡ Some p → {found : List ℕ} → found ≡ get_or k.coefficients.now place found
       → found ≡ residues k.given.shape.now.modulus p.terms
-  coefficients_there p there found read =
-      read ∙ ap (λ xs. get_or xs place found) is.coefficients
+  coefficients_there {p} there {found} read = read ∙ ap (λ xs. get_or xs place found) is.coefficients
       ∙ get_or-map of assumptions place p found (slice_get_within assumptions place p there)
       ∙ ap of (get_or_from_slice_get assumptions place p p there)

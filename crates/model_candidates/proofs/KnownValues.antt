@@ -46,8 +46,8 @@ module _ (problem : Problem) (s : Shape) (shape : IsShape (object_count problem.
       let same : length drawn ≡ length flags = count ∙ sym (flag_of_each q s problem.parts.solved) in
       filled-picked flags drawn drawn same same (λ place inside unset. refl)
 
-  value_drawn : (g : LinearAssumption) → IsAssumption problem 0 g → (values : List ℕ) → value g (filled flags drawn values) ≡ value g drawn
-  value_drawn g is values =
+  value_drawn : {g : LinearAssumption} → IsAssumption problem 0 g → (values : List ℕ) → value g (filled flags drawn values) ≡ value g drawn
+  value_drawn {g} is values =
       let same = value_is_same q s problem.parts.solved drawn is_quiver shape count drawn_below g.sig.source.0 g.sig.target.0 is.source is.target
       (terms_of problem g) (few_words q problem.parts.solved 0 (terms_of problem g) is.few) in
       same values ∙ sym (same (picked flags drawn)) ∙ ap (value g) (sym own)
@@ -57,14 +57,14 @@ module _ (problem : Problem) (s : Shape) (shape : IsShape (object_count problem.
         → All (IsZeroAtSignature problem (model_by q s 0 (filled flags drawn values))) gs
     conditions_filled zero values =
         All-from_get_or (IsZeroAtSignature problem (model_by q s 0 (filled flags drawn values))) gs no_assumption (λ k inside.
-        value_drawn (get_or gs k no_assumption) (All-get_or (IsAssumption problem 0) gs k no_assumption inside each) values
+        value_drawn (All-get_or (IsAssumption problem 0) gs k no_assumption inside each) values
         ∙ All-get_or (IsZeroAtSignature problem (model_by q s 0 drawn)) gs k no_assumption inside zero)
 
     pub conditions_drawn : (values : List ℕ) → All (IsZeroAtSignature problem (model_by q s 0 (filled flags drawn values))) gs
         → All (IsZeroAtSignature problem (model_by q s 0 drawn)) gs
     conditions_drawn values zero =
         All-from_get_or (IsZeroAtSignature problem (model_by q s 0 drawn)) gs no_assumption (λ k inside.
-        sym (value_drawn (get_or gs k no_assumption) (All-get_or (IsAssumption problem 0) gs k no_assumption inside each) values)
+        sym (value_drawn (All-get_or (IsAssumption problem 0) gs k no_assumption inside each) values)
         ∙ All-get_or (IsZeroAtSignature problem (model_by q s 0 (filled flags drawn values))) gs k no_assumption inside zero)
 
     -- each solution shows that they are zero
@@ -76,7 +76,7 @@ module _ (problem : Problem) (s : Shape) (shape : IsShape (object_count problem.
         All-from_get_or (IsZeroAtSignature problem (model_by q s 0 drawn)) gs no_assumption (λ k inside.
         let g = get_or gs k no_assumption in
         let a : IsAssumption problem 0 g = All-get_or (IsAssumption problem 0) gs k no_assumption inside each in
-        sym (value_drawn g a (picked flags values)) ∙ ap (value g) (sym is)
+        sym (value_drawn a (picked flags values)) ∙ ap (value g) (sym is)
         ∙ (kept_one (IsZeroIn problem (model_by q s 0 values)) (has_few q problem.parts.solved 1) problem.parts.assumptions g.place
         a.place (fewer q problem.parts.solved (terms_of problem g) a.few)
         (linear_assumptions_are_zero problem (model_by q s 0 values) solution.zero)).at

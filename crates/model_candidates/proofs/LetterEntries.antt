@@ -74,10 +74,10 @@ module _ (q : Quiver) (s : Shape) (solved : List Letter) (drawn : List ℕ) (cou
   abbrev unit : ℕ → List ℕ
   unit unknown = unit_values (set_count (solved_flags q s solved)) unknown
 
-  pub letter_entry : (a : ℕ) → a < letters q → is_solved q solved a ≡ true → (unknown i j : ℕ) → i < side_in s (target q a)
+  pub letter_entry : {a : ℕ} → a < letters q → is_solved q solved a ≡ true → (unknown : ℕ) {i j : ℕ} → i < side_in s (target q a)
       → j < side_in s (source q a)
       → entry_at (arrow_of q (model_at q s solved drawn (unit unknown)) a) i j ≡ cond (eqb (number_at q s solved a i j) unknown) 1 0
-  letter_entry a letter is unknown i j in_rows in_columns = go (cases_lt (star q a) a)
+  letter_entry {a} letter is unknown {i} {j} in_rows in_columns = go (cases_lt (star q a) a)
     where
       has : HasSolvedMap q solved a
       has = has_solved_map q quiver a letter solved declared is
@@ -93,7 +93,7 @@ module _ (q : Quiver) (s : Shape) (solved : List Letter) (drawn : List ℕ) (cou
           let solved_here : is_solved_map solved a ≡ true =
           sym (ap (is_solved_map solved) (itself q quiver a letter least)) ∙ has.is_solved in
           ap (λ x. entry_at x i j) (arrow_of_map q s solved drawn quiver shape (unit unknown) a map)
-          ∙ unit_entry q s solved drawn count quiver a letter shown solved_here unknown i j in_rows in_columns
+          ∙ unit_entry q s solved drawn count quiver letter shown solved_here unknown in_rows in_columns
           ∙ ap (λ b. cond (eqb (cond b (unknown_at q s solved drawn count a i j) (unknown_at q s solved drawn count (star q a) j i)) unknown) 1 0)
           (sym (le-leb a (star q a) least))
       go (inl less) =
@@ -107,7 +107,7 @@ module _ (q : Quiver) (s : Shape) (solved : List Letter) (drawn : List ℕ) (cou
           let column : j < side_in s (target q b) = subst (λ v. j < side_in s v) (sym (quiver.star_target a letter)) in_columns in
           ap (λ y. entry_at y i j) (arrow_of_adjoint q s solved drawn quiver shape (unit unknown) a has.map less map)
           ∙ entry_at-matrix_of s.modulus x.columns x.rows (λ r c. entry_at x c r) i j row column
-          ∙ unit_entry q s solved drawn count quiver b map.letter shown solved_there unknown j i column row
+          ∙ unit_entry q s solved drawn count quiver map.letter shown solved_there unknown column row
           ∙ ap (λ c. cond (eqb (cond c (unknown_at q s solved drawn count a i j) (unknown_at q s solved drawn count b j i)) unknown) 1 0)
           (sym (lt-leb a b less))
 
@@ -130,14 +130,13 @@ module _ (q : Quiver) (s : Shape) (solved : List Letter) (drawn : List ℕ) (cou
           let solved_here : is_solved_map solved a ≡ true =
           sym (ap (is_solved_map solved) (itself q quiver a letter least)) ∙ has.is_solved in
           subst (λ b. chosen b < n) (sym (le-leb a (star q a) least))
-          (unknown_below q s solved drawn count quiver a letter shown solved_here i j in_rows in_columns)
+          (unknown_below q s solved drawn count quiver letter shown solved_here in_rows in_columns)
       go (inl less) =
           let b = star q a in
           let map : IsMap q b = map_of q s solved drawn quiver shape a has.map letter less in
           let shown : is_declared_map q b ≡ true = ap₂ ◌&&◌ (le-leb q.objects b map.map) (le-leb b (star q b) map.declared) in
           let solved_there : is_solved_map solved b ≡ true =
           sym (ap (is_solved_map solved) (adjoint q quiver a letter less)) ∙ has.is_solved in
-          subst (λ c. chosen c < n) (sym (lt-leb a b less))
-          (unknown_below q s solved drawn count quiver b map.letter shown solved_there j i
+          subst (λ c. chosen c < n) (sym (lt-leb a b less)) (unknown_below q s solved drawn count quiver map.letter shown solved_there
           (subst (λ v. j < side_in s v) (sym (quiver.star_target a letter)) in_columns)
           (subst (λ v. i < side_in s v) (sym (quiver.star_source a letter)) in_rows))

@@ -31,20 +31,14 @@ pub record HasTable (q : Quiver) (s : Shape) (a : ℕ) (t : LetterTable) : Type 
   pub map : q.objects ≤ a
   pub same : t ≡ table_of q s a
 
-some_is : (x y : LetterTable) → ◌≡◌ {A = Option LetterTable} (Some x) (Some y) → x ≡ y
-some_is x y e = cc
-
-pub has_table : (q : Quiver) (s : Shape) (a : ℕ) (t : LetterTable) → letter_table q s a ≡ Some t → HasTable q s a t
-has_table q s a t is = go (cases_lt a q.objects)
+pub has_table : (q : Quiver) (s : Shape) (a : ℕ) {t : LetterTable} → letter_table q s a ≡ Some t → HasTable q s a t
+has_table q s a {t} is = go (cases_lt a q.objects)
   where
     go : (a < q.objects) ⊎ (q.objects ≤ a) → HasTable q s a t
-    go (inl identity) = absurd (no (sym (ap (λ b. cond b None (Some (table_of q s a))) (lt-ltb a q.objects identity)) ∙ is))
-      where
-        no : ◌≡◌ {A = Option LetterTable} None (Some t) → ⊥
-        no e = cc
+    go (inl identity) = absurd (cc (sym (ap (λ b. cond b None (Some (table_of q s a))) (lt-ltb a q.objects identity)) ∙ is))
     go (inr map) = record {
       map = map;
-      same = sym (some_is (table_of q s a) t (sym (ap (λ b. cond b None (Some (table_of q s a))) (le-ltb a q.objects map)) ∙ is));
+      same = sym (cc (sym (ap (λ b. cond b None (Some (table_of q s a))) (le-ltb a q.objects map)) ∙ is));
     }
 
 pub has_none : (q : Quiver) (s : Shape) (a : ℕ) → letter_table q s a ≡ None → a < q.objects
@@ -52,14 +46,11 @@ has_none q s a is = go (cases_lt a q.objects)
   where
     go : (a < q.objects) ⊎ (q.objects ≤ a) → a < q.objects
     go (inl identity) = identity
-    go (inr map) = absurd (no (sym (ap (λ b. cond b None (Some (table_of q s a))) (le-ltb a q.objects map)) ∙ is))
-      where
-        no : ◌≡◌ {A = Option LetterTable} (Some (table_of q s a)) None → ⊥
-        no e = cc
+    go (inr map) = absurd (cc (sym (ap (λ b. cond b None (Some (table_of q s a))) (le-ltb a q.objects map)) ∙ is))
 
-pub table_there : (q : Quiver) (s : Shape) (tables : List (Option LetterTable)) (a place : ℕ) (d : Option LetterTable)
+pub table_there : (q : Quiver) (s : Shape) {tables : List (Option LetterTable)} {a place : ℕ} (d : Option LetterTable)
     → tables ≡ letter_tables q s → place ≡ a → a < letters q → get_or tables place d ≡ letter_table q s a
-table_there q s tables a place d are same letter =
+table_there q s {a} d are same letter =
     ap₂ (λ xs n. get_or xs n d) are same ∙ get_or-map-range_with_len (letter_table q s) 0 (letters q) a a d letter (omega arith)
 
 -- the entry's value by its number
@@ -107,10 +98,10 @@ module _ (q : Quiver) (quiver : IsQuiver q) (s : Shape) (shape : IsShape q.objec
     in_star_columns = subst (λ v. i < side_in s v) (sym (quiver.star_source a letter)) in_rows
 
     among_here : a ≤ star q a → IsAmong q s (entry_shown q a i j)
-    among_here least = shown_among q s quiver a i j letter (declared a (map_here least)) in_rows in_columns
+    among_here least = shown_among s quiver letter (declared a (map_here least)) in_rows in_columns
 
     among_there : star q a < a → IsAmong q s (entry_shown q (star q a) j i)
-    among_there less = shown_among q s quiver (star q a) j i (map_there less).letter (declared (star q a) (map_there less)) in_star_rows in_star_columns
+    among_there less = shown_among s quiver (map_there less).letter (declared (star q a) (map_there less)) in_star_rows in_star_columns
 
     letter_value_by_number : (values : List ℕ) → letter_value q s values a i j ≡ get_or values (letter_value q s (entry_numbers q s) a i j) 0
     letter_value_by_number values = go (cases_lt (star q a) a)
@@ -140,14 +131,14 @@ module _ (q : Quiver) (quiver : IsQuiver q) (s : Shape) (shape : IsShape q.objec
         go : (star q a < a) ⊎ (a ≤ star q a) → entry_at (arrow_of q (model_by q s 0 values) a) i j ≡ letter_value q s values a i j
         go (inr least) =
             ap (λ x. entry_at x i j) (arrow_of-map q (model_by q s 0 values) a map least
-            ∙ ap (matrix_or_zero s.modulus) (map_at-model_by q s 0 values a (map_here least)))
+            ∙ ap (matrix_or_zero s.modulus) (map_at-model_by s 0 values (map_here least)))
             ∙ entry_at-matrix_of s.modulus rows columns (shown a) i j in_rows in_columns
             ∙ ap (chosen values) (sym (le-leb a (star q a) least))
         go (inl less) =
             let b = star q a in
             let x = matrix_by q s values b in
             ap (λ y. entry_at y i j) (arrow_of-adjoint q (model_by q s 0 values) a map less
-            ∙ ap (λ y. transpose s.modulus (matrix_or_zero s.modulus y)) (map_at-model_by q s 0 values b (map_there less)))
+            ∙ ap (λ y. transpose s.modulus (matrix_or_zero s.modulus y)) (map_at-model_by s 0 values (map_there less)))
             ∙ entry_at-matrix_of s.modulus x.columns x.rows (λ r c. entry_at x c r) i j in_star_columns in_star_rows
             ∙ entry_at-matrix_of s.modulus x.rows x.columns (shown b) j i in_star_rows in_star_columns
             ∙ ap (chosen values) (sym (lt-leb a (star q a) less))
@@ -161,11 +152,11 @@ module _ (q : Quiver) (quiver : IsQuiver q) (s : Shape) (shape : IsShape q.objec
   few : (v : ℕ) → v < q.objects → side_in s v ≤ shape_side_limit
   few v inside = (All-get_or IsSide s.sides v 1 (subst (λ n. v < n) (sym shape.side_of_each) inside) shape.sides).most
 
-  pub is_table : (count : ℕ) → count ≡ length (entries_of q s) → IsTable count (table_of q s a)
-  is_table count count_is =
+  pub is_table : {count : ℕ} → count ≡ length (entries_of q s) → IsTable count (table_of q s a)
+  is_table count_is =
       let f : ℕ → ℕ = λ place. letter_value q s (entry_numbers q s) a (place / columns) (place % columns) in
       let size = rows * columns in
-      let positive = (side_is_object q s quiver shape (source q a) (quiver.source_is_object a letter)).is_side.positive in
+      let positive = (side_is_object q s quiver shape (quiver.source_is_object a letter)).is_side.positive in
       let inside : (place : ℕ) → place < length (letter_values q s (entry_numbers q s) a) → place < size =
       λ place within. subst (λ k. place < k) (length-map-range_with_len f 0 size) within in
       record {

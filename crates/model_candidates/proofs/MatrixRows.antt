@@ -58,19 +58,18 @@ one_row_more m columns rows f g entries so_far small same = record {
         ∙ get_or-append-add entries last k 0 ∙ here k inside ∙ same k inside ∙ ap (λ n. f n k) (sym is)
 
 -- all rows of a matrix
-pub rows_of_matrix : (m rows columns : ℕ) (a : Matrix) (entries : List ℕ) → IsMatrix m a → a.rows ≡ rows → a.columns ≡ columns
+pub rows_of_matrix : {m rows columns : ℕ} {a : Matrix} {entries : List ℕ} → IsMatrix m a → a.rows ≡ rows → a.columns ≡ columns
     → AreRows m columns (entry_at a) rows entries → record { modulus = m; rows = rows; columns = columns; entries = entries } ≡ a
-rows_of_matrix m rows columns a entries is rows_are columns_are all =
-    same_matrix m made a (record {
-      is_modulus = is.is_modulus;
-      modulus_is = refl;
-      shape = record {
-        rows_side = subst IsSide rows_are is.shape.rows_side;
-        columns_side = subst IsSide columns_are is.shape.columns_side;
-        size = all.size;
-      };
-      entries_below = all.below;
-    }) is (sym rows_are) (sym columns_are) all.each
+rows_of_matrix {m} {rows} {columns} {a} {entries} is rows_are columns_are all = same_matrix m made a (record {
+  is_modulus = is.is_modulus;
+  modulus_is = refl;
+  shape = record {
+    rows_side = subst IsSide rows_are is.shape.rows_side;
+    columns_side = subst IsSide columns_are is.shape.columns_side;
+    size = all.size;
+  };
+  entries_below = all.below;
+}) is (sym rows_are) (sym columns_are) all.each
   where
     made : Matrix
     made = record { modulus = m; rows = rows; columns = columns; entries = entries }

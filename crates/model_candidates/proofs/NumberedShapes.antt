@@ -12,14 +12,14 @@ use Rattle.model_candidates.specs.Candidates.{IsShapeOf, digit, digits, entries_
 use Rattle.model_candidates.specs.Plans.{AreEntryValues}
 use Rattle.model_checker.proofs.Places.{all_at}
 
-pub shape_numbered : (problem : Problem) (number : ℕ) (s : Shape) → 1 ≤ number → slice_get problem.parts.shapes (number - 1) ≡ Some s
+pub shape_numbered : (problem : Problem) {number : ℕ} {s : Shape} → 1 ≤ number → slice_get problem.parts.shapes (number - 1) ≡ Some s
     → IsShapeOf problem number s
-shape_numbered problem number s least there = record { before = number - 1; numbered = omega (arith, least); there = there }
+shape_numbered problem {number} least there = record { before = number - 1; numbered = omega (arith, least); there = there }
 
 -- a number has one shape
-pub one_shape : (problem : Problem) (number : ℕ) (s t : Shape) → slice_get problem.parts.shapes (number - 1) ≡ Some s
+pub one_shape : {problem : Problem} {number : ℕ} {s t : Shape} → slice_get problem.parts.shapes (number - 1) ≡ Some s
     → IsShapeOf problem number t → s ≡ t
-one_shape problem number s t there is =
+one_shape {problem} {number} {s} {t} there is =
     let before : is.before ≡ number - 1 = omega (arith, is.numbered) in
     sym (get_or_from_slice_get problem.parts.shapes (number - 1) s s there)
     ∙ get_or_from_slice_get problem.parts.shapes (number - 1) t s (ap (slice_get problem.parts.shapes) (sym before) ∙ is.there)
@@ -52,14 +52,14 @@ digits_are_values problem s k positive =
 pub shape_is_one : (problem : Problem) (number : ℕ) (s t : Shape) → IsShapeOf problem number s → IsShapeOf problem number t → s ≡ t
 shape_is_one problem number s t first second =
     let before : number - 1 ≡ first.before = omega (arith, first.numbered) in
-    one_shape problem number s t (ap (slice_get problem.parts.shapes) before ∙ first.there) second
+    one_shape (ap (slice_get problem.parts.shapes) before ∙ first.there) second
 
 -- which is one for the objects of the problem
-pub posed_shape : (problem : Problem) (k : ℕ) (s : Shape) → slice_get problem.parts.shapes k ≡ Some s → IsShape (object_count problem.parts.quiver) s
-posed_shape problem k s there = all_at (IsShape (object_count problem.parts.quiver)) problem.parts.shapes k s problem.posed.shapes there
+pub posed_shape : (problem : Problem) (k : ℕ) {s : Shape} → slice_get problem.parts.shapes k ≡ Some s → IsShape (object_count problem.parts.quiver) s
+posed_shape problem k {s} there = all_at (IsShape (object_count problem.parts.quiver)) problem.parts.shapes k s problem.posed.shapes there
 
 pub shape_is : (problem : Problem) (number : ℕ) (s : Shape) → IsShapeOf problem number s → IsShape (object_count problem.parts.quiver) s
-shape_is problem number s numbered = posed_shape problem numbered.before s numbered.there
+shape_is problem number s numbered = posed_shape problem numbered.before numbered.there
 
 -- a number in range has one
 pub record HasShapeOf (problem : Problem) (number : ℕ) : Type 0 where
@@ -72,5 +72,5 @@ shape_of_number problem number least most = go (slice_get_cases problem.parts.sh
     go : ((s : Shape) × (number - 1 < length problem.parts.shapes) × (slice_get problem.parts.shapes (number - 1) ≡ Some s)
         × (get_or problem.parts.shapes (number - 1) s ≡ s))
         ⊎ ((length problem.parts.shapes ≤ number - 1) × (slice_get problem.parts.shapes (number - 1) ≡ None)) → HasShapeOf problem number
-    go (inl s) = record { shape = s.0; is = shape_numbered problem number s.0 least s.2 }
+    go (inl s) = record { shape = s.0; is = shape_numbered problem least s.2 }
     go (inr past) = absurd (omega (arith, least, most, past.0))

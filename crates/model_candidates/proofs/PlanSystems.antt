@@ -33,7 +33,7 @@ module _ (problem : Problem) (s : Shape) (shape : IsShape (object_count problem.
       let least = (modulus_of_shape q s (posed_quiver problem.parts problem.posed) shape).at_least in
       record {
         one_each = length-filled plan.solved drawn unit same ∙ values.one_each;
-        below = All-filled (λ value. value < s.modulus) plan.solved drawn unit values.below (unit_values_below s.modulus (set_count plan.solved) unknown least);
+        below = All-filled (λ value. value < s.modulus) plan.solved drawn unit values.below (unit_values_below (set_count plan.solved) unknown least);
       }
 
   pub value_of_each_flag : length drawn ≡ length plan.solved
@@ -83,8 +83,7 @@ module _ (problem : Problem) (s : Shape) (shape : IsShape (object_count problem.
   plan_none =
       subst (λ flags. HasNoSolution (system_for problem s flags plan.assumptions.equations drawn) → (others : List ℕ)
       → IsSolution problem s drawn others → ⊥) (sym fits.solved)
-      (λ none others solution. none _ (solves_from problem s shape drawn values.one_each values.below plan.assumptions.conditions plan.assumptions.equations fits.assumptions
-      others solution))
+      (λ none others solution. none _ (solves_from problem s shape drawn values.one_each values.below plan.assumptions.conditions plan.assumptions.equations fits.assumptions solution))
 
   pub unknown_of_each_flag : (chosen : List ℕ) → AreValues (system_for problem s plan.solved plan.assumptions.equations drawn) chosen
       → length chosen ≡ set_count plan.solved

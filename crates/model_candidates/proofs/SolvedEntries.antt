@@ -130,9 +130,9 @@ set_count-append [] more = omega arith
 set_count-append (false ∷ flags) more = set_count-append flags more
 set_count-append (true ∷ flags) more = let rest = set_count-append flags more in omega (arith, rest)
 
-pub before_more : (flags : List Bool) (place : ℕ) (flag : Bool) → place < length flags → get_or flags place false ≡ flag
+pub before_more : (flags : List Bool) {place : ℕ} (flag : Bool) → place < length flags → get_or flags place false ≡ flag
     → before flags (place + 1) ≡ before flags place + set_count (flag ∷ [])
-before_more flags place flag inside is =
+before_more flags {place} flag inside is =
     ap set_count (take_more flags place false inside) ∙ set_count-append (take place flags) (get_or flags place false ∷ [])
     ∙ ap (λ b. before flags place + set_count (b ∷ [])) is
 

@@ -13,20 +13,19 @@ either_of_both false true false v = refl
 either_of_both false false u v = refl
 
 -- a letter is the adjoint of another exactly where its adjoint is the other
-adjoint_of : (q : Quiver) (a l : ℕ) → IsQuiver q → a < letters q → l < letters q → nat_eq a (star q l) ≡ nat_eq (star q a) l
-adjoint_of q a l quiver in_a in_l = go (cases_eq a (star q l))
+adjoint_of : {q : Quiver} {a l : ℕ} → IsQuiver q → a < letters q → l < letters q → nat_eq a (star q l) ≡ nat_eq (star q a) l
+adjoint_of {q} {a} {l} quiver in_a in_l = go (cases_eq a (star q l))
   where
     go : (a ≡ star q l) ⊎ (a ≡ star q l → ⊥) → nat_eq a (star q l) ≡ nat_eq (star q a) l
     go (inl same) = eq-eqb a (star q l) same ∙ sym (eq-eqb (star q a) l (ap (star q) same ∙ quiver.star_star l in_l))
     go (inr other) = ne_eqb a (star q l) other ∙ sym (ne_eqb (star q a) l (λ e. other (sym (quiver.star_star a in_a) ∙ ap (star q) e)))
 
-pub solved_by_maps : (q : Quiver) (solved : List Letter) (a : ℕ) → IsQuiver q → a < letters q → AllByRecursion (λ l. l.0 < letters q) solved
+pub solved_by_maps : {q : Quiver} (solved : List Letter) (a : ℕ) → IsQuiver q → a < letters q → AllByRecursion (λ l. l.0 < letters q) solved
     → (is_solved_map solved a || is_solved_map solved (star q a)) ≡ is_solved q solved a
-solved_by_maps q [] a quiver in_a in_solved = refl
-solved_by_maps q (l ∷ solved) a quiver in_a in_solved =
+solved_by_maps [] a quiver in_a in_solved = refl
+solved_by_maps {q} (l ∷ solved) a quiver in_a in_solved =
     either_of_both (nat_eq a l.0) (is_solved_map solved a) (nat_eq (star q a) l.0) (is_solved_map solved (star q a))
-    ∙ ap₂ (λ x y. (nat_eq a l.0 || x) || y) (sym (adjoint_of q a l.0 quiver in_a in_solved.0))
-    (solved_by_maps q solved a quiver in_a in_solved.1)
+    ∙ ap₂ (λ x y. (nat_eq a l.0 || x) || y) (sym (adjoint_of quiver in_a in_solved.0)) (solved_by_maps solved a quiver in_a in_solved.1)
 
 -- a test that gives the same for each item
 pub map-same : {X Y : Type 0} (f : X → Y) (xs : List X) (y : Y) → AllByRecursion (λ x. f x ≡ y) xs → map f xs ≡ replicate (length xs) y

@@ -7,23 +7,21 @@ use Rattle.std.proofs.lemmas.List.Sums.{position_or_len_is}
 use Rattle.std.proofs.Math.Seq.{drop-cons}
 use Rattle.model_candidates.proofs.EntryPlaces.{found}
 
-pub first_place : (p : ℕ → Bool) (xs : List ℕ) (place : ℕ) → place < length xs → ((k : ℕ) → k < place → p (get_or xs k 0) ≡ false)
+pub first_place : (p : ℕ → Bool) (xs : List ℕ) {place : ℕ} → place < length xs → ((k : ℕ) → k < place → p (get_or xs k 0) ≡ false)
     → p (get_or xs place 0) ≡ true → position p xs ≡ Some place
-first_place p xs place inside before here =
+first_place p xs {place} inside before here =
     found p xs place record { inside = inside; first = position_or_len_is p xs place 0 (omega (arith, inside)) before (λ _. here) }
 
 pub no_place : (p : ℕ → Bool) (xs : List ℕ) (count : ℕ) → length xs ≤ count → ((k : ℕ) → k < count → p (get_or xs k 0) ≡ false) → position p xs ≡ None
 no_place p xs count all none =
     let last : position_or_len p xs ≡ length xs =
     position_or_len_is p xs (length xs) 0 (omega arith) (λ k inside. none k (omega (arith, inside, all))) (λ inside. absurd (omega (arith, inside))) in
-    ap (λ n. cond (ltb n (length xs)) (Some n) None) last ∙ ap (λ b. cond b (Some (length xs)) None) (not_less (length xs))
-  where
-    not_less : (n : ℕ) → ltb n n ≡ false
-    not_less n = le-ltb n n (omega arith)
+    ap (λ n. cond (ltb n (length xs)) (Some n) None) last ∙ ap (λ b. cond b (Some (length xs)) None) (le-ltb (length xs) (length xs)
+    (omega arith))
 
 -- the letters before `to`, from a place on
-pub letters_from : (w : List ℕ) (place to : ℕ) → place < to → to ≤ length w → drop place (take to w) ≡ get_or w place 0 ∷ drop (place + 1) (take to w)
-letters_from w place to before within =
+pub letters_from : (w : List ℕ) {place to : ℕ} → place < to → to ≤ length w → drop place (take to w) ≡ get_or w place 0 ∷ drop (place + 1) (take to w)
+letters_from w {place} {to} before within =
     let size = length-take-le to w within in
     let next : suc place ≡ place + 1 = omega arith in
     drop-cons (take to w) place 0 (omega (arith, size, before))

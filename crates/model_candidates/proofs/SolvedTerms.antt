@@ -46,9 +46,9 @@ pub record SolvedAt (q : Quiver) (solved : List Letter) (u v : ℕ) (w : List �
   pub there : is_solved q solved (get_or w place 0) ≡ true
   pub fit : FitLetter q u v (take place w) (get_or w place 0) (drop (place + 1) w)
 
-pub solved_at : (q : Quiver) (solved : List Letter) (u v : ℕ) (w : List ℕ) (place : ℕ) → is_path q u v w ≡ true
+pub solved_at : (q : Quiver) (solved : List Letter) (u v : ℕ) (w : List ℕ) {place : ℕ} → is_path q u v w ≡ true
     → position (is_solved q solved) w ≡ Some place → SolvedAt q solved u v w place
-solved_at q solved u v w place path found =
+solved_at q solved u v w {place} path found =
     let at = position-Some (is_solved q solved) w place 0 found in
     let x = get_or w place 0 in
     let next : suc place ≡ place + 1 = omega arith in
@@ -62,8 +62,8 @@ solved_at q solved u v w place path found =
     }
 
 -- the map behind a solved letter is declared
-pub declared_behind : (q : Quiver) → IsQuiver q → (a : ℕ) → a < letters q → q.objects ≤ a → is_declared_map q (map_behind q a) ≡ true
-declared_behind q quiver a letter map = go (cases_lt (star q a) a)
+pub declared_behind : {q : Quiver} → IsQuiver q → {a : ℕ} → a < letters q → q.objects ≤ a → is_declared_map q (map_behind q a) ≡ true
+declared_behind {q} quiver {a} letter map = go (cases_lt (star q a) a)
   where
     -- the adjoint of a map is no identity
     star_is_map : (star q a < q.objects) ⊎ (q.objects ≤ star q a) → q.objects ≤ star q a
@@ -90,33 +90,32 @@ number_of_each q s solved =
     ∙ length-replicate (length flags) n ∙ flag_of_each q s solved
 
 -- what stands for a letter
-letter_there : (q : Quiver) (s : Shape) (solved : List Letter) (numbers : List (Option (List ℕ))) (a place : ℕ) (d : Option (List ℕ))
+letter_there : (q : Quiver) (s : Shape) (solved : List Letter) {numbers : List (Option (List ℕ))} {a place : ℕ} (d : Option (List ℕ))
     → numbers ≡ numbers_of_letters q s solved → place ≡ a → a < letters q → get_or numbers place d ≡ letter_numbers q s solved a
-letter_there q s solved numbers a place d are same letter =
+letter_there q s solved {a} d are same letter =
     ap₂ (λ xs n. get_or xs n d) are same ∙ get_or-map-range_with_len (letter_numbers q s solved) 0 (letters q) a a d letter (omega arith)
 
 -- the numbers that stand for a solved letter
-pub numbers_there : (q : Quiver) (s : Shape) (solved : List Letter) (numbers : List (Option (List ℕ))) (a place : ℕ) (d : Option (List ℕ))
+pub numbers_there : (q : Quiver) (s : Shape) (solved : List Letter) {numbers : List (Option (List ℕ))} {a place : ℕ} (d : Option (List ℕ))
     → numbers ≡ numbers_of_letters q s solved → place ≡ a → a < letters q → is_solved q solved a ≡ true
     → get_or numbers place d ≡ Some (letter_values q s (unknown_numbers (solved_flags q s solved)) a)
-numbers_there q s solved numbers a place d are same letter is =
-    letter_there q s solved numbers a place d are same letter
+numbers_there q s solved {a} d are same letter is = letter_there q s solved d are same letter
     ∙ ap (λ b. cond b (Some (letter_values q s (unknown_numbers (solved_flags q s solved)) a)) None) is
 
 -- a letter has numbers where it is solved for, and only there
-pub solved_where_numbered : (q : Quiver) (s : Shape) (solved : List Letter) (numbers : List (Option (List ℕ))) (a place : ℕ) (d : Option (List ℕ))
-    → numbers ≡ numbers_of_letters q s solved → place ≡ a → a < letters q → (row : List ℕ) → get_or numbers place d ≡ Some row → is_solved q solved a ≡ true
-solved_where_numbered q s solved numbers a place d are same letter row found =
-    some_if (is_solved q solved a) _ row (sym (letter_there q s solved numbers a place d are same letter) ∙ found)
+pub solved_where_numbered : (q : Quiver) (s : Shape) (solved : List Letter) {numbers : List (Option (List ℕ))} {a place : ℕ} (d : Option (List ℕ))
+    → numbers ≡ numbers_of_letters q s solved → place ≡ a → a < letters q → {row : List ℕ} → get_or numbers place d ≡ Some row → is_solved q solved a ≡ true
+solved_where_numbered q s solved {a} d are same letter {row} found =
+    some_if (is_solved q solved a) _ row (sym (letter_there q s solved d are same letter) ∙ found)
   where
     some_if : (b : Bool) (values row : List ℕ) → cond b (Some values) None ≡ Some row → b ≡ true
     some_if true values row is = refl
     some_if false values row is = absurd (none-some row is)
 
-pub unsolved_where_none : (q : Quiver) (s : Shape) (solved : List Letter) (numbers : List (Option (List ℕ))) (a place : ℕ) (d : Option (List ℕ))
+pub unsolved_where_none : (q : Quiver) (s : Shape) (solved : List Letter) {numbers : List (Option (List ℕ))} {a place : ℕ} (d : Option (List ℕ))
     → numbers ≡ numbers_of_letters q s solved → place ≡ a → a < letters q → get_or numbers place d ≡ None → is_solved q solved a ≡ false
-unsolved_where_none q s solved numbers a place d are same letter found =
-    none_if (is_solved q solved a) _ (sym (letter_there q s solved numbers a place d are same letter) ∙ found)
+unsolved_where_none q s solved {a} d are same letter found =
+    none_if (is_solved q solved a) _ (sym (letter_there q s solved d are same letter) ∙ found)
   where
     none_if : (b : Bool) (values : List ℕ) → cond b (Some values) None ≡ None → b ≡ false
     none_if true values is = absurd (none-some values (sym is))
@@ -145,22 +144,22 @@ module _ (q : Quiver) (s : Shape) (solved : List Letter) (quiver : IsQuiver q) (
   side_is : (a : ℕ) → side_of m a ≡ side_in s a
   side_is a = ap (λ xs. get_or xs a 1) sides
 
-  values_below : (x : ℕ) → x < letters q → is_solved q solved x ≡ true → All (λ number. number < n) (letter_values q s numbers x)
-  values_below x letter is =
+  values_below : {x : ℕ} → x < letters q → is_solved q solved x ≡ true → All (λ number. number < n) (letter_values q s numbers x)
+  values_below {x} letter is =
       let columns = side_in s (source q x) in
       let size = side_in s (target q x) * columns in
       let f : ℕ → ℕ = λ place. letter_value q s numbers x (place / columns) (place % columns) in
-      let positive = (side_is_object q s quiver shape (source q x) (quiver.source_is_object x letter)).is_side.positive in
+      let positive = (side_is_object q s quiver shape (quiver.source_is_object x letter)).is_side.positive in
       All-from_get_or (λ number. number < n) (letter_values q s numbers x) 0 (λ place inside.
       let within : place < size = subst (λ k. place < k) (length-map-range_with_len f 0 size) inside in
       subst (λ number. number < n) (sym (get_or-map-range_with_len f 0 size place place 0 within (omega arith)))
       (number_below q s solved numbers (number_of_each q s solved) quiver shape declared x letter is (place / columns) (place % columns)
       ((div-lt_iff_lt-mul positive).1 within) (mod-lt place positive)))
 
-  term_fits : (t : ℤ × List ℕ) (place : ℕ) → is_path q u v t.1 ≡ true → position (is_solved q solved) t.1 ≡ Some place
+  term_fits : (t : ℤ × List ℕ) {place : ℕ} → is_path q u v t.1 ≡ true → position (is_solved q solved) t.1 ≡ Some place
       → Fits (term_around q s numbers m u t place)
-  term_fits t place path found =
-      let at = solved_at q solved u v t.1 place path found in
+  term_fits t {place} path found =
+      let at = solved_at q solved u v t.1 path found in
       let x = get_or t.1 place 0 in
       let columns = side_in s (source q x) in
       let size = side_in s (target q x) * columns in
@@ -177,7 +176,7 @@ module _ (q : Quiver) (s : Shape) (solved : List Letter) (quiver : IsQuiver q) (
           right = right.arrow;
           one_each = length-map-range_with_len f 0 size
               ∙ ap₂ ◌*◌ (sym (side_is (target q x)) ∙ sym left.source) (sym (side_is (source q x)) ∙ sym right.target);
-          below = values_below x at.fit.letter at.there;
+          below = values_below at.fit.letter at.there;
         };
         has_sides = record { rows_are = left.target; columns_are = right.source };
       }
@@ -192,4 +191,4 @@ module _ (q : Quiver) (s : Shape) (solved : List Letter) (quiver : IsQuiver q) (
       go : (o : Option ℕ) → position (is_solved q solved) t.1 ≡ o
           → AllByRecursion Fits (listed (option_map (term_around q s numbers m u t) o))
       go None none = tt
-      go (Some place) found = (term_fits t place paths.0 found, tt)
+      go (Some place) found = (term_fits t paths.0 found, tt)

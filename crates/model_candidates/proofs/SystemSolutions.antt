@@ -33,10 +33,10 @@ use Rattle.model_candidates.proofs.LinearRows.{unit_values_below, zero_from_row,
 use Rattle.model_candidates.proofs.SolvedEntries.{length-picked, All-picked, filled-picked, filled_as_drawn, before, before_within, filled_set, picked_set, filled-take, picked-take}
 
 -- a solution shows that each entry can take its value in it
-pub can_take_own : (problem : Problem) (s : Shape) (drawn values : List ℕ) (place : ℕ) → place < length values
+pub can_take_own : {problem : Problem} {s : Shape} {drawn values : List ℕ} {place : ℕ} → place < length values
     → IsSolution problem s drawn values
     → CanTake problem s drawn values place (get_or values place 0)
-can_take_own problem s drawn values place within solution = record {
+can_take_own {problem} {s} {drawn} {values} {place} within solution = record {
   rest = drop (place + 1) values;
   solution = subst (IsSolution problem s drawn) (sym (ap (λ x. x ++ drop (place + 1) values) (sym (take_more values place 0 within))
       ∙ take-append-drop (place + 1) values)) solution;
@@ -79,7 +79,7 @@ module _ (problem : Problem) (s : Shape) (shape : IsShape (object_count problem.
   unit_of_each = length-map-range_with_len unit 0 n
 
   unit_below : (k : ℕ) → All (λ value. value < s.modulus) (unit_values n k)
-  unit_below k = unit_values_below s.modulus n k least
+  unit_below k = unit_values_below n k least
 
   -- the equations
   abbrev factors : ℕ → List ℕ
@@ -111,9 +111,9 @@ module _ (problem : Problem) (s : Shape) (shape : IsShape (object_count problem.
   pub are_values : (values : List ℕ) → length values ≡ n → All (λ value. value < s.modulus) values → AreValues system values
   are_values values one_each below = record { one_each = one_each ∙ sym unit_of_each; below = below }
 
-  row_at : (place : ℕ) → place < length (unit n) → get_or system.rows place (row_by s.modulus (unit n) units place) ≡ row_by s.modulus
+  row_at : {place : ℕ} → place < length (unit n) → get_or system.rows place (row_by s.modulus (unit n) units place) ≡ row_by s.modulus
       (unit n) units place
-  row_at place inside = get_or-map-range_with_len (row_by s.modulus (unit n) units) 0 (length (unit n)) place place
+  row_at {place} inside = get_or-map-range_with_len (row_by s.modulus (unit n) units) 0 (length (unit n)) place place
       (row_by s.modulus (unit n) units place) inside (omega arith)
 
   module _ (values : List ℕ) (is : AreValues system values) where
@@ -146,7 +146,7 @@ module _ (problem : Problem) (s : Shape) (shape : IsShape (object_count problem.
     all_zero holds place = go (cases_lt place (length (unit n)))
       where
         go : (place < length (unit n)) ⊎ (length (unit n) ≤ place) → get_or (numbers values) place 0 ≡ 0
-        go (inl inside) = zero_there place (subst (Holds s.modulus values) (row_at place inside)
+        go (inl inside) = zero_there place (subst (Holds s.modulus values) (row_at inside)
             (All-get_or (Holds s.modulus values) system.rows place (row_by s.modulus (unit n) units place)
             (subst (λ x. place < x) (sym (length-map-range_with_len (row_by s.modulus (unit n) units) 0 (length (unit n)))) inside) holds))
         go (inr past) = get_or_past (numbers values) place 0 (omega (arith, past, same_size))
@@ -178,8 +178,8 @@ module _ (problem : Problem) (s : Shape) (shape : IsShape (object_count problem.
   abbrev Hold : Type 0
   Hold = All (IsZeroAtSignature problem (model_by q s 0 drawn)) conditions
 
-  pub solution_from : Hold → (values : List ℕ) → Solves system values → IsSolution problem s drawn (filled solved drawn values)
-  solution_from hold values solves = record {
+  pub solution_from : Hold → {values : List ℕ} → Solves system values → IsSolution problem s drawn (filled solved drawn values)
+  solution_from hold {values} solves = record {
     one_each = length-filled solved drawn values value_of_each ∙ count;
     below = All-filled (λ value. value < s.modulus) solved drawn values drawn_below solves.are_values.below;
     as_drawn = drawn_by_entries q s problem.parts.solved drawn (filled solved drawn values) (filled_as_drawn solved drawn values);
@@ -195,18 +195,18 @@ module _ (problem : Problem) (s : Shape) (shape : IsShape (object_count problem.
   }
 
   -- the values are the drawn ones, filled with those that are solved for
-  pub solution-filled : (values : List ℕ) → IsSolution problem s drawn values → values ≡ filled solved drawn (picked solved values)
-  solution-filled values solution =
+  pub solution-filled : {values : List ℕ} → IsSolution problem s drawn values → values ≡ filled solved drawn (picked solved values)
+  solution-filled {values} solution =
       filled-picked solved drawn values value_of_each (solution.one_each ∙ sym (flag_of_each q s problem.parts.solved))
       (drawn_by_flags q s problem.parts.solved drawn values solution.as_drawn)
 
-  pub solves_from : (values : List ℕ) → IsSolution problem s drawn values → Solves system (picked solved values)
-  solves_from values solution =
+  pub solves_from : {values : List ℕ} → IsSolution problem s drawn values → Solves system (picked solved values)
+  solves_from {values} solution =
       let chosen = picked solved values in
       let is = are_values chosen (length-picked solved values (solution.one_each ∙ sym (flag_of_each q s problem.parts.solved)))
       (All-picked (λ value. value < s.modulus) solved values solution.below) in
       let filled_in : IsSolution problem s drawn (filled solved drawn chosen) = subst (IsSolution problem s drawn)
-      (solution-filled values solution) solution in
+      (solution-filled solution) solution in
       record {
         are_values = is;
         each_holds = all_hold chosen is (entries_zero problem s shape drawn count drawn_below gs linear chosen
@@ -225,7 +225,7 @@ module _ (problem : Problem) (s : Shape) (shape : IsShape (object_count problem.
     size_of_all = length-filled solved drawn values value_of_each ∙ value_of_each
 
     solution : IsSolution problem s drawn all
-    solution = solution_from hold values greedy.solves
+    solution = solution_from hold greedy.solves
 
     module _ (place : ℕ) (inside : place < length solved) where
       not_solved : get_or solved place false ≡ false → get_or all place 0 ≡ get_or drawn place 0
@@ -248,7 +248,7 @@ module _ (problem : Problem) (s : Shape) (shape : IsShape (object_count problem.
               rest = picked (drop (suc place) solved) can.rest;
               solves = subst (Solves system)
                   (picked_is ∙ sym (append_assoc (take unknown values) (value ∷ []) (picked (drop (suc place) solved) can.rest)))
-                  (solves_from (take place all ++ value ∷ [] ++ can.rest) can.solution);
+                  (solves_from can.solution);
             }
 
         taken_by_entry : (value : ℕ) → of_system.CanTake system values unknown value → CanTake problem s drawn all place value
@@ -260,7 +260,7 @@ module _ (problem : Problem) (s : Shape) (shape : IsShape (object_count problem.
             record {
               rest = rest;
               solution = subst (IsSolution problem s drawn) (filled_is ∙ sym (append_assoc (take place all) (value ∷ []) rest))
-                  (solution_from hold (take unknown values ++ value ∷ [] ++ can.rest) can.solves);
+                  (solution_from hold can.solves);
             }
 
         value_is : get_or all place 0 ≡ get_or values unknown 0
@@ -295,8 +295,7 @@ module _ (problem : Problem) (s : Shape) (shape : IsShape (object_count problem.
         where
           go : (b : Bool) → get_or solved place false ≡ b → get_or all place 0 ≤ value
           go true set = least_if_set set value cannot can
-          go false unset = absurd
-              (cannot (subst (CanTake problem s drawn all place) (not_solved unset) (can_take_own problem s drawn all place
+          go false unset = absurd (cannot (subst (CanTake problem s drawn all place) (not_solved unset) (can_take_own
               (subst (λ x. place < x) (sym size_of_all) inside) solution)))
 
     pub greedy_filled : IsGreedy problem s drawn all

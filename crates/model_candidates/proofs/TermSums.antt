@@ -45,9 +45,6 @@ total_places (suc rows) columns f =
     ∙ ap₂ ◌+◌ (total_places rows columns f) (total_same columns _ (f rows) (λ k inside.
     ap₂ f (div-mul-add rows columns k inside) (mod-mul-add rows columns k inside)))
 
-turned : (b x y : ℕ) → b * (x * y) ≡ x * (b * y)
-turned b x y = grind arith
-
 module _ (q : Quiver) (s : Shape) (solved : List Letter) (drawn : List ℕ) (quiver : IsQuiver q) (shape : IsShape q.objects s)
     (count : length drawn ≡ length (entries_of q s)) (drawn_below : All (λ value. value < s.modulus) drawn)
     (declared : AllByRecursion (λ l. IsDeclared q l.0) solved) (u v : ℕ) (in_u : u < q.objects) (in_v : v < q.objects) (k i j : ℕ) where
@@ -103,7 +100,7 @@ module _ (q : Quiver) (s : Shape) (solved : List Letter) (drawn : List ℕ) (qui
       go (inl inside) =
           let earlier : (l : ℕ) → l < place → is_solved q solved (get_or w l 0) ≡ false = λ l less. fails_before_first (is_solved q solved) w l 0 less in
           let here = passes_at_first (is_solved q solved) w 0 inside in
-          behind_found [] w place inside earlier here ∙ ap (at_place w) (sym (first_place (is_solved q solved) w place inside earlier here))
+          behind_found [] w place inside earlier here ∙ ap (at_place w) (sym (first_place (is_solved q solved) w inside earlier here))
       go (inr all) =
           let none : (l : ℕ) → l < length w → is_solved q solved (get_or w l 0) ≡ false =
           λ l inside. fails_before_first (is_solved q solved) w l 0 (omega (arith, inside, all)) in
@@ -114,9 +111,9 @@ module _ (q : Quiver) (s : Shape) (solved : List Letter) (drawn : List ℕ) (qui
     abbrev sum_of : Option ℕ → ℕ
     sum_of o = terms_factor (listed (option_map (term_around q s numbers m u t) o)) i j k
 
-    one_term : (place : ℕ) → position (is_solved q solved) t.1 ≡ Some place → sum_of (Some place) ≡ residue s.modulus t.0 * at_place t.1 (Some place)
-    one_term place found =
-        let at = solved_at q solved u v t.1 place path found in
+    one_term : {place : ℕ} → position (is_solved q solved) t.1 ≡ Some place → sum_of (Some place) ≡ residue s.modulus t.0 * at_place t.1 (Some place)
+    one_term {place} found =
+        let at = solved_at q solved u v t.1 path found in
         let x = get_or t.1 place 0 in
         let next : place + 1 ≡ suc place = omega arith in
         let rep = represents_at q s solved drawn quiver shape count drawn_below base
@@ -130,7 +127,7 @@ module _ (q : Quiver) (s : Shape) (solved : List Letter) (drawn : List ℕ) (qui
         let rows = side_in s (target q x) in
         let columns = side_in s (source q x) in
         let one : ℕ → ℕ → ℕ = λ r c. cond (eqb (number_at q s solved x r c) k) 1 0 * (entry_at left i r * entry_at right c j) in
-        let positive = (side_is_object q s quiver shape (source q x) (quiver.source_is_object x at.fit.letter)).is_side.positive in
+        let positive = (side_is_object q s quiver shape (quiver.source_is_object x at.fit.letter)).is_side.positive in
         let places : total (left.columns * right.rows) (place_factor (term_around q s numbers m u t place) i j k)
         ≡ total (rows * columns) (λ p. one (p / columns) (p % columns)) =
         ap₂ (λ a b. total (a * b) (λ p. cond (eqb (get_or (term_around q s numbers m u t place).numbers p 0) k) 1 0
@@ -141,7 +138,7 @@ module _ (q : Quiver) (s : Shape) (solved : List Letter) (drawn : List ℕ) (qui
         let turned_all : total rows (λ r. total columns (one r))
         ≡ total rows (λ r. total columns (λ c. entry_at left i r * (cond (eqb (number_at q s solved x r c) k) 1 0 * entry_at right c j))) =
         total_same rows _ _ (λ r in_rows. total_same columns _ _ (λ c in_columns.
-        turned (cond (eqb (number_at q s solved x r c) k) 1 0) (entry_at left i r) (entry_at right c j))) in
+        (grind arith))) in
         let c = residue s.modulus t.0 in
         let alone : c * total (left.columns * right.rows) (place_factor (term_around q s numbers m u t place) i j k) + 0
         ≡ c * total (left.columns * right.rows) (place_factor (term_around q s numbers m u t place) i j k) = omega arith in
@@ -156,8 +153,7 @@ module _ (q : Quiver) (s : Shape) (solved : List Letter) (drawn : List ℕ) (qui
         go None none =
             let nothing : 0 ≡ residue s.modulus t.0 * 0 = grind arith in
             ap sum_of none ∙ nothing ∙ ap (λ o. residue s.modulus t.0 * at_place t.1 o) (sym none)
-        go (Some place) found =
-            ap sum_of found ∙ one_term place found ∙ ap (λ o. residue s.modulus t.0 * at_place t.1 o) (sym found)
+        go (Some place) found = ap sum_of found ∙ one_term found ∙ ap (λ o. residue s.modulus t.0 * at_place t.1 o) (sym found)
 
   -- all terms
   pub terms_sum : (p : List (ℤ × List ℕ)) → AllByRecursion (λ t. is_path q u v t.1 ≡ true) p

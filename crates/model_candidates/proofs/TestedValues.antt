@@ -53,35 +53,34 @@ linear_in_candidate problem number seed k s m other (IsCandidate.drawn _ values 
 linear_in_candidate problem number seed k s m other (IsCandidate.unsolvable _ _ is) = absurd (none-some _ (sym is))
 
 -- the coefficients at the place of a polynomial
-pub residues_at : (m : ℕ) (ps : List Poly) (each : List (List ℕ)) (place : ℕ) (p : Poly) (x : List ℕ) → each ≡ map (λ r. residues m r.terms) ps
+pub residues_at : (m : ℕ) (ps : List Poly) {each : List (List ℕ)} (place : ℕ) {p : Poly} {x : List ℕ} → each ≡ map (λ r. residues m r.terms) ps
     → slice_get ps place ≡ Some p → slice_get each place ≡ Some x → x ≡ residues m p.terms
-residues_at m ps each place p x are is_p is_x =
-    sym (get_or_from_slice_get each place x [] is_x) ∙ ap (λ xs. get_or xs place []) are
+residues_at m ps {each} place {p} {x} are is_p is_x = sym (get_or_from_slice_get each place x [] is_x) ∙ ap (λ xs. get_or xs place []) are
     ∙ get_or-map (λ r. residues m r.terms) ps place p [] (slice_get_within ps place p is_p)
     ∙ ap (λ r. residues m r.terms) (get_or_from_slice_get ps place p p is_p)
 
 module _ (problem : Problem) (m : Model) where
   -- zero at its signature, or anywhere
-  pub zero_tells : (p : Poly) (sig : Sig) → IsTypedOf problem.parts.quiver p sig → HasObjects problem.parts.quiver sig
+  pub zero_tells : (p : Poly) {sig : Sig} → IsTypedOf problem.parts.quiver p sig → HasObjects problem.parts.quiver sig
       → (HasValueZeroAt (matrices m.modulus) (quiver_of problem.parts.quiver) (representation_of (quiver_of problem.parts.quiver) m)
       sig.source.0 sig.target.0 p.terms) ↔ (IsZeroIn problem m p.terms)
-  zero_tells p sig typed ends = (
+  zero_tells p {sig} typed ends = (
     λ vanishes. zero_from_value (matrices m.modulus) (quiver_of problem.parts.quiver) (representation_of (quiver_of problem.parts.quiver) m) p.terms
         p.canonical sig.source.0 sig.target.0 typed vanishes,
     λ zero. zero.at sig.source.0 sig.target.0 ends.source ends.target typed,
   )
 
   -- one of those that are all zero
-  pub zero_at : (ps : List Poly) (place : ℕ) (p : Poly) → AllByRecursion (IsZeroIn problem m) (polynomials ps) → slice_get ps place ≡ Some p
+  pub zero_at : (ps : List Poly) (place : ℕ) {p : Poly} → AllByRecursion (IsZeroIn problem m) (polynomials ps) → slice_get ps place ≡ Some p
       → IsZeroIn problem m p.terms
-  zero_at ps place p all is =
+  zero_at ps place {p} all is =
       all_at (IsZeroIn problem m) (polynomials ps) place p.terms (All-from_recursion (IsZeroIn problem m) (polynomials ps) all)
       (slice_get-map (λ r. r.terms) ps place ∙ ap (option_map (λ r. r.terms)) is)
 
   -- one of the linear ones, which are all zero
-  pub zero_linear : (ps : List Poly) (keep : List (ℤ × List ℕ) → Bool) (place : ℕ) (p : Poly) → slice_get ps place ≡ Some p → keep p.terms ≡ true
+  pub zero_linear : (ps : List Poly) (keep : List (ℤ × List ℕ) → Bool) (place : ℕ) {p : Poly} → slice_get ps place ≡ Some p → keep p.terms ≡ true
       → AllByRecursion (IsZeroIn problem m) (polynomials (filter (λ r. keep r.terms) ps)) → IsZeroIn problem m p.terms
-  zero_linear ps keep place p is kept all =
+  zero_linear ps keep place {p} is kept all =
       let here : get_or (polynomials ps) place [] ≡ p.terms =
       get_or_from_slice_get (polynomials ps) place p.terms [] (slice_get-map (λ r. r.terms) ps place ∙ ap (option_map (λ r. r.terms)) is) in
       subst (IsZeroIn problem m) here

@@ -36,8 +36,7 @@ module _ (flags : List Bool) (place : ℕ) (inside : place < length flags) (set 
   unit_there drawn unknown same =
       let n = set_count flags in
       filled_set flags drawn (unit_values n unknown) place same (length-unit_values n unknown) inside set
-      ∙ unit_at n unknown (before flags place) (before_within flags place inside set)
-      ∙ ap (λ x. cond (eqb x unknown) 1 0) (sym number_there)
+      ∙ unit_at unknown (before_within flags place inside set) ∙ ap (λ x. cond (eqb x unknown) 1 0) (sym number_there)
 
 -- an entry that stands among those of the shape
 pub record IsAmong (q : Quiver) (s : Shape) (x : Entry) : Type 0 where
@@ -48,12 +47,12 @@ among : (q : Quiver) (s : Shape) (a row column : ℕ) → a < letters q → is_d
     → column < side_in s (source q a) → is_kept (is_self q a) row column ≡ true → IsAmong q s (entry a row column)
 among q s a row column letter declared in_rows in_columns kept = record {
   place = _;
-  there = place_of_entry q s a row column letter declared in_rows in_columns kept;
+  there = place_of_entry q s letter declared in_rows in_columns kept;
 }
 
-pub shown_among : (q : Quiver) (s : Shape) → IsQuiver q → (a row column : ℕ) → a < letters q → is_declared_map q a ≡ true
+pub shown_among : {q : Quiver} (s : Shape) → IsQuiver q → {a row column : ℕ} → a < letters q → is_declared_map q a ≡ true
     → row < side_in s (target q a) → column < side_in s (source q a) → IsAmong q s (entry_shown q a row column)
-shown_among q s quiver a row column letter declared in_rows in_columns = go (is_self q a) refl_self (cases_lt column row)
+shown_among {q} s quiver {a} {row} {column} letter declared in_rows in_columns = go (is_self q a) refl_self (cases_lt column row)
   where
     refl_self : is_self q a ≡ is_self q a
     refl_self = λ i. is_self q a
@@ -62,7 +61,7 @@ shown_among q s quiver a row column letter declared in_rows in_columns = go (is_
     go true self (inl less) =
         let square : side_in s (source q a) ≡ side_in s (target q a) =
         ap (side_in s) (ap (source q) (sym (eqb-true (star q a) a self)) ∙ quiver.star_source a letter) in
-        subst (IsAmong q s) (sym (shown_mirrored q a row column self less))
+        subst (IsAmong q s) (sym (shown_mirrored q a self less))
         (among q s a column row letter declared (omega (arith, less, in_rows)) (subst (λ n. row < n) (sym square) in_rows)
         (ap (λ b. not b || nat_le column row) self ∙ le-leb column row (omega (arith, less))))
     go true self (inr behind) =
@@ -118,20 +117,18 @@ module _ (q : Quiver) (s : Shape) (solved : List Letter) (drawn : List ℕ) (cou
     value_below = subst (λ place. value_at (unknown_numbers flags) place < set_count flags) (sym among.there)
         (number_below flags among.place inside set)
 
-  pub unknown_below : IsQuiver q → (a : ℕ) → a < letters q → is_declared_map q a ≡ true → is_solved_map solved a ≡ true → (row column : ℕ)
+  pub unknown_below : IsQuiver q → {a : ℕ} → a < letters q → is_declared_map q a ≡ true → is_solved_map solved a ≡ true → {row column : ℕ}
       → row < side_in s (target q a) → column < side_in s (source q a) → unknown_at a row column < set_count flags
-  unknown_below quiver a letter declared is_solved row column in_rows in_columns =
-      value_below (entry_shown q a row column) (shown_among q s quiver a row column letter declared in_rows in_columns)
+  unknown_below quiver {a} letter declared is_solved {row} {column} in_rows in_columns =
+      value_below (entry_shown q a row column) (shown_among s quiver letter declared in_rows in_columns)
       (ap (is_solved_map solved) (map_shown a row column) ∙ is_solved)
 
-  pub unit_entry : IsQuiver q → (a : ℕ) → a < letters q → is_declared_map q a ≡ true → is_solved_map solved a ≡ true
-      → (unknown row column : ℕ)
-      → row < side_in s (target q a) → column < side_in s (source q a)
+  pub unit_entry : IsQuiver q → {a : ℕ} → a < letters q → is_declared_map q a ≡ true → is_solved_map solved a ≡ true
+      → (unknown : ℕ) {row column : ℕ} → row < side_in s (target q a) → column < side_in s (source q a)
       → entry_at (matrix_by q s (filled flags drawn (unit_values (set_count flags) unknown)) a) row column
       ≡ cond (eqb (unknown_at a row column) unknown) 1 0
-  unit_entry quiver a letter declared is_solved unknown row column in_rows in_columns =
+  unit_entry quiver {a} letter declared is_solved unknown {row} {column} in_rows in_columns =
       let all = filled flags drawn (unit_values (set_count flags) unknown) in
       entry_at-matrix_of s.modulus (side_in s (target q a)) (side_in s (source q a)) (λ i j. value_of_entry q s all (entry_shown q a i j))
-      row column in_rows in_columns
-      ∙ unit_value (entry_shown q a row column) (shown_among q s quiver a row column letter declared in_rows in_columns)
+      row column in_rows in_columns ∙ unit_value (entry_shown q a row column) (shown_among s quiver letter declared in_rows in_columns)
       (ap (is_solved_map solved) (map_shown a row column) ∙ is_solved) unknown

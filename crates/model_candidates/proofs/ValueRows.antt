@@ -31,8 +31,8 @@ use Rattle.model_candidates.proofs.WordProducts.{leads_of_path, word_value-produ
 use Rattle.model_candidates.proofs.WordRows.{is_modulus, product_ends, quiver, represented}
 
 -- all letters of a word
-pub whole_word : (w : List ℕ) (to : ℕ) → to ≡ length w → drop 0 (take to w) ≡ w
-whole_word w to all = take_all to w (omega (arith, all))
+pub whole_word : (w : List ℕ) {to : ℕ} → to ≡ length w → drop 0 (take to w) ≡ w
+whole_word w {to} all = take_all to w (omega (arith, all))
 
 module _ (x : EntryValues) (is : AreTabled x) (u v : ℕ) (in_u : u < (quiver_in x).objects) (in_v : v < (quiver_in x).objects) where
   abbrev q : Quiver
@@ -56,8 +56,8 @@ module _ (x : EntryValues) (is : AreTabled x) (u v : ℕ) (in_u : u < (quiver_in
   pub positive : 0 < m
   positive = let least = (is_modulus x is).at_least in omega (arith, least)
 
-  pub word_leads : (w : List ℕ) (to : ℕ) → to ≡ length w → is_path q u v w ≡ true → leads q u v (drop 0 (take to w)) ≡ true
-  word_leads w to all path = subst (λ xs. leads q u v xs ≡ true) (sym (whole_word w to all)) (leads_of_path q u v w path)
+  pub word_leads : (w : List ℕ) {to : ℕ} → to ≡ length w → is_path q u v w ≡ true → leads q u v (drop 0 (take to w)) ≡ true
+  word_leads w all path = subst (λ xs. leads q u v xs ≡ true) (sym (whole_word w all)) (leads_of_path q u v w path)
 
   pub value_ends : (p : List (ℤ × List ℕ)) → IsArrow (matrices m) columns rows (value_in x u v p)
   value_ends p = value_is_arrow (matrices_laws m) q f (represented x is) u v in_u in_v p
@@ -67,7 +67,7 @@ module _ (x : EntryValues) (is : AreTabled x) (u v : ℕ) (in_u : u < (quiver_in
     word_entry : (w : List ℕ) → is_path q u v w ≡ true → (c : ℤ)
         → entry_at (multiple (matrices m) c (word_value (matrices m) f none w)) i k ≡ (residue m c * entry_at (product_in x u w) i k) % m
     word_entry w path c =
-        let ends = product_ends x is u v w in_u (leads_of_path q u v w path) in
+        let ends = product_ends x is v w in_u (leads_of_path q u v w path) in
         ap (λ y. entry_at (multiple (matrices m) c y) i k) (word_value-product (matrices_laws m) q f (represented x is) u v w none path)
         ∙ multiple_entry m c (product_in x u w) i k positive (subst (λ n. i < n) (sym ends.target) in_rows)
         (subst (λ n. k < n) (sym ends.source) in_columns)
@@ -76,7 +76,7 @@ module _ (x : EntryValues) (is : AreTabled x) (u v : ℕ) (in_u : u < (quiver_in
         → entry_at (value_in x u v p) i k ≡ sum_by (term_entry x u i k) p % m
     value_entry [] paths = entry_at-matrix_of m rows columns (λ row column. 0) i k in_rows in_columns ∙ sym (mod-eq_of_lt positive)
     value_entry (t ∷ p) paths =
-        let ends = product_ends x is u v t.1 in_u (leads_of_path q u v t.1 paths.0) in
+        let ends = product_ends x is v t.1 in_u (leads_of_path q u v t.1 paths.0) in
         let word = word_value (matrices m) f none t.1 in
         let word_is = word_value-product (matrices_laws m) q f (represented x is) u v t.1 none paths.0 in
         let a = multiple (matrices m) t.0 word in
@@ -108,22 +108,22 @@ module _ (x : EntryValues) (is : AreTabled x) (u v : ℕ) (in_u : u < (quiver_in
         sum_by_more (term_entry x u i k) p place t (slice_get_within p place t there)
         ∙ ap (λ y. sum_by (term_entry x u i k) (take place p) + term_entry x u i k y) here
 
-  pub paths_of : (p : List (ℤ × List ℕ)) → IsCanonical p → IsTyped q u v p → AllByRecursion (λ t. is_path q u v t.1 ≡ true) p
-  paths_of p canonical typed = recursion_from_All (λ t. is_path q u v t.1 ≡ true) p (words_are_paths q u v p canonical typed)
+  pub paths_of : {p : List (ℤ × List ℕ)} → IsCanonical p → IsTyped q u v p → AllByRecursion (λ t. is_path q u v t.1 ≡ true) p
+  paths_of {p} canonical typed = recursion_from_All (λ t. is_path q u v t.1 ≡ true) p (words_are_paths q u v p canonical typed)
 
   -- zero, where all entries are
   abbrev IsZeroThere : List (ℤ × List ℕ) → Type 0
   IsZeroThere p = HasValueZeroAt (matrices m) q f u v p
 
-  pub entry_of_zero : (p : List (ℤ × List ℕ)) → IsZeroThere p → (i k : ℕ) → i < rows → k < columns → entry_at (value_in x u v p) i k ≡ 0
-  entry_of_zero p zero i k in_rows in_columns =
+  pub entry_of_zero : (p : List (ℤ × List ℕ)) → IsZeroThere p → {i k : ℕ} → i < rows → k < columns → entry_at (value_in x u v p) i k ≡ 0
+  entry_of_zero p zero {i} {k} in_rows in_columns =
       ap (λ y. entry_at y i k) zero ∙ entry_at-matrix_of m rows columns (λ row column. 0) i k in_rows in_columns
 
   pub zero_by_entries : (p : List (ℤ × List ℕ)) → ((i k : ℕ) → i < rows → k < columns → entry_at (value_in x u v p) i k ≡ 0) → IsZeroThere p
   zero_by_entries p each =
       let ends = value_ends p in
-      let zero = (matrices_laws m).zero_is_arrow columns rows (side_is_object q x.shape.now (quiver x is) is.shape u in_u)
-      (side_is_object q x.shape.now (quiver x is) is.shape v in_v) in
+      let zero = (matrices_laws m).zero_is_arrow columns rows (side_is_object q x.shape.now (quiver x is) is.shape in_u)
+      (side_is_object q x.shape.now (quiver x is) is.shape in_v) in
       same_matrix m (value_in x u v p) none ends.arrow zero.arrow ends.target ends.source (λ i k in_rows in_columns.
       each i k (subst (λ n. i < n) ends.target in_rows) (subst (λ n. k < n) ends.source in_columns)
       ∙ sym (entry_at-matrix_of m rows columns (λ row column. 0) i k (subst (λ n. i < n) ends.target in_rows)

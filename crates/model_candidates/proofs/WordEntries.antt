@@ -53,7 +53,7 @@ module _ (q : Quiver) (s : Shape) (solved : List Letter) (drawn : List ℕ) (qui
       let right = product_is_arrow laws q (at values) rep u (source q x) r in_u fit.behind in
       let between = rep.arrows x fit.letter in
       let letter = arrow_of q (model_at q s solved drawn values) x in
-      ap (λ y. entry_at y i j) (word_value-letter laws q (at values) rep quiver u v l x r none in_u path)
+      ap (λ y. entry_at y i j) (word_value-letter laws q (at values) rep quiver v l x r none in_u path)
       ∙ triple_entry s.modulus (product_at (target q x) l values) letter (product_at u r values) i j (left.source ∙ sym between.target)
       (subst (λ n. i < n) (sym left.target) in_rows) (subst (λ n. j < n) (sym right.source) in_columns)
       ∙ ap₂ (λ y z. entry_sum s.modulus y letter z i j % s.modulus)

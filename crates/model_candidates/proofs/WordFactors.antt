@@ -37,7 +37,7 @@ module _ (q : Quiver) (s : Shape) (solved : List Letter) (drawn : List ℕ) (qui
   at values = representation_of q (model_at q s solved drawn values)
 
   pub unit_below : (unknown : ℕ) → All (λ value. value < s.modulus) (unit unknown)
-  unit_below unknown = unit_values_below s.modulus unknowns unknown (modulus_of_shape q s quiver shape).at_least
+  unit_below unknown = unit_values_below unknowns unknown (modulus_of_shape q s quiver shape).at_least
 
   -- the products of what stands before and behind a letter, over the places of the unknown
   abbrev pub letter_factor : (left right : Matrix) → ℕ → ℕ → ℕ → ℕ → ℕ
@@ -45,9 +45,9 @@ module _ (q : Quiver) (s : Shape) (solved : List Letter) (drawn : List ℕ) (qui
       total (side_in s (target q x)) (λ row. total (side_in s (source q x)) (λ column.
       entry_at left i row * (cond (eqb (number_at q s solved x row column) unknown) 1 0 * entry_at right column j)))
 
-  letter_sum : (left right : Matrix) (x unknown i j : ℕ) → x < letters q → is_solved q solved x ≡ true
+  letter_sum : (left right : Matrix) {x : ℕ} (unknown i j : ℕ) → x < letters q → is_solved q solved x ≡ true
       → entry_sum s.modulus left (arrow_of q (model_at q s solved drawn (unit unknown)) x) right i j ≡ letter_factor left right x unknown i j
-  letter_sum left right x unknown i j letter is =
+  letter_sum left right {x} unknown i j letter is =
       let between = arrow_of q (model_at q s solved drawn (unit unknown)) x in
       let ends = (represents_at q s solved drawn quiver shape count drawn_below (unit unknown) (unit_below unknown)).arrows x letter in
       let term : ℕ → ℕ → ℕ = λ row column. entry_at left i row * (entry_at between row column * entry_at right column j) in
@@ -56,11 +56,11 @@ module _ (q : Quiver) (s : Shape) (solved : List Letter) (drawn : List ℕ) (qui
       ap (λ n. total n (term row)) ends.source
       ∙ total_same (side_in s (source q x)) (term row) _ (λ column in_columns.
       ap (λ y. entry_at left i row * (y * entry_at right column j))
-      (letter_entry q s solved drawn count quiver shape declared x letter is unknown row column in_rows in_columns)))
+      (letter_entry q s solved drawn count quiver shape declared letter is unknown in_rows in_columns)))
 
   -- no unknown has the number of all
-  no_unknown : (left right : Matrix) (x i j : ℕ) → x < letters q → is_solved q solved x ≡ true → letter_factor left right x unknowns i j ≡ 0
-  no_unknown left right x i j letter is =
+  no_unknown : (left right : Matrix) {x : ℕ} (i j : ℕ) → x < letters q → is_solved q solved x ≡ true → letter_factor left right x unknowns i j ≡ 0
+  no_unknown left right {x} i j letter is =
       total_zero (side_in s (target q x)) _ (λ row in_rows. total_zero (side_in s (source q x)) _ (λ column in_columns.
       let small = number_below q s solved drawn count quiver shape declared x letter is row column in_rows in_columns in
       let number = number_at q s solved x row column in
@@ -92,12 +92,12 @@ module _ (q : Quiver) (s : Shape) (solved : List Letter) (drawn : List ℕ) (qui
           ∙ later (sym (count_without q s solved drawn quiver shape count drawn_below a before first) ∙ none)
 
   -- with one solved letter
-  pub factor_one : (u v : ℕ) (before w : List ℕ) (none : Matrix) (unknown i j : ℕ) → u < q.objects → is_path q u v (before ++ w) ≡ true
+  pub factor_one : {u : ℕ} (v : ℕ) (before w : List ℕ) (none : Matrix) (unknown i j : ℕ) → u < q.objects → is_path q u v (before ++ w) ≡ true
       → solved_count q solved before ≡ 0 → solved_count q solved w ≡ 1 → i < side_in s v → j < side_in s u
       → word_entry_at unknown (before ++ w) none i j ≡ factor_behind u unknown i j before w % s.modulus
-  factor_one u v before [] none unknown i j in_u path unsolved one in_rows in_columns = absurd (omega (arith, one))
-  factor_one u v before (x ∷ w) none unknown i j in_u path unsolved one in_rows in_columns =
-      go (is_solved q solved x) refl (factor_one u v (before ++ x ∷ []) w none unknown i j in_u)
+  factor_one v before [] none unknown i j in_u path unsolved one in_rows in_columns = absurd (omega (arith, one))
+  factor_one {u} v before (x ∷ w) none unknown i j in_u path unsolved one in_rows in_columns =
+      go (is_solved q solved x) refl (factor_one v (before ++ x ∷ []) w none unknown i j in_u)
     where
       first : ℕ
       first = letter_factor (product_at q s solved drawn quiver shape count drawn_below (target q x) before (unit unknowns))
@@ -113,7 +113,7 @@ module _ (q : Quiver) (s : Shape) (solved : List Letter) (drawn : List ℕ) (qui
           word_entry q s solved drawn quiver shape count drawn_below u v before x w none in_u path unsolved rest (unit unknowns) (unit unknown) (unit_below unknown)
           i j in_rows in_columns
           ∙ ap (λ y. y % s.modulus) (letter_sum (product_at q s solved drawn quiver shape count drawn_below (target q x) before (unit unknowns))
-          (product_at q s solved drawn quiver shape count drawn_below u w (unit unknowns)) x unknown i j (fit_letter q u v before x w path).letter is)
+          (product_at q s solved drawn quiver shape count drawn_below u w (unit unknowns)) unknown i j (fit_letter q u v before x w path).letter is)
       go false is later =
           let same = append_assoc before (x ∷ []) w in
           ap (λ y. word_entry_at unknown y none i j) (sym same)
@@ -143,5 +143,5 @@ module _ (q : Quiver) (s : Shape) (solved : List Letter) (drawn : List ℕ) (qui
           (product_at q s solved drawn quiver shape count drawn_below u w (unit unknowns)) x unknowns i j) (factor_behind u unknowns i j (before ++ x ∷ []) w) ≡ 0
       go true is later =
           no_unknown (product_at q s solved drawn quiver shape count drawn_below (target q x) before (unit unknowns))
-          (product_at q s solved drawn quiver shape count drawn_below u w (unit unknowns)) x i j (fit_letter q u v before x w path).letter is
+          (product_at q s solved drawn quiver shape count drawn_below u w (unit unknowns)) i j (fit_letter q u v before x w path).letter is
       go false is later = later (subst (λ y. is_path q u v y ≡ true) (sym (append_assoc before (x ∷ []) w)) path)

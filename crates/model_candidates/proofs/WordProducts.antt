@@ -57,22 +57,22 @@ module _ {Object Arrow : Type 0} {s : Structure Object Arrow} (laws : Preadditiv
   word_value-product u v (a ∷ w) none path = path_value-product u v a w path
 
   -- two words
-  product-append : (u t v : ℕ) (l r : List ℕ) → u < q.objects → t < q.objects → leads q t v l ≡ true → leads q u t r ≡ true
+  product-append : {u t : ℕ} (v : ℕ) (l r : List ℕ) → u < q.objects → t < q.objects → leads q t v l ≡ true → leads q u t r ≡ true
       → letters_product s f u (l ++ r) ≡ s.compose (letters_product s f t l) (letters_product s f u r)
-  product-append u t v [] r in_u in_t left right =
+  product-append {u} {t} v [] r in_u in_t left right =
       sym (laws.identity_left (f.object u) (f.object t) (letters_product s f u r) (product_is_arrow u t r in_u right))
-  product-append u t v (a ∷ l) r in_u in_t left right =
+  product-append {u} {t} v (a ∷ l) r in_u in_t left right =
       let first = step q t v a l left in
-      ap (s.compose (f.arrow a)) (product-append u t (source q a) l r in_u in_t first.rest right)
+      ap (s.compose (f.arrow a)) (product-append (source q a) l r in_u in_t first.rest right)
       ∙ sym (laws.compose_assoc (f.object u) (f.object t) (f.object (source q a)) (f.object v) (f.arrow a) (letters_product s f t l) (letters_product s f u r)
       (letter_is_arrow laws q f rep v a first.letter first.target) (product_is_arrow t (source q a) l in_t first.rest)
       (product_is_arrow u t r in_u right))
 
   -- at a letter
-  pub word_value-letter : IsQuiver q → (u v : ℕ) (l : List ℕ) (x : ℕ) (r : List ℕ) (none : Arrow) → u < q.objects
+  pub word_value-letter : IsQuiver q → {u : ℕ} (v : ℕ) (l : List ℕ) (x : ℕ) (r : List ℕ) (none : Arrow) → u < q.objects
       → is_path q u v (l ++ x ∷ r) ≡ true
       → word_value s f none (l ++ x ∷ r) ≡ s.compose (letters_product s f (target q x) l) (s.compose (f.arrow x) (letters_product s f u r))
-  word_value-letter quiver u v l x r none in_u path =
+  word_value-letter quiver {u} v l x r none in_u path =
       let fit = fit_letter q u v l x r path in
       word_value-product u v (l ++ x ∷ r) none path
-      ∙ product-append u (target q x) v l (x ∷ r) in_u (quiver.target_is_object x fit.letter) fit.before fit.whole
+      ∙ product-append v l (x ∷ r) in_u (quiver.target_is_object x fit.letter) fit.before fit.whole

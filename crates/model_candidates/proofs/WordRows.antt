@@ -42,16 +42,16 @@ flipped i k = go (cases_eq i k)
     go (inl same) = eq-eqb i k same ∙ sym (eq-eqb k i (sym same))
     go (inr other) = ne_eqb i k other ∙ sym (ne_eqb k i (λ same. other (sym same)))
 
-pub identity_entry : (m side i k : ℕ) → i < side → k < side → entry_at (identity_matrix m side) i k ≡ cond (eqb i k) 1 0
-identity_entry m side i k in_rows in_columns =
+pub identity_entry : (m : ℕ) {side i k : ℕ} → i < side → k < side → entry_at (identity_matrix m side) i k ≡ cond (eqb i k) 1 0
+identity_entry m {side} {i} {k} in_rows in_columns =
     entry_at-matrix_of m side side (λ row column. cond (eqb row column) 1 0) i k in_rows in_columns
 
 -- a row times an identity
-pub row_times_identity : (m side : ℕ) (row : List ℕ) (k : ℕ) → k < side → get_or row k 0 < m
+pub row_times_identity : {m side : ℕ} (row : List ℕ) {k : ℕ} → k < side → get_or row k 0 < m
     → total side (λ j. get_or row j 0 * entry_at (identity_matrix m side) j k) % m ≡ get_or row k 0
-row_times_identity m side row k inside below =
+row_times_identity {m} {side} row {k} inside below =
     ap (λ x. x % m) (total_same side _ (λ j. cond (eqb k j) 1 0 * get_or row j 0) (λ j within.
-    ap (λ x. get_or row j 0 * x) (identity_entry m side j k within inside ∙ ap (λ b. cond b 1 0) (flipped j k))
+    ap (λ x. get_or row j 0 * x) (identity_entry m within inside ∙ ap (λ b. cond b 1 0) (flipped j k))
     ∙ mul_comm (get_or row j 0) (cond (eqb k j) 1 0))
     ∙ total_pick side k (λ j. get_or row j 0) inside)
     ∙ mod-eq_of_lt below
@@ -109,11 +109,11 @@ module _ (x : EntryValues) (is : AreTabled x) where
       represents q quiver (model_in x) (model_by_is_model q x.shape.now quiver is.shape 0 x.values.now)
       (model_by_has_matrices q x.shape.now quiver is.shape x.values.now is.values.one_each is.values.below 0)
 
-  pub letter_ends : (a : ℕ) → a < letters q → IsArrow (matrices m) (side (source q a)) (side (target q a)) (matrix_in x a)
-  letter_ends a letter = represented.arrows a letter
+  pub letter_ends : {a : ℕ} → a < letters q → IsArrow (matrices m) (side (source q a)) (side (target q a)) (matrix_in x a)
+  letter_ends {a} letter = represented.arrows a letter
 
-  pub product_ends : (u v : ℕ) (w : List ℕ) → u < q.objects → leads q u v w ≡ true → IsArrow (matrices m) (side u) (side v) (product_in x u w)
-  product_ends u v w in_u path = product_is_arrow (matrices_laws m) q (representation_of q (model_in x)) represented u v w in_u path
+  pub product_ends : {u : ℕ} (v : ℕ) (w : List ℕ) → u < q.objects → leads q u v w ≡ true → IsArrow (matrices m) (side u) (side v) (product_in x u w)
+  product_ends {u} v w in_u path = product_is_arrow (matrices_laws m) q (representation_of q (model_in x)) represented u v w in_u path
 
   -- entries of a row, and zeros behind them
   pub entry_below : (row : List ℕ) (k : ℕ) → All (λ entry. entry < m) row → get_or row k 0 < m
@@ -124,25 +124,24 @@ module _ (x : EntryValues) (is : AreTabled x) where
       go (inr past) = subst (λ e. e < m) (sym (get_or_past row k 0 past)) (let least = is_modulus.at_least in omega (arith, least))
 
   -- letters
-  pub letter_inside : (a : ℕ) → a < letter_count x.problem.now.parts.quiver → a < letters q
-  letter_inside a inside = subst (λ n. a < n) (sym (letters-quiver_of x.problem.now.parts.quiver)) inside
+  pub letter_inside : {a : ℕ} → a < letter_count x.problem.now.parts.quiver → a < letters q
+  letter_inside {a} inside = subst (λ n. a < n) (sym (letters-quiver_of x.problem.now.parts.quiver)) inside
 
-  pub letter_counted : (a : ℕ) → a < letters q → a < letter_count x.problem.now.parts.quiver
-  letter_counted a inside = subst (λ n. a < n) (letters-quiver_of x.problem.now.parts.quiver) inside
+  pub letter_counted : {a : ℕ} → a < letters q → a < letter_count x.problem.now.parts.quiver
+  letter_counted {a} inside = subst (λ n. a < n) (letters-quiver_of x.problem.now.parts.quiver) inside
 
-  pub tables_long : (a : ℕ) → a < letters q → (place : ℕ) → place ≡ a → place < length x.tables.now
-  tables_long a letter place same =
+  pub tables_long : {a : ℕ} → a < letters q → {place : ℕ} → place ≡ a → place < length x.tables.now
+  tables_long letter {place} same =
       subst (λ n. place < n) (sym (ap length is.tables ∙ length-map-range_with_len (letter_table q x.shape.now) 0 (letters q)))
       (subst (λ n. n < letters q) (sym same) letter)
 
   module _ (a : ℕ) (letter : a < letters q) (found : Option LetterTable) (read : found ≡ letter_table q x.shape.now a) where
-    pub fits_letter : (t : LetterTable) → found ≡ Some t → FitsLetter x a t
-    fits_letter t some =
+    pub fits_letter : {t : LetterTable} → found ≡ Some t → FitsLetter x a t
+    fits_letter some =
         let s = x.shape.now in
-        let has = has_table q s a t (sym read ∙ some) in
+        let has = has_table q s a (sym read ∙ some) in
         record {
-          table = subst (IsTable (length x.values.now)) (sym has.same)
-              (is_table q quiver s is.shape a letter has.map (length x.values.now) is.values.one_each);
+          table = subst (IsTable (length x.values.now)) (sym has.same) (is_table q quiver s is.shape a letter has.map is.values.one_each);
           rows = ap (λ y. y.rows) has.same;
           columns = ap (λ y. y.columns) has.same;
           entries = λ i j in_rows in_columns.
@@ -160,16 +159,16 @@ module _ (x : EntryValues) (is : AreTabled x) where
           target_is = quiver.identity_target a identity;
         }
 
-  pub side_few : (v : ℕ) → v < q.objects → side v ≤ shape_side_limit
-  side_few v inside =
+  pub side_few : {v : ℕ} → v < q.objects → side v ≤ shape_side_limit
+  side_few {v} inside =
       (All-get_or IsSide x.shape.now.sides v 1 (subst (λ n. v < n) (sym is.shape.side_of_each) inside) is.shape.sides).most
 
   -- a letter's matrix has few entries
-  pub few_numbers : (numbers : List ℕ) (a : ℕ) → a < letters q → length (letter_values q x.shape.now numbers a) ≤ shape_side_limit * shape_side_limit
-  few_numbers numbers a letter =
+  pub few_numbers : (numbers : List ℕ) {a : ℕ} → a < letters q → length (letter_values q x.shape.now numbers a) ≤ shape_side_limit * shape_side_limit
+  few_numbers numbers {a} letter =
       let size = side (target q a) * side (source q a) in
       subst (λ n. n ≤ shape_side_limit * shape_side_limit) (sym (length-map-range_with_len _ 0 size))
-      (mul-le _ _ _ _ (side_few (target q a) (quiver.target_is_object a letter)) (side_few (source q a) (quiver.source_is_object a letter)))
+      (mul-le _ _ _ _ (side_few (quiver.target_is_object a letter)) (side_few (quiver.source_is_object a letter)))
 
   -- the product of a letter and more
   product_entry : (u v a : ℕ) (w : List ℕ) → u < q.objects → leads q u v (a ∷ w) ≡ true → (i k : ℕ) → i < side v → k < side u
@@ -177,8 +176,8 @@ module _ (x : EntryValues) (is : AreTabled x) where
       ≡ total (side (source q a)) (λ j. entry_at (matrix_in x a) i j * entry_at (product_in x u w) j k) % m
   product_entry u v a w in_u path i k in_rows in_columns =
       let first = step q u v a w path in
-      let left = letter_ends a first.letter in
-      let right = product_ends u (source q a) w in_u first.rest in
+      let left = letter_ends first.letter in
+      let right = product_ends (source q a) w in_u first.rest in
       let sum : ℕ → ℕ → ℕ → ℕ = λ n row column. total n (λ j. entry_at (matrix_in x a) row j * entry_at (product_in x u w) j column) in
       entry_at-matrix_of m (matrix_in x a).rows (product_in x u w).columns (λ row column. sum (matrix_in x a).columns row column % m) i k
       (subst (λ n. i < n) (sym (left.target ∙ ap side first.target)) in_rows) (subst (λ n. k < n) (sym right.source) in_columns)
@@ -189,21 +188,20 @@ module _ (x : EntryValues) (is : AreTabled x) where
     front = take to w
 
     -- the letter at a place
-    pub step_at : (place middle : ℕ) → place < to → leads q u middle (drop place front) ≡ true
+    pub step_at : {place : ℕ} (middle : ℕ) → place < to → leads q u middle (drop place front) ≡ true
         → Step q u middle (get_or w place 0) (drop (place + 1) front)
-    step_at place middle before path =
-        step q u middle (get_or w place 0) (drop (place + 1) front)
-        (subst (λ xs. leads q u middle xs ≡ true) (letters_from w place to before within) path)
+    step_at {place} middle before path = step q u middle (get_or w place 0) (drop (place + 1) front)
+        (subst (λ xs. leads q u middle xs ≡ true) (letters_from w before within) path)
 
     -- the row of the first letter
-    pub so_far_first : (row : List ℕ) → from < to → leads q u v (drop from front) ≡ true → i < side v
+    pub so_far_first : {row : List ℕ} → from < to → leads q u v (drop from front) ≡ true → i < side v
         → IsRow (matrix_in x (get_or w from 0)) i (side (source q (get_or w from 0))) row → All (λ entry. entry < m) row
         → IsSoFar x u i front from (from + 1) row
-    so_far_first row before path in_rows row_is below =
+    so_far_first {row} before path in_rows row_is below =
         let a = get_or w from 0 in
         let rest = drop (from + 1) front in
-        let here = letters_from w from to before within in
-        let first = step_at from v before path in
+        let here = letters_from w before within in
+        let first = step_at v before path in
         record {
           middle = source q a;
           path = first.rest;
@@ -217,15 +215,15 @@ module _ (x : EntryValues) (is : AreTabled x) where
         }
 
     -- with one more letter
-    pub so_far_next : (place : ℕ) (row next : List ℕ) → place < to → IsSoFar x u i front from place row
+    pub so_far_next : {place : ℕ} {row next : List ℕ} → place < to → IsSoFar x u i front from place row
         → ((k : ℕ) → k < side (source q (get_or w place 0)) → get_or next k 0
         ≡ total (side (target q (get_or w place 0))) (λ j. get_or row j 0 * entry_at (matrix_in x (get_or w place 0)) j k) % m)
         → All (λ entry. entry < m) next → IsSoFar x u i front from (place + 1) next
-    so_far_next place row next before now next_is below =
+    so_far_next {place} {row} {next} before now next_is below =
         let a = get_or w place 0 in
         let rest = drop (place + 1) front in
-        let here = letters_from w place to before within in
-        let first = step_at place now.middle before now.path in
+        let here = letters_from w before within in
+        let first = step_at now.middle before now.path in
         let after : ℕ → ℕ → ℕ = λ j k. entry_at (product_in x u rest) j k in
         let inner : ℕ → ℕ → ℕ = λ l k. total (side (source q a)) (λ j. entry_at (matrix_in x a) l j * after j k) % m in
         record {
@@ -247,20 +245,20 @@ module _ (x : EntryValues) (is : AreTabled x) where
         }
 
     -- with all letters
-    pub so_far_all : (row : List ℕ) → IsSoFar x u i front from to row → IsRow (product_in x u (drop from front)) i (side u) row
-    so_far_all row now k in_columns =
+    pub so_far_all : {row : List ℕ} → IsSoFar x u i front from to row → IsRow (product_in x u (drop from front)) i (side u) row
+    so_far_all {row} now k in_columns =
         let none : drop to front ≡ [] = drop_all to front (omega (arith, length-take-le to w within)) in
         let same : u ≡ now.middle = eqb-true u now.middle (subst (λ xs. leads q u now.middle xs ≡ true) none now.path) in
-        sym (row_times_identity m (side u) row k in_columns (entry_below row k now.below))
+        sym (row_times_identity row in_columns (entry_below row k now.below))
         ∙ ap (λ t. total (side t) (λ j. get_or row j 0 * entry_at (product_in x u []) j k) % m) same
         ∙ ap (λ xs. total (side now.middle) (λ j. get_or row j 0 * entry_at (product_in x u xs) j k) % m) (sym none)
         ∙ now.each k in_columns
 
   -- with no letter
-  pub unit_is_row : (u v i : ℕ) (w : List ℕ) (from to : ℕ) (row : List ℕ) → to ≤ length w → from ≡ to → leads q u v (drop from (take to w)) ≡ true → i < side v
+  pub unit_is_row : (u v : ℕ) {i : ℕ} (w : List ℕ) {from to : ℕ} (row : List ℕ) → to ≤ length w → from ≡ to → leads q u v (drop from (take to w)) ≡ true → i < side v
       → ((k : ℕ) → get_or row k 0 ≡ cond (eqb i k) 1 0) → IsRow (product_in x u (drop from (take to w))) i (side u) row
-  unit_is_row u v i w from to row within all path in_rows unit k in_columns =
+  unit_is_row u v {i} w {from} {to} row within all path in_rows unit k in_columns =
       let none : drop from (take to w) ≡ [] = drop_all from (take to w) (omega (arith, length-take-le to w within, all)) in
       let same : u ≡ v = eqb-true u v (subst (λ xs. leads q u v xs ≡ true) none path) in
-      unit k ∙ sym (identity_entry m (side u) i k (subst (λ t. i < side t) (sym same) in_rows) in_columns)
+      unit k ∙ sym (identity_entry m (subst (λ t. i < side t) (sym same) in_rows) in_columns)
       ∙ ap (λ xs. entry_at (product_in x u xs) i k) (sym none)

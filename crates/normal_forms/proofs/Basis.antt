@@ -110,10 +110,7 @@ module _ (p : Parts) (rules : List Rule) (b : IsBasis p rules) where
               let led = led_is (letter_count p.quiver) (asked_cmp p.order) order_rank (asked_cmp-admissible (letter_count p.quiver) p.order) g
               (rule_at-all (IsRule (letter_count p.quiver) (asked_cmp p.order)) rules i g numbered b.are_rules) in
               let none : pos (led_of g).leading ≡ pos 0 = sym led.at_lead ∙ zero in
-              absurd (above (led_of g).leading led.positive none)
-            where
-              above : (n : ℕ) → 0 < n → pos n ≡ pos 0 → ⊥
-              above n positive e = omega (arith, ints, e, positive)
+              absurd (omega (arith, ints, none, led.positive))
 
           occurs : (w : Word) → is_lower (led_of g) w ≡ true → coefficient_of g.poly.terms w ≢ pos 0
           occurs w lower zero =
@@ -121,10 +118,9 @@ module _ (p : Parts) (rules : List Rule) (b : IsBasis p rules) where
               true≢false (sym parts.1 ∙ ap not ((Decides-int_eq (coefficient_of g.poly.terms w) (pos 0)).1 zero))
 
   -- what is in the rational ideal is a sum of rows over the rules
-  ideal_rows : (f : List Term) → HasSignature q f → InRationalIdeal (polynomials_of rules) f
+  ideal_rows : {f : List Term} → HasSignature q f → InRationalIdeal (polynomials_of rules) f
       → Span (AnyRow (word_order p rules b.are_rules) (word_rules p rules b.are_rules)) (coefficient_of f)
-  ideal_rows f typed inside =
-      free_span (word_order p rules b.are_rules) (leds_of rules)
+  ideal_rows {f} typed inside = free_span (word_order p rules b.are_rules) (leds_of rules)
       (leds_are (letter_count p.quiver) (asked_cmp p.order) order_rank (asked_cmp-admissible (letter_count p.quiver) p.order) rules b.are_rules) f
       (λ w some. path_range typed.source typed.target w (typed.typed.at w some))
       (subst (λ ps. Span (Numbered ps Free) (coefficient_of f)) (sym (polys_of-leds rules)) (ideal_span (polynomials_of rules) f inside))
@@ -146,7 +142,7 @@ module _ (p : Parts) (rules : List Rule) (b : IsBasis p rules) where
   generators_rows : (fs : List (List Term)) → AllByRecursion (HasSignature q) fs → All Inside fs
       → AllByRecursion (λ f. Span (AnyRow (word_order p rules b.are_rules) (word_rules p rules b.are_rules)) (coefficient_of f)) fs
   generators_rows [] typed inside = tt
-  generators_rows (f ∷ fs) typed inside = (ideal_rows f typed.0 (All-head Inside f fs inside), generators_rows fs typed.1 (All-tail Inside f fs inside))
+  generators_rows (f ∷ fs) typed inside = (ideal_rows typed.0 (All-head Inside f fs inside), generators_rows fs typed.1 (All-tail Inside f fs inside))
 
   generators_have_signatures : AllByRecursion (HasSignature q) (generators_in p)
   generators_have_signatures = generators_typed q quiver p.starred (numbers p.marked) (polynomials p.assumptions) (marked_are_objects p b.posed)
@@ -183,18 +179,18 @@ module _ (p : Parts) (rules : List Rule) (b : IsBasis p rules) where
   Plays f = AllByRecursion (λ t. AllPlay play t.1) f
 
   -- what is in the rational ideal of the rules has the value zero
-  pub inside_is_zero : (f : List Term) → Plays f → HasSignature q f → InRationalIdeal (polynomials_of rules) f
+  pub inside_is_zero : {f : List Term} → Plays f → HasSignature q f → InRationalIdeal (polynomials_of rules) f
       → HasValueZero (normal_forms p rules) q (forms_representation p rules) f
-  inside_is_zero f plays typed inside =
+  inside_is_zero {f} plays typed inside =
       image_value_zero (exact_forms p rules b.are_rules) (normal_forms p rules) plain exact (is_image p rules b.are_rules b)
       (normal_representation rationals (exact_ground p rules b.are_rules)) (forms_representation p rules)
-      (λ v. refl) (letter_plain p rules b.are_rules) q f
-      (ideal_zero rationals (exact_ground p rules b.are_rules) facts f plays (ideal_rows f typed inside))
+      (λ v. refl) (letter_plain p rules b.are_rules)
+      (ideal_zero rationals (exact_ground p rules b.are_rules) facts f plays (ideal_rows typed inside))
 
   zeros : (fs : List (List Term)) → AllByRecursion Plays fs → AllByRecursion (HasSignature q) fs → All Inside fs
       → AllByRecursion (HasValueZero (normal_forms p rules) q (forms_representation p rules)) fs
   zeros [] plays typed inside = tt
-  zeros (f ∷ fs) plays typed inside = (inside_is_zero f plays.0 typed.0 (All-head Inside f fs inside), zeros fs plays.1 typed.1 (All-tail Inside f fs inside))
+  zeros (f ∷ fs) plays typed inside = (inside_is_zero plays.0 typed.0 (All-head Inside f fs inside), zeros fs plays.1 typed.1 (All-tail Inside f fs inside))
 
   -- Where the letters of the generators and the claim are in play, the normal forms tell a claim outside the rational ideal of the rules from zero.
   pub sharp_means : AllByRecursion Plays (generators_in p) → (claim : List Term) → Plays claim → HasSignature q claim
@@ -202,11 +198,11 @@ module _ (p : Parts) (rules : List Rule) (b : IsBasis p rules) where
   sharp_means generators claim plays typed outside = record {
     tells = record {
       laws = basis_laws;
-      cancels = λ n above. image_cancels (exact_forms p rules b.are_rules) (normal_forms p rules) plain exact (is_image p rules b.are_rules b) (pos n)
-          (normal_cancels rationals (exact_ground p rules b.are_rules) facts n above);
+      cancels = λ n above. image_cancels (exact_forms p rules b.are_rules) (normal_forms p rules) plain exact (is_image p rules b.are_rules b)
+          (normal_cancels rationals (exact_ground p rules b.are_rules) facts above);
       represents = image_represents (exact_forms p rules b.are_rules) (normal_forms p rules) plain exact (is_image p rules b.are_rules b)
           (normal_representation rationals (exact_ground p rules b.are_rules)) (forms_representation p rules)
-          (λ v. refl) (letter_plain p rules b.are_rules) q (normal_represents rationals (exact_ground p rules b.are_rules) facts);
+          (λ v. refl) (letter_plain p rules b.are_rules) (normal_represents rationals (exact_ground p rules b.are_rules) facts);
       zeros = zeros (generators_in p) generators generators_have_signatures b.generated;
       claim = record {
         source = typed.source;
@@ -216,8 +212,7 @@ module _ (p : Parts) (rules : List Rule) (b : IsBasis p rules) where
         typed = typed.typed;
         nonzero = λ none. outside
             (rows_ideal claim
-            (zero_ideal rationals
-            (exact_ground p rules b.are_rules) facts claim typed.source typed.target typed.source_is_object typed.target_is_object plays typed.typed
+            (zero_ideal rationals (exact_ground p rules b.are_rules) facts typed.source_is_object typed.target_is_object plays typed.typed
             (under none)));
       };
     };
@@ -232,4 +227,4 @@ module _ (p : Parts) (rules : List Rule) (b : IsBasis p rules) where
 
 -- The laws hold whatever the rules are: bad ones make no objects.
 pub normal_forms_laws : (p : Parts) (rules : List Rule) → PreadditiveLaws (normal_forms p rules)
-normal_forms_laws p rules = laws_from_premise (normal_forms p rules) (IsBasis p rules) (λ v h. h.1) (λ m h. h.1) (basis_laws p rules)
+normal_forms_laws p rules = laws_from_premise (IsBasis p rules) (λ v h. h.1) (λ m h. h.1) (basis_laws p rules)

@@ -3,7 +3,7 @@ use Rattle.std.proofs.Common.{◌≡◌, ℕ, zero, suc, ℤ, pos, negsuc, Bool,
 use Rattle.std.proofs.lemmas.Bool.{false_from_ne_true}
 use Rattle.definitions.specs.Poly.{Poly}
 use Rattle.definitions.specs.Category.{Structure, IsArrow, PreadditiveLaws, InvolutionLaws}
-use Rattle.definitions.specs.Quiver.{Quiver, IsQuiver, source, target, star, leads, is_path}
+use Rattle.definitions.specs.Quiver.{Quiver, IsQuiver, source, star, leads, is_path}
 use Rattle.definitions.specs.Representation.{Representation, Represents, StarRepresents, Cancels, natural_multiple, multiple, path_value, word_value, value_at}
 use Rattle.definitions.specs.Generators.{adjoint_word, adjoint_poly}
 use Rattle.definitions.proofs.Paths.{step}
@@ -16,14 +16,14 @@ pub both : {A B : Type 0} {a a' : A} {b b' : B} → a ≡ a' → b ≡ b' → �
 both p q = λ i. (p i, q i)
 
 module _ {Object Arrow : Type 0} (s : Structure Object Arrow) where
-  there : (x y : Object) (a : Arrow × Arrow) → IsArrow (both_ways s) x y a → IsArrow s x y a.0
-  there x y a p = record { arrow = p.arrow.0; source = p.source; target = p.target }
+  there : {x y : Object} {a : Arrow × Arrow} → IsArrow (both_ways s) x y a → IsArrow s x y a.0
+  there p = record { arrow = p.arrow.0; source = p.source; target = p.target }
 
   back : (x y : Object) (a : Arrow × Arrow) → IsArrow (both_ways s) x y a → IsArrow s y x a.1
   back x y a p = record { arrow = p.arrow.1.arrow; source = p.arrow.1.source ∙ p.target; target = p.arrow.1.target ∙ p.source }
 
-  join : (x y : Object) (a b : Arrow) → IsArrow s x y a → IsArrow s y x b → IsArrow (both_ways s) x y (a, b)
-  join x y a b p q = record {
+  join : {x y : Object} {a b : Arrow} → IsArrow s x y a → IsArrow s y x b → IsArrow (both_ways s) x y (a, b)
+  join p q = record {
     arrow = (p.arrow, record { arrow = q.arrow; source = q.source ∙ sym p.target; target = q.target ∙ sym p.source });
     source = p.source;
     target = p.target;
@@ -33,32 +33,31 @@ module _ {Object Arrow : Type 0} (s : Structure Object Arrow) where
   both_ways_laws laws = record {
     source_is_object = λ a p. laws.source_is_object a.0 p.0;
     target_is_object = λ a p. laws.target_is_object a.0 p.0;
-    identity_is_arrow = λ x p. join x x (s.identity x) (s.identity x) (laws.identity_is_arrow x p) (laws.identity_is_arrow x p);
-    zero_is_arrow = λ x y p q. join x y (s.zero x y) (s.zero y x) (laws.zero_is_arrow x y p q) (laws.zero_is_arrow y x q p);
-    add_is_arrow = λ x y a b p q. join x y (s.add a.0 b.0) (s.add a.1 b.1) (laws.add_is_arrow x y a.0 b.0 (there x y a p) (there x y b q))
+    identity_is_arrow = λ x p. join (laws.identity_is_arrow x p) (laws.identity_is_arrow x p);
+    zero_is_arrow = λ x y p q. join (laws.zero_is_arrow x y p q) (laws.zero_is_arrow y x q p);
+    add_is_arrow = λ x y a b p q. join (laws.add_is_arrow x y a.0 b.0 (there p) (there q))
         (laws.add_is_arrow y x a.1 b.1 (back x y a p) (back x y b q));
-    negate_is_arrow = λ x y a p. join x y (s.negate a.0) (s.negate a.1) (laws.negate_is_arrow x y a.0 (there x y a p))
-        (laws.negate_is_arrow y x a.1 (back x y a p));
-    compose_is_arrow = λ x y z a b p q. join x z (s.compose a.0 b.0) (s.compose b.1 a.1)
-        (laws.compose_is_arrow x y z a.0 b.0 (there y z a p) (there x y b q)) (laws.compose_is_arrow z y x b.1 a.1 (back x y b q) (back y z a p));
-    compose_assoc = λ w x y z a b c p q r. both (laws.compose_assoc w x y z a.0 b.0 c.0 (there y z a p) (there x y b q) (there w x c r))
+    negate_is_arrow = λ x y a p. join (laws.negate_is_arrow x y a.0 (there p)) (laws.negate_is_arrow y x a.1 (back x y a p));
+    compose_is_arrow = λ x y z a b p q. join
+        (laws.compose_is_arrow x y z a.0 b.0 (there p) (there q)) (laws.compose_is_arrow z y x b.1 a.1 (back x y b q) (back y z a p));
+    compose_assoc = λ w x y z a b c p q r. both (laws.compose_assoc w x y z a.0 b.0 c.0 (there p) (there q) (there r))
         (sym (laws.compose_assoc z y x w c.1 b.1 a.1 (back w x c r) (back x y b q) (back y z a p)));
-    identity_left = λ x y a p. both (laws.identity_left x y a.0 (there x y a p)) (laws.identity_right y x a.1 (back x y a p));
-    identity_right = λ x y a p. both (laws.identity_right x y a.0 (there x y a p)) (laws.identity_left y x a.1 (back x y a p));
-    add_assoc = λ x y a b c p q r. both (laws.add_assoc x y a.0 b.0 c.0 (there x y a p) (there x y b q) (there x y c r))
+    identity_left = λ x y a p. both (laws.identity_left x y a.0 (there p)) (laws.identity_right y x a.1 (back x y a p));
+    identity_right = λ x y a p. both (laws.identity_right x y a.0 (there p)) (laws.identity_left y x a.1 (back x y a p));
+    add_assoc = λ x y a b c p q r. both (laws.add_assoc x y a.0 b.0 c.0 (there p) (there q) (there r))
         (laws.add_assoc y x a.1 b.1 c.1 (back x y a p) (back x y b q) (back x y c r));
-    add_comm = λ x y a b p q. both (laws.add_comm x y a.0 b.0 (there x y a p) (there x y b q)) (laws.add_comm y x a.1 b.1 (back x y a p) (back x y b q));
-    add_zero = λ x y a p. both (laws.add_zero x y a.0 (there x y a p)) (laws.add_zero y x a.1 (back x y a p));
-    add_negate = λ x y a p. both (laws.add_negate x y a.0 (there x y a p)) (laws.add_negate y x a.1 (back x y a p));
-    compose_add_left = λ x y z a b c p q r. both (laws.compose_add_left x y z a.0 b.0 c.0 (there y z a p) (there y z b q) (there x y c r))
+    add_comm = λ x y a b p q. both (laws.add_comm x y a.0 b.0 (there p) (there q)) (laws.add_comm y x a.1 b.1 (back x y a p) (back x y b q));
+    add_zero = λ x y a p. both (laws.add_zero x y a.0 (there p)) (laws.add_zero y x a.1 (back x y a p));
+    add_negate = λ x y a p. both (laws.add_negate x y a.0 (there p)) (laws.add_negate y x a.1 (back x y a p));
+    compose_add_left = λ x y z a b c p q r. both (laws.compose_add_left x y z a.0 b.0 c.0 (there p) (there q) (there r))
         (laws.compose_add_right z y x c.1 a.1 b.1 (back x y c r) (back y z a p) (back y z b q));
-    compose_add_right = λ x y z a b c p q r. both (laws.compose_add_right x y z a.0 b.0 c.0 (there y z a p) (there x y b q) (there x y c r))
+    compose_add_right = λ x y z a b c p q r. both (laws.compose_add_right x y z a.0 b.0 c.0 (there p) (there q) (there r))
         (laws.compose_add_left z y x b.1 c.1 a.1 (back x y b q) (back x y c r) (back y z a p));
   }
 
   pub exchange_laws : InvolutionLaws (both_ways s) exchange
   exchange_laws = record {
-    star_is_arrow = λ x y a p. join y x a.1 a.0 (back x y a p) (there x y a p);
+    star_is_arrow = λ x y a p. join (back x y a p) (there p);
     star_star = λ a p. refl;
     star_compose = λ x y z a b p q. refl;
     star_add = λ x y a b p q. refl;
@@ -85,8 +84,8 @@ module _ {Object Arrow : Type 0} (s : Structure Object Arrow) where
   multiple_back (pos n) a p = natural_back n a p
   multiple_back (negsuc n) a p = ap s.negate (natural_back (suc n) a p)
 
-  pub both_ways_cancels : (d : ℤ) → Cancels s d → Cancels (both_ways s) d
-  both_ways_cancels d cancels = record {
+  pub both_ways_cancels : {d : ℤ} → Cancels s d → Cancels (both_ways s) d
+  both_ways_cancels {d} cancels = record {
     at = λ a p e. both (cancels.at a.0 p.0 (sym (multiple_there d a) ∙ ap (λ z. z.0) e))
         (cancels.at a.1 p.1.arrow (sym (multiple_back d a p) ∙ ap (λ z. z.1) e ∙ zero_back a p) ∙ sym (zero_back a p));
   }
@@ -100,7 +99,7 @@ module _ {Object Arrow : Type 0} {s : Structure Object Arrow} (laws : Preadditiv
   both_ways_represents = record {
     represents = record {
       objects = rep.objects;
-      arrows = λ a h. join s (f.object (source q a)) (f.object (target q a)) (f.arrow a) (f.arrow (star q a)) (rep.arrows a h)
+      arrows = λ a h. join s (rep.arrows a h)
           (subst (λ x. IsArrow s (f.object x) (f.object (source q a)) (f.arrow (star q a))) (quiver.star_source a h)
           (subst (λ y. IsArrow s (f.object (source q (star q a))) (f.object y) (f.arrow (star q a))) (quiver.star_target a h)
           (rep.arrows (star q a) (quiver.star_is_letter a h))));

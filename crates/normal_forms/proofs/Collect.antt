@@ -83,9 +83,9 @@ module _ {K : Type 0} (k : Field K) (o : Sorting) where
   pub alike-collect : (p : Form K) → Alike k (collect p) p
   alike-collect p = record { at = look-collect p }
 
-  after-more : (v w : Word) (p : Form K) → o.below w v ≡ true → After v p → After w p
-  after-more v w [] e h = tt
-  after-more v w (t ∷ p) e h = (o.transitive w v t.1 e h.0, after-more v w p e h.1)
+  after-more : {v : Word} (w : Word) (p : Form K) → o.below w v ≡ true → After v p → After w p
+  after-more w [] e h = tt
+  after-more {v} w (t ∷ p) e h = (o.transitive w v t.1 e h.0, after-more w p e h.1)
 
   form-put : (t : K × Word) (p : Form K) → After t.1 p → IsForm p → IsForm (put_term t p)
   form-put t p h f = go (k.is_none t.0) refl
@@ -109,7 +109,7 @@ module _ {K : Type 0} (k : Field K) (o : Sorting) where
       go : (b : Bool) → word_eq t.1 s.1 ≡ b → (c : Bool) → o.below t.1 s.1 ≡ c → IsForm (insert t p)
           → IsForm (cond b (put_term (k.plus t.0 s.0, s.1) p) (cond c (put_term t (s ∷ p)) (s ∷ insert t p)))
       go true e c h ih = form-put (k.plus t.0 s.0, s.1) p f.1 f.2
-      go false e true h ih = form-put t (s ∷ p) (h, after-more s.1 t.1 p h f.1) f
+      go false e true h ih = form-put t (s ∷ p) (h, after-more t.1 p h f.1) f
       go false e false h ih = (f.0, each-insert (λ u. o.below s.1 u ≡ true) t p (above e h) f.1, ih)
 
   pub form-collect : (p : Form K) → IsForm (collect p)
@@ -131,15 +131,15 @@ module _ {K : Type 0} (k : Field K) (o : Sorting) where
   look_head t p h = ap (λ b. k.plus (k.times t.0 (cond b k.one k.none)) (look k p t.1)) (word_eq-same t.1)
       ∙ ap₂ k.plus (times_one k t.0) (none_before t.1 p h) ∙ k.plus_none t.0
 
-  rests_alike : (t : K × Word) (p q : Form K) → After t.1 p → After t.1 q → Alike k (t ∷ p) (t ∷ q) → Alike k p q
-  rests_alike t p q h j e = record { at = λ w. go w (word_eq t.1 w) refl }
+  rests_alike : {t : K × Word} {p q : Form K} → After t.1 p → After t.1 q → Alike k (t ∷ p) (t ∷ q) → Alike k p q
+  rests_alike {t} {p} {q} h j e = record { at = λ w. go w (word_eq t.1 w) refl }
     where
       go : (w : Word) (b : Bool) → word_eq t.1 w ≡ b → look k p w ≡ look k q w
       go w true i = ap (look k p) (sym (word_eq-true t.1 w i)) ∙ none_before t.1 p h ∙ sym (ap (look k q) (sym (word_eq-true t.1 w i)) ∙ none_before t.1 q j)
       go w false i = sym (look_other w t p i) ∙ e.at w ∙ look_other w t q i
 
-  no_earlier : (t s : K × Word) (p q : Form K) → k.is_none t.0 ≡ false → After t.1 p → After s.1 q → Alike k (t ∷ p) (s ∷ q) → o.below t.1 s.1 ≡ true → ⊥
-  no_earlier t s p q n h j e i = k.is_none_false t.0 n (sym (look_head t p h) ∙ e.at t.1 ∙ none_before t.1 (s ∷ q) (i, after-more s.1 t.1 q i j))
+  no_earlier : {t s : K × Word} {p q : Form K} → k.is_none t.0 ≡ false → After t.1 p → After s.1 q → Alike k (t ∷ p) (s ∷ q) → o.below t.1 s.1 ≡ true → ⊥
+  no_earlier {t} {s} {p} {q} n h j e i = k.is_none_false t.0 n (sym (look_head t p h) ∙ e.at t.1 ∙ none_before t.1 (s ∷ q) (i, after-more t.1 q i j))
 
   pub form_unique : (p q : Form K) → IsForm p → IsForm q → Alike k p q → p ≡ q
   form_unique [] [] f g e = refl
@@ -148,9 +148,9 @@ module _ {K : Type 0} (k : Field K) (o : Sorting) where
   form_unique (t ∷ p) (s ∷ q) f g e = go (o.total t.1 s.1) (form_unique p q f.2 g.2)
     where
       go : (t.1 ≡ s.1) ⊎ ((o.below t.1 s.1 ≡ true) ⊎ (o.below s.1 t.1 ≡ true)) → (Alike k p q → p ≡ q) → ◌≡◌ {A = Form K} (t ∷ p) (s ∷ q)
-      go (inr (inl i)) rest = absurd (no_earlier t s p q f.0 f.1 g.1 e i)
-      go (inr (inr i)) rest = absurd (no_earlier s t q p g.0 g.1 f.1 (record { at = λ w. sym (e.at w) }) i)
+      go (inr (inl i)) rest = absurd (no_earlier f.0 f.1 g.1 e i)
+      go (inr (inr i)) rest = absurd (no_earlier g.0 g.1 f.1 (record { at = λ w. sym (e.at w) }) i)
       go (inl i) rest =
           let first : t.0 ≡ s.0 = sym (look_head t p f.1) ∙ e.at t.1 ∙ ap (look k (s ∷ q)) i ∙ look_head s q g.1 in
           let whole : t ≡ s = λ j. (first j, i j) in
-          ap₂ ◌∷◌ whole (rest (rests_alike t p q f.1 (subst (λ x. After x.1 q) (sym whole) g.1) (subst (λ x. Alike k (t ∷ p) (x ∷ q)) (sym whole) e)))
+          ap₂ ◌∷◌ whole (rest (rests_alike f.1 (subst (λ x. After x.1 q) (sym whole) g.1) (subst (λ x. Alike k (t ∷ p) (x ∷ q)) (sym whole) e)))

@@ -20,16 +20,16 @@ abbrev pub AnyRow : (o : Order) → Rules o → Coefs → Type 0
 AnyRow o g b = (M : Word) × Row o g (everything o) M b
 
 -- a sum of rows over resolved rules that is zero at the top of each row is zero
-no_reducible_word : (o : Order) (g : Rules o) → Resolved o g (everything o) → (f : Coefs)
+no_reducible_word : {o : Order} {g : Rules o} → Resolved o g (everything o) → {f : Coefs}
     → ((N : Word) (b : Coefs) → Row o g (everything o) N b → f N ≡ pos 0) → Span (AnyRow o g) f → (w : Word) → f w ≡ pos 0
-no_reducible_word o g res f top span = go (zero_or_reducible o g (everything o) res f span)
+no_reducible_word {o} {g} res {f} top span = go (zero_or_reducible o g (everything o) res f span)
   where
     go : ((w : Word) → f w ≡ pos 0) ⊎ HasTopRow (setting o g (everything o) res) f → (w : Word) → f w ≡ pos 0
     go (inl zero) = zero
     go (inr found) = absurd (found.occurs (top found.word found.row.0 found.row.1))
 
-pos_mul : (x y : ℕ) → 0 < x → 0 < y → 0 < x * y
-pos_mul x y p q = grind arith
+pos_mul : {x y : ℕ} → 0 < x → 0 < y → 0 < x * y
+pos_mul p q = grind arith
 
 module _ {K : Type 0} (k : Field K) where
   -- the polynomial times c
@@ -54,14 +54,14 @@ module _ {K : Type 0} (k : Field K) where
   pub alike_refl : (p : Form K) → Alike k p p
   alike_refl p = record { at = λ w. refl }
 
-  pub alike_sym : (p q : Form K) → Alike k p q → Alike k q p
-  alike_sym p q e = record { at = λ w. sym (e.at w) }
+  pub alike_sym : {p q : Form K} → Alike k p q → Alike k q p
+  alike_sym e = record { at = λ w. sym (e.at w) }
 
-  pub alike_trans : (p q r : Form K) → Alike k p q → Alike k q r → Alike k p r
-  alike_trans p q r e f = record { at = λ w. e.at w ∙ f.at w }
+  pub alike_trans : {p q r : Form K} → Alike k p q → Alike k q r → Alike k p r
+  alike_trans e f = record { at = λ w. e.at w ∙ f.at w }
 
-  pub alike_same : (p q : Form K) → p ≡ q → Alike k p q
-  alike_same p q e = record { at = λ w. ap (λ z. look k z w) e }
+  pub alike_same : {p q : Form K} → p ≡ q → Alike k p q
+  alike_same e = record { at = λ w. ap (λ z. look k z w) e }
 
   pub alike-swap : (p q : Form K) → Alike k (p ++ q) (q ++ p)
   alike-swap p q = record { at = λ w. sum-append k (λ u. hit k u w) p q ∙ k.plus_comm (look k p w) (look k q w) ∙ sym (sum-append k (λ u. hit k u w) q p) }
@@ -94,65 +94,58 @@ module _ {K : Type 0} (k : Field K) where
     pub cong_refl : (p : Form K) → Cong p p
     cong_refl p = alike p p (alike_refl p)
 
-    pub cong_same : (p q : Form K) → p ≡ q → Cong p q
-    cong_same p q e = alike p q (alike_same p q e)
+    pub cong_same : {p q : Form K} → p ≡ q → Cong p q
+    cong_same {p} {q} e = alike p q (alike_same e)
 
-    pub cong_left : (p' p q : Form K) → Alike k p' p → Cong p q → Cong p' q
-    cong_left p' _ _ e (alike p q f) = alike p' q (alike_trans p' p q e f)
-    cong_left p' _ _ e (rows p s q c l i r h m t f) = rows p' s q c l i r h m t (alike_trans p' p (row c l i r ++ s) e f)
+    pub cong_left : {p' p q : Form K} → Alike k p' p → Cong p q → Cong p' q
+    cong_left {p'} e (alike p q f) = alike p' q (alike_trans e f)
+    cong_left {p'} e (rows p s q c l i r h m t f) = rows p' s q c l i r h m t (alike_trans e f)
 
-    pub cong_trans : (p q t : Form K) → Cong p q → Cong q t → Cong p t
-    cong_trans _ _ t (alike p q f) d = cong_left p q t f d
-    cong_trans _ _ t (rows p s q c l i r h m e f) d = rows p s t c l i r h m (cong_trans s q t e d) f
+    pub cong_trans : {p q t : Form K} → Cong p q → Cong q t → Cong p t
+    cong_trans (alike p q f) d = cong_left f d
+    cong_trans {t} (rows p s q c l i r h m e f) d = rows p s t c l i r h m (cong_trans e d) f
 
-    pub cong_after : (p q t : Form K) → Cong p q → Cong (p ++ t) (q ++ t)
-    cong_after _ _ t (alike p q f) = alike (p ++ t) (q ++ t) (alike-append k p q t t f (alike_refl t))
-    cong_after _ _ t (rows p s q c l i r h m e f) = rows (p ++ t) (s ++ t) (q ++ t) c l i r h m (cong_after s q t e)
-        (alike_trans (p ++ t) ((row c l i r ++ s) ++ t) (row c l i r ++ (s ++ t)) (alike-append k p (row c l i r ++ s) t t f (alike_refl t))
-        (alike_same _ _ (append_assoc (row c l i r) s t)))
+    pub cong_after : {p q : Form K} (t : Form K) → Cong p q → Cong (p ++ t) (q ++ t)
+    cong_after t (alike p q f) = alike (p ++ t) (q ++ t) (alike-append k f (alike_refl t))
+    cong_after t (rows p s q c l i r h m e f) = rows (p ++ t) (s ++ t) (q ++ t) c l i r h m (cong_after t e)
+        (alike_trans (alike-append k f (alike_refl t)) (alike_same (append_assoc (row c l i r) s t)))
 
-    pub cong_append : (p q s t : Form K) → Cong p q → Cong s t → Cong (p ++ s) (q ++ t)
-    cong_append p q s t e f = cong_trans (p ++ s) (q ++ s) (q ++ t) (cong_after p q s e)
-        (cong_left (q ++ s) (s ++ q) (q ++ t) (alike-swap q s)
-        (cong_trans (s ++ q) (t ++ q) (q ++ t) (cong_after s t q f) (alike (t ++ q) (q ++ t) (alike-swap t q))))
+    pub cong_append : {p q s t : Form K} → Cong p q → Cong s t → Cong (p ++ s) (q ++ t)
+    cong_append {q} {s} {t} e f = cong_trans (cong_after s e) (cong_left (alike-swap q s)
+        (cong_trans (cong_after q f) (alike (t ++ q) (q ++ t) (alike-swap t q))))
 
-    pub cong_scaled : (d : K) (p q : Form K) → Cong p q → Cong (scaled k d p) (scaled k d q)
-    cong_scaled d _ _ (alike p q f) = alike _ _ (alike-scaled k d p q f)
-    cong_scaled d _ _ (rows p s q c l i r h m e f) = rows (scaled k d p) (scaled k d s) (scaled k d q) (k.times d c) l i r h m (cong_scaled d s q e)
-        (alike_trans (scaled k d p) (scaled k d (row c l i r ++ s)) (row (k.times d c) l i r ++ scaled k d s) (alike-scaled k d p (row c l i r ++ s) f)
-        (alike_same _ _
-        (scaled-append k d (row c l i r) s ∙ ap (λ z. z ++ scaled k d s)
+    pub cong_scaled : (d : K) {p q : Form K} → Cong p q → Cong (scaled k d p) (scaled k d q)
+    cong_scaled d (alike p q f) = alike _ _ (alike-scaled k d f)
+    cong_scaled d (rows p s q c l i r h m e f) = rows (scaled k d p) (scaled k d s) (scaled k d q) (k.times d c) l i r h m (cong_scaled d e)
+        (alike_trans (alike-scaled k d f) (alike_same (scaled-append k d (row c l i r) s ∙ ap (λ z. z ++ scaled k d s)
         (scaled-words k d (λ u. l ++ (u ++ r)) (lifted c (poly (g.rule i))) ∙ ap (with_words (λ u. l ++ (u ++ r))) (scaled-lifted d c (poly (g.rule i)))))))
 
     -- a row is removed again
-    off : (p s : Form K) (c : K) (l : Word) (i : ℕ) (r : Word) → Alike k p (row c l i r ++ s) → Alike k s (row (k.minus c) l i r ++ p)
-    off p s c l i r f =
+    off : {p : Form K} (s : Form K) (c : K) (l : Word) (i : ℕ) (r : Word) → Alike k p (row c l i r ++ s) → Alike k s (row (k.minus c) l i r ++ p)
+    off {p} s c l i r f =
         record {
           at = λ w. sym
               (look-append (row (k.minus c) l i r) p w ∙ ap₂ k.plus (look-lifted (λ u. l ++ (u ++ r)) (k.minus c) (poly (g.rule i)) w ∙ minus_times k c (value w))
               (f.at w ∙ look-append (row c l i r) s w ∙ ap (λ z. k.plus z (look k s w)) (look-lifted (λ u. l ++ (u ++ r)) c (poly (g.rule i)) w))
-              ∙ gone (k.times c (value w)) (look k s w));
+              ∙ (sym (k.plus_assoc (k.minus (k.times c (value w))) (k.times c (value w)) (look k s w)) ∙ ap (λ z. k.plus z (look k s w))
+              (k.plus_comm (k.minus (k.times c (value w))) (k.times c (value w)) ∙ k.plus_minus (k.times c (value w))) ∙ none_plus k
+              (look k s w)));
         }
       where
         value : Word → K
         value w = k.int (coefficient_of (poly_between l (poly (g.rule i)) r) w)
 
-        gone : (a b : K) → k.plus (k.minus a) (k.plus a b) ≡ b
-        gone a b = sym (k.plus_assoc (k.minus a) a b) ∙ ap (λ z. k.plus z b) (k.plus_comm (k.minus a) a ∙ k.plus_minus a) ∙ none_plus k b
-
-    pub cong_sym : (p q : Form K) → Cong p q → Cong q p
-    cong_sym _ _ (alike p q f) = alike q p (alike_sym p q f)
-    cong_sym _ _ (rows p s q c l i r h m e f) = cong_trans q s p (cong_sym s q e) (rows s p p (k.minus c) l i r h m (cong_refl p) (off p s c l i r f))
+    pub cong_sym : {p q : Form K} → Cong p q → Cong q p
+    cong_sym (alike p q f) = alike q p (alike_sym f)
+    cong_sym (rows p s q c l i r h m e f) = cong_trans (cong_sym e) (rows s p p (k.minus c) l i r h m (cong_refl p) (off s c l i r f))
 
     -- between two with_words
-    pub cong_between : ((u v : Word) → o.Range u → o.Range v → o.Range (u ++ v)) → (x y : Word) → o.Range x → o.Range y → (p q : Form K) → Cong p q
+    pub cong_between : ((u v : Word) → o.Range u → o.Range v → o.Range (u ++ v)) → {x y : Word} → o.Range x → o.Range y → {p q : Form K} → Cong p q
         → Cong (with_words (λ u. x ++ (u ++ y)) p) (with_words (λ u. x ++ (u ++ y)) q)
-    cong_between join x y rx ry _ _ (alike p q f) = alike _ _ (alike-words k (λ u. x ++ (u ++ y)) p q f)
-    cong_between join x y rx ry _ _ (rows p s q c l i r h m e f) =
-        rows (with_words at p) (with_words at s) (with_words at q) c (x ++ l) i (r ++ y) h range (cong_between join x y rx ry s q e)
-        (alike_trans _ (with_words at (row c l i r ++ s)) _ (alike-words k at p (row c l i r ++ s) f)
-        (alike_same _ _
-        (words-append at (row c l i r) s ∙ ap (λ z. z ++ with_words at s)
+    cong_between join {x} {y} rx ry (alike p q f) = alike _ _ (alike-words k (λ u. x ++ (u ++ y)) p q f)
+    cong_between join {x} {y} rx ry (rows p s q c l i r h m e f) =
+        rows (with_words at p) (with_words at s) (with_words at q) c (x ++ l) i (r ++ y) h range (cong_between join rx ry e)
+        (alike_trans (alike-words k at p (row c l i r ++ s) f) (alike_same (words-append at (row c l i r) s ∙ ap (λ z. z ++ with_words at s)
         (words-words at (λ u. l ++ (u ++ r)) (lifted c (poly (g.rule i)))
         ∙ words-same _ (λ u. (x ++ l) ++ (u ++ (r ++ y))) (lifted c (poly (g.rule i))) moved))))
       where
@@ -173,8 +166,8 @@ module _ {K : Type 0} (k : Field K) where
       pub span : Span (AnyRow o g) difference
       pub is : (w : Word) → k.times (k.int (pos denominator)) (look k p w) ≡ k.plus (k.int (difference w)) (k.times (k.int (pos denominator)) (look k q w))
 
-    pub cong_cleared : (p q : Form K) → Cong p q → Cleared p q
-    cong_cleared _ _ (alike p q f) =
+    pub cong_cleared : {p q : Form K} → Cong p q → Cleared p q
+    cong_cleared (alike p q f) =
         record {
           denominator = 1;
           difference = λ _. pos 0;
@@ -183,7 +176,7 @@ module _ {K : Type 0} (k : Field K) where
           is =
               λ w. ap (k.times (k.int (pos 1))) (f.at w) ∙ sym (ap (λ z. k.plus z (k.times (k.int (pos 1)) (look k q w))) (int_none k) ∙ none_plus k _);
         }
-    cong_cleared _ _ (rows p s q c l i r h m e f) = by_parts (cong_cleared s q e) (k.split c)
+    cong_cleared (rows p s q c l i r h m e f) = by_parts (cong_cleared e) (k.split c)
       where
         b : Coefs
         b = coefficient_of (poly_between l (poly (g.rule i)) r)
@@ -192,7 +185,7 @@ module _ {K : Type 0} (k : Field K) where
         by_parts d (a, n, h', e') = record {
           denominator = n * d.denominator;
           difference = λ w. (pos d.denominator *ℤ a) *ℤ b w +ℤ pos n *ℤ d.difference w;
-          positive = pos_mul n d.denominator h' d.positive;
+          positive = pos_mul h' d.positive;
           span = more _ (λ w. pos n *ℤ d.difference w) b (pos d.denominator *ℤ a)
               (_, record { number = i; has = h; left = l; right = r; top = refl; range = m; may = tt; is = λ w. refl })
               (span_scale (AnyRow o g) (pos n) d.difference d.span) (λ w. refl);
@@ -223,17 +216,17 @@ module _ {K : Type 0} (k : Field K) where
     pub record Irreducible (w : Word) : Type 0 where
       pub at : (i : ℕ) (l r : Word) → g.Has i → w ≡ l ++ ((g.rule i).lead ++ r) → ⊥
 
-    pub irreducible_look : (p : Form K) (N : Word) (i : ℕ) (l r : Word) → g.Has i → N ≡ l ++ ((g.rule i).lead ++ r) → Each Irreducible p → look k p N ≡ k.none
-    irreducible_look [] N i l r h e a = refl
-    irreducible_look (t ∷ p) N i l r h e a = go (word_eq t.1 N) refl (irreducible_look p N i l r h e a.1)
+    pub irreducible_look : (p : Form K) (N : Word) {i : ℕ} (l r : Word) → g.Has i → N ≡ l ++ ((g.rule i).lead ++ r) → Each Irreducible p → look k p N ≡ k.none
+    irreducible_look [] N l r h e a = refl
+    irreducible_look (t ∷ p) N {i} l r h e a = go (word_eq t.1 N) refl (irreducible_look p N l r h e a.1)
       where
         go : (b : Bool) → word_eq t.1 N ≡ b → look k p N ≡ k.none → k.plus (k.times t.0 (cond b k.one k.none)) (look k p N) ≡ k.none
         go true j ih = absurd (a.0.at i l r h (word_eq-true t.1 N j ∙ e))
         go false j ih = ap₂ k.plus (times_none k t.0) ih ∙ k.plus_none k.none
 
     -- what is irreducible is determined by its class
-    pub irreducible_unique : Resolved o g (everything o) → (p q : Form K) → Each Irreducible p → Each Irreducible q → Cong p q → Alike k p q
-    irreducible_unique res p q ip iq e = from (cong_cleared p q e)
+    pub irreducible_unique : Resolved o g (everything o) → {p q : Form K} → Each Irreducible p → Each Irreducible q → Cong p q → Alike k p q
+    irreducible_unique res {p} {q} ip iq e = from (cong_cleared e)
       where
         from : Cleared p q → Alike k p q
         from d = record { at = equal }
@@ -244,11 +237,11 @@ module _ {K : Type 0} (k : Field K) where
             top : (N : Word) (b : Coefs) → Row o g (everything o) N b → d.difference N ≡ pos 0
             top N b x = k.int_only (d.difference N)
                 (sym (k.plus_none (k.int (d.difference N))) ∙ ap (λ z. k.plus (k.int (d.difference N)) z)
-                (sym (ap (k.times D) (irreducible_look q N x.number x.left x.right x.has x.top iq) ∙ times_none k D)) ∙ sym (d.is N)
-                ∙ ap (k.times D) (irreducible_look p N x.number x.left x.right x.has x.top ip) ∙ times_none k D)
+                (sym (ap (k.times D) (irreducible_look q N x.left x.right x.has x.top iq) ∙ times_none k D)) ∙ sym (d.is N)
+                ∙ ap (k.times D) (irreducible_look p N x.left x.right x.has x.top ip) ∙ times_none k D)
 
             zero_all : (w : Word) → d.difference w ≡ pos 0
-            zero_all = no_reducible_word o g res d.difference top d.span
+            zero_all = no_reducible_word res top d.span
 
             equal : (w : Word) → look k p w ≡ look k q w
             equal w = int_same d.denominator d.positive
@@ -264,7 +257,7 @@ module _ {K : Type 0} (k : Field K) where
 
     -- a class of zero with integer coefficients is in the rational ideal
     pub cong_none_span : (p : List Term) → Cong (lifted k.one p) [] → Span (AnyRow o g) (coefficient_of p)
-    cong_none_span p e = from (cong_cleared (lifted k.one p) [] e)
+    cong_none_span p e = from (cong_cleared e)
       where
         same : (p : List Term) (w : Word) → coefficient_of (map_words (λ u. u) p) w ≡ coefficient_of p w
         same [] w = refl
@@ -274,14 +267,12 @@ module _ {K : Type 0} (k : Field K) where
         unmapped [] = refl
         unmapped (t ∷ p) = ap (λ z. t ∷ z) (unmapped p)
 
-        lookup : (w : Word) → look k (lifted k.one p) w ≡ k.int (coefficient_of p w)
-        lookup w = ap (λ z. look k z w) (sym (unmapped (lifted k.one p))) ∙ look-lifted (λ u. u) k.one p w ∙ k.one_times _ ∙ ap k.int (same p w)
-
         from : Cleared (lifted k.one p) [] → Span (AnyRow o g) (coefficient_of p)
         from d = part (coefficient_of p) d.difference d.denominator d.positive d.span
             (λ w. int_equal (d.difference w) (pos d.denominator *ℤ coefficient_of p w)
             (sym (k.plus_none (k.int (d.difference w))) ∙ ap (λ z. k.plus (k.int (d.difference w)) z) (sym (times_none k (k.int (pos d.denominator))))
-            ∙ sym (d.is w) ∙ ap (k.times (k.int (pos d.denominator))) (lookup w) ∙ sym (k.int_times (pos d.denominator) (coefficient_of p w))))
+            ∙ sym (d.is w) ∙ ap (k.times (k.int (pos d.denominator))) (ap (λ z. look k z w) (sym (unmapped (lifted k.one p))) ∙ look-lifted
+            (λ u. u) k.one p w ∙ k.one_times _ ∙ ap k.int (same p w)) ∙ sym (k.int_times (pos d.denominator) (coefficient_of p w))))
           where
             int_equal : (a b : ℤ) → k.int a ≡ k.int b → a ≡ b
             int_equal a b e = apart a b

@@ -1,5 +1,5 @@
 -- Objects U and V, a map x of V, and the rules [U] and x x - x: an overlap, a zero object, and an object that isn't marked.
-use Rattle.std.proofs.Common.{◌≡◌, ◌≢◌, ◌<◌, ◌+◌, ℕ, zero, suc, pos, negsuc, Bool, true, false, List, [], ◌∷◌, ◌++◌, length, Some, Ok, Option, refl, sym, ap, ◌∙◌, subst, arith}
+use Rattle.std.proofs.Common.{◌≡◌, ◌≢◌, ◌<◌, ◌+◌, ℕ, zero, suc, pos, negsuc, Bool, true, false, List, [], ◌∷◌, ◌++◌, length, Some, Ok, refl, sym, ap, ◌∙◌, subst, arith}
 use Rattle.std.proofs.lemmas.Int.{ints}
 use Rattle.std.proofs.Math.Nat.{eq-one_of_dvd-one}
 use Rattle.std.proofs.lemmas.List.{length-append}
@@ -36,7 +36,7 @@ use Rattle.ambiguities.proofs.Balance.{s_polynomials_balance}
 use Rattle.adjoint_rules.specs.declared.parts.Parts.{Parts}
 use Rattle.adjoint_rules.specs.Problem.{IsPosed, IsShape, IsSide, IsDeclaredMap, IsTypedOf, HasObjects, HasLettersInPlay, IsInPlay, is_in_play, generators_in}
 use Rattle.confluence.specs.Typed.{IsTypedInPlay}
-use Rattle.confluence.specs.Reductions.{IsZero, IsReduced}
+use Rattle.confluence.specs.Reductions.{IsReduced}
 use Rattle.confluence.proofs.RestLaws.{normal_forms_are_reduced, rests_of_ideal_are_zero}
 use Rattle.confluence.proofs.WrittenTerms.{shaped_as_written, canonical_as_written}
 use Rattle.confluence.proofs.ZeroRestLaws.{zero_rests_are_resolved}
@@ -91,11 +91,11 @@ pub all_pairs_one : {A : Type 0} (R : A → A → Type 0) (x : A) → AllPairs R
 all_pairs_one R x = λ i j d less inside. absurd (omega (arith, less, inside))
 
 -- what holds of each of one, and of each of two
-pub alone : {A : Type 0} (P : A → Type 0) (x : A) → P x → All P (x ∷ [])
-alone P x one = All-cons P x [] one (All-nil P)
+pub alone : {A : Type 0} (P : A → Type 0) {x : A} → P x → All P (x ∷ [])
+alone P {x} one = All-cons P x [] one (All-nil P)
 
 both : {A : Type 0} (P : A → Type 0) (x y : A) → P x → P y → All P (x ∷ y ∷ [])
-both P x y one other = All-cons P x (y ∷ []) one (alone P y other)
+both P x y one other = All-cons P x (y ∷ []) one (alone P other)
 
 -- the names of U, V and x
 abbrev u_name : List ℕ
@@ -110,56 +110,51 @@ x_name = 120 ∷ []
 abbrev pub Differs : List ℕ → List ℕ → Type 0
 Differs v w = v ≢ w
 
-pub names_differ : (a b : ℕ) → a ≢ b → Differs (a ∷ []) (b ∷ [])
-names_differ a b other e = other (first a b e)
-  where
-    first : (a b : ℕ) → ◌≡◌ {A = List ℕ} (a ∷ []) (b ∷ []) → a ≡ b
-    first a b e = cc
+pub names_differ : {a b : ℕ} → a ≢ b → Differs (a ∷ []) (b ∷ [])
+names_differ {a} {b} other e = other (cc)
 
 distinct : AllPairs Differs (u_name ∷ v_name ∷ x_name ∷ [])
 distinct = AllPairs-cons Differs u_name (v_name ∷ x_name ∷ [])
-    (both (Differs u_name) v_name x_name (names_differ 85 86 (λ e. omega (arith, e))) (names_differ 85 120 (λ e. omega (arith, e))))
-    (AllPairs-cons Differs v_name (x_name ∷ []) (alone (Differs v_name) x_name (names_differ 86 120 (λ e. omega (arith, e))))
+    (both (Differs u_name) v_name x_name (names_differ (λ e. omega (arith, e))) (names_differ (λ e. omega (arith, e))))
+    (AllPairs-cons Differs v_name (x_name ∷ []) (alone (Differs v_name) (names_differ (λ e. omega (arith, e))))
     (all_pairs_one Differs x_name))
 
 typed_zero : IsTypedOf declared (record { terms = zero_terms; canonical = one_term 0 }) (at_object 0)
-typed_zero = typed_from_paths (quiver_of declared) 0 0 zero_terms
-    (alone (λ (t : Term). IsPath (quiver_of declared) 0 0 t.1) (pos 1, 0 ∷ []) refl)
+typed_zero = typed_from_paths (quiver_of declared) 0 0 zero_terms (alone (λ (t : Term). IsPath (quiver_of declared) 0 0 t.1) refl)
 
 typed_square : IsTypedOf declared (record { terms = square_terms; canonical = square_canonical }) (at_object 1)
 typed_square = typed_from_paths (quiver_of declared) 1 1 square_terms
     (both (λ (t : Term). IsPath (quiver_of declared) 1 1 t.1) (pos 1, 2 ∷ 2 ∷ []) (negsuc 0, 2 ∷ []) refl refl)
 
 typed_claim : IsTypedOf declared (record { terms = claim_terms; canonical = one_term 2 }) (at_object 1)
-typed_claim = typed_from_paths (quiver_of declared) 1 1 claim_terms
-    (alone (λ (t : Term). IsPath (quiver_of declared) 1 1 t.1) (pos 1, 2 ∷ []) refl)
+typed_claim = typed_from_paths (quiver_of declared) 1 1 claim_terms (alone (λ (t : Term). IsPath (quiver_of declared) 1 1 t.1) refl)
 
 letter_plays : (a : ℕ) → is_in_play declared false (0 ∷ []) a ≡ true → All (IsInPlay declared false (0 ∷ [])) (a ∷ [])
-letter_plays a is = alone (IsInPlay declared false (0 ∷ [])) a is
+letter_plays a is = alone (IsInPlay declared false (0 ∷ [])) is
 
 posed : IsPosed parts
 posed = record {
   declared = record { distinct = distinct; few_objects = omega arith; few_maps = omega arith; ends = refl };
   objects_first = refl;
   order = tt;
-  marked_objects = alone (λ (v : Object). v.0 < 2) (record { 0 = 0 }) (omega arith);
+  marked_objects = alone (λ (v : Object). v.0 < 2) (omega arith);
   marked_ascending = all_pairs_one (λ (v w : Object). v.0 < w.0) (record { 0 = 0 });
   few_assumptions = omega arith;
   assumptions_typed = (typed_zero, (typed_square, tt));
   assumption_ends = both (HasObjects declared) (at_object 0) (at_object 1)
       (record { source = omega arith; target = omega arith }) (record { source = omega arith; target = omega arith });
   assumption_letters = both (HasLettersInPlay declared false (0 ∷ [])) (record { terms = zero_terms; canonical = one_term 0 }) (record { terms = square_terms; canonical = square_canonical })
-      (alone (λ (t : Term). All (IsInPlay declared false (0 ∷ [])) t.1) (pos 1, 0 ∷ []) (letter_plays 0 refl))
+      (alone (λ (t : Term). All (IsInPlay declared false (0 ∷ [])) t.1) (letter_plays 0 refl))
       (both (λ (t : Term). All (IsInPlay declared false (0 ∷ [])) t.1) (pos 1, 2 ∷ 2 ∷ []) (negsuc 0, 2 ∷ [])
       (both (IsInPlay declared false (0 ∷ [])) 2 2 refl refl) (letter_plays 2 refl));
   few_claims = omega arith;
   claims_typed = (typed_claim, tt);
-  claim_ends = alone (HasObjects declared) (at_object 1) (record { source = omega arith; target = omega arith });
-  claim_letters = alone (HasLettersInPlay declared false (0 ∷ [])) (record { terms = claim_terms; canonical = one_term 2 })
-      (alone (λ (t : Term). All (IsInPlay declared false (0 ∷ [])) t.1) (pos 1, 2 ∷ []) (letter_plays 2 refl));
+  claim_ends = alone (HasObjects declared) (record { source = omega arith; target = omega arith });
+  claim_letters = alone (HasLettersInPlay declared false (0 ∷ []))
+      (alone (λ (t : Term). All (IsInPlay declared false (0 ∷ [])) t.1) (letter_plays 2 refl));
   some_shape = omega arith;
   few_shapes = omega arith;
-  shapes = alone (IsShape 2) (record { modulus = 2; sides = 1 ∷ 1 ∷ [] }) (record {
+  shapes = alone (IsShape 2) (record {
     modulus = refl;
     side_of_each = refl;
     sides = both IsSide 1 1 (record { least = omega arith; most = omega arith }) (record { least = omega arith; most = omega arith });
@@ -182,7 +177,7 @@ laws : IsAdmissible 4 word_cmp (rank_of 4)
 laws = word_cmp-admissible 4
 
 over_letter : (a : ℕ) → a < 4 → IsOver 4 (a ∷ [])
-over_letter a inside = alone (λ b. b < 4) a inside
+over_letter a inside = alone (λ b. b < 4) inside
 
 square_over : IsOver 4 (2 ∷ 2 ∷ [])
 square_over = both (λ b. b < 4) 2 2 (omega arith) (omega arith)
@@ -193,8 +188,8 @@ are_rules = both (IsRule 4 word_cmp) zero_rule square_rule
       leading = refl;
       positive = omega (arith, ints);
       in_range = omega arith;
-      nonempty = alone (λ (t : Term). 0 < length t.1) (pos 1, 0 ∷ []) (omega arith);
-      over = alone (λ (t : Term). IsOver 4 t.1) (pos 1, 0 ∷ []) (over_letter 0 (omega arith));
+      nonempty = alone (λ (t : Term). 0 < length t.1) (omega arith);
+      over = alone (λ (t : Term). IsOver 4 t.1) (over_letter 0 (omega arith));
     })
     (record {
       leading = refl;
@@ -241,24 +236,21 @@ data WhichRule (n : ℕ) (g : Rule) : Type 0 where
   is_zero_rule : n ≡ 1 → g.lead ≡ 0 ∷ [] → WhichRule n g
   is_square_rule : n ≡ 2 → g.lead ≡ 2 ∷ 2 ∷ [] → WhichRule n g
 
-same_lead : (f g : Rule) → ◌≡◌ {A = Option Rule} (Some f) (Some g) → g.lead ≡ f.lead
-same_lead f g e = cc
-
 which : (n : ℕ) (g : Rule) → rule_at rules n ≡ Some g → WhichRule n g
 which zero g is = absurd (cc)
-which (suc zero) g is = is_zero_rule refl (same_lead zero_rule g is)
-which (suc (suc zero)) g is = is_square_rule refl (same_lead square_rule g is)
+which (suc zero) g is = is_zero_rule refl (cc)
+which (suc (suc zero)) g is = is_square_rule refl (cc)
 which (suc (suc (suc n))) g is = absurd (cc)
 
-no_inclusion : (n m : ℕ) (f g : Rule) (place : ℕ) → WhichRule n f → WhichRule m g → MeetsAs Inclusion n m f.lead g.lead place → ⊥
-no_inclusion n m f g place (is_zero_rule i p) (is_zero_rule j q) at = at.0 (i ∙ sym j)
-no_inclusion n m f g place (is_square_rule i p) (is_square_rule j q) at = at.0 (i ∙ sym j)
-no_inclusion n m f g place (is_zero_rule i p) (is_square_rule j q) at =
+no_inclusion : {n m : ℕ} {f g : Rule} (place : ℕ) → WhichRule n f → WhichRule m g → MeetsAs Inclusion n m f.lead g.lead place → ⊥
+no_inclusion place (is_zero_rule i p) (is_zero_rule j q) at = at.0 (i ∙ sym j)
+no_inclusion place (is_square_rule i p) (is_square_rule j q) at = at.0 (i ∙ sym j)
+no_inclusion place (is_zero_rule i p) (is_square_rule j q) at =
     too_long at.1.before at.1.after (sym p ∙ at.1.splits ∙ ap (λ w. at.1.before ++ (w ++ at.1.after)) q)
   where
     too_long : (before after : List ℕ) → 0 ∷ [] ≡ before ++ (2 ∷ 2 ∷ after) → ⊥
     too_long before after e = omega (arith, ap length e, length-append before (2 ∷ 2 ∷ after))
-no_inclusion n m f g place (is_square_rule i p) (is_zero_rule j q) at =
+no_inclusion place (is_square_rule i p) (is_zero_rule j q) at =
     other_letter at.1.before at.1.after (sym p ∙ at.1.splits ∙ ap (λ w. at.1.before ++ (w ++ at.1.after)) q)
   where
     first : (a b : ℕ) (v w : List ℕ) → a ∷ v ≡ b ∷ w → a ≡ b
@@ -275,20 +267,14 @@ no_inclusion n m f g place (is_square_rule i p) (is_zero_rule j q) at =
     other_letter (b ∷ []) after e = differ (first 2 0 [] after (rest 2 b (2 ∷ []) (0 ∷ after) e))
     other_letter (b ∷ d ∷ before) after e = omega (arith, ap length e, length-append (b ∷ d ∷ before) (0 ∷ after))
 
-only_itself : (a : Ambiguity) → IsAmbiguity rules a → a ≡ itself
-only_itself a is = by_kind a.kind refl is.meets (which a.i is.first is.first_numbered) (which a.j is.second is.second_numbered)
+only_itself : {a : Ambiguity} → IsAmbiguity rules a → a ≡ itself
+only_itself {a} is = by_kind a.kind refl is.meets (which a.i is.first is.first_numbered) (which a.j is.second is.second_numbered)
   where
     by_kind : (k : Kind) → a.kind ≡ k → MeetsAs k a.i a.j is.first.lead is.second.lead a.place → WhichRule a.i is.first → WhichRule a.j is.second → a ≡ itself
-    by_kind Inclusion kind at f g = absurd (no_inclusion a.i a.j is.first is.second a.place f g at)
-    by_kind Overlap kind at (is_zero_rule i p) g = absurd (short at.before at.shared (sym p ∙ at.left_splits) at.before_letters at.shared_letters)
-      where
-        short : (before shared : List ℕ) → 0 ∷ [] ≡ before ++ shared → 0 < length before → 0 < length shared → ⊥
-        short before shared e some other = omega (arith, ap length e, length-append before shared, some, other)
+    by_kind Inclusion kind at f g = absurd (no_inclusion a.place f g at)
+    by_kind Overlap kind at (is_zero_rule i p) g = absurd (omega (arith, ap length (sym p ∙ at.left_splits), length-append at.before at.shared, at.before_letters, at.shared_letters))
     by_kind Overlap kind at (is_square_rule i p) (is_zero_rule j q) =
-        absurd (short at.shared at.after (sym q ∙ at.right_splits) at.shared_letters at.after_letters)
-      where
-        short : (shared after : List ℕ) → 0 ∷ [] ≡ shared ++ after → 0 < length shared → 0 < length after → ⊥
-        short shared after e some other = omega (arith, ap length e, length-append shared after, some, other)
+        absurd (omega (arith, ap length (sym q ∙ at.right_splits), length-append at.shared at.after, at.shared_letters, at.after_letters))
     by_kind Overlap kind at (is_square_rule i p) (is_square_rule j q) =
         let whole : 2 ≡ length at.before + length at.shared = ap length (sym p ∙ at.left_splits) ∙ length-append at.before at.shared in
         let place : a.place ≡ 1 = omega (arith, whole, at.at_place, at.before_letters, at.shared_letters) in
@@ -296,7 +282,7 @@ only_itself a is = by_kind a.kind refl is.meets (which a.i is.first is.first_num
 
 resolved : Resolved 4 word_cmp rules
 resolved = record {
-  each = λ a is. subst (IsResolved 4 word_cmp rules) (sym (only_itself a is))
+  each = λ a is. subst (IsResolved 4 word_cmp rules) (sym (only_itself is))
       (zero_rests_are_resolved 4 word_cmp (rank_of 4) rules itself [] (start_of []) laws are_rules is_one
       (s_polynomials_balance rules itself [] difference) zero_reduced (record { at = λ w. refl }));
 }
@@ -307,7 +293,7 @@ play = is_in_play declared false (0 ∷ [])
 
 typed : All (λ g. IsTypedInPlay (quiver_of declared) play g.poly.terms) rules
 typed = both (λ (g : Rule). IsTypedInPlay (quiver_of declared) play g.poly.terms) zero_rule square_rule
-    (record { source = 0; target = 0; typed = typed_zero; in_play = record { at = words_with_coefficients (AreInPlay play) zero_terms (alone (λ (t : Term). AreInPlay play t.1) (pos 1, 0 ∷ []) refl) } })
+    (record { source = 0; target = 0; typed = typed_zero; in_play = record { at = words_with_coefficients (AreInPlay play) zero_terms (alone (λ (t : Term). AreInPlay play t.1) refl) } })
     (record {
       source = 1;
       target = 1;
@@ -345,20 +331,13 @@ claim_shaped : IsShaped claim_terms
 claim_shaped = shaped_as_written claim_terms (tt, tt) ((λ e. cc), tt) (omega arith, tt)
 
 claim_over : All (λ t. IsOver 4 t.1) claim_terms
-claim_over = alone (λ (t : Term). IsOver 4 t.1) (pos 1, 2 ∷ []) (over_letter 2 (omega arith))
+claim_over = alone (λ (t : Term). IsOver 4 t.1) (over_letter 2 (omega arith))
 
 claim_reduced : IsReduced 4 word_cmp rules claim_terms (start_of claim_terms)
 claim_reduced = normal_forms_are_reduced 4 word_cmp (rank_of 4) rules claim_terms 0 (start_of claim_terms) laws are_rules claim_shaped claim_over refl
 
 outside : InRationalIdeal (polynomials_of rules) claim_terms → ⊥
-outside inside = clash (rests_of_ideal_are_zero 4 word_cmp (rank_of 4) rules claim_terms (start_of claim_terms) laws are_rules resolved inside
-    (record { at = words_with_coefficients (IsOver 4) claim_terms claim_over }) claim_reduced)
-  where
-    clash : IsZero claim_terms → ⊥
-    clash none = differ (none.at (2 ∷ []))
-      where
-        differ : pos 1 ≡ pos 0 → ⊥
-        differ e = cc
+outside inside = cc ((rests_of_ideal_are_zero 4 word_cmp (rank_of 4) rules claim_terms (start_of claim_terms) laws are_rules resolved inside (record { at = words_with_coefficients (IsOver 4) claim_terms claim_over }) claim_reduced).at (2 ∷ []))
 
 -- so x isn't zero in the category
 example : SharpMeans parts rules claim_terms
@@ -380,7 +359,4 @@ five = ((maps_are_finite_sums parts rules 1 1 (omega arith, basis) (omega arith,
 })
 
 no_five : IsArrow (normal_forms parts rules) 0 0 (five_at 0) → ⊥
-no_five is = marked (((maps_are_finite_sums parts rules 0 0 (omega arith, basis) (omega arith, basis)).lists (five_at 0)).0 is).words.0.1
-  where
-    marked : true ≡ false → ⊥
-    marked e = cc
+no_five is = cc ((((maps_are_finite_sums parts rules 0 0 (omega arith, basis) (omega arith, basis)).lists (five_at 0)).0 is).words.0.1)

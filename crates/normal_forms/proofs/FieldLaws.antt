@@ -52,8 +52,8 @@ module _ {K : Type 0} (k : Field K) where
   int_none = plus_cancel (k.int (pos 0)) (k.int (pos 0)) k.none (sym (k.int_plus (pos 0) (pos 0)) ∙ sym (k.plus_none (k.int (pos 0))))
 
   -- a positive integer cancels
-  pub int_cancel : (n : ℕ) (a : K) → 0 < n → k.times (k.int (pos n)) a ≡ k.none → a ≡ k.none
-  int_cancel n a h e = sym (k.one_times a) ∙ ap (λ z. k.times z a) (sym (k.part_is n h) ∙ k.times_comm (k.int (pos n)) (k.part n))
+  pub int_cancel : {n : ℕ} (a : K) → 0 < n → k.times (k.int (pos n)) a ≡ k.none → a ≡ k.none
+  int_cancel {n} a h e = sym (k.one_times a) ∙ ap (λ z. k.times z a) (sym (k.part_is n h) ∙ k.times_comm (k.int (pos n)) (k.part n))
       ∙ k.times_assoc (k.part n) (k.int (pos n)) a ∙ ap (λ z. k.times (k.part n) z) e ∙ times_none (k.part n)
 
   -- two differ by nothing

@@ -143,11 +143,11 @@ module _ {K : Type 0} (k : Field K) where
   pub alike-words : (h : Word → Word) (p q : Form K) → Alike p q → Alike (with_words h p) (with_words h q)
   alike-words h p q e = record { at = λ w. sum-words (λ u. hit u w) h p ∙ sum-same (λ u. hit (h u) w) p q e.at ∙ sym (sum-words (λ u. hit u w) h q) }
 
-  pub alike-append : (p q r s : Form K) → Alike p q → Alike r s → Alike (p ++ r) (q ++ s)
-  alike-append p q r s a b = record { at = λ w. sum-append (λ u. hit u w) p r ∙ ap₂ k.plus (a.at w) (b.at w) ∙ sym (sum-append (λ u. hit u w) q s) }
+  pub alike-append : {p q r s : Form K} → Alike p q → Alike r s → Alike (p ++ r) (q ++ s)
+  alike-append {p} {q} {r} {s} a b = record { at = λ w. sum-append (λ u. hit u w) p r ∙ ap₂ k.plus (a.at w) (b.at w) ∙ sym (sum-append (λ u. hit u w) q s) }
 
-  pub alike-scaled : (c : K) (p q : Form K) → Alike p q → Alike (scaled c p) (scaled c q)
-  alike-scaled c p q a = record { at = λ w. sum-scaled (λ u. hit u w) c p ∙ ap (λ z. k.times c z) (a.at w) ∙ sym (sum-scaled (λ u. hit u w) c q) }
+  pub alike-scaled : (c : K) {p q : Form K} → Alike p q → Alike (scaled c p) (scaled c q)
+  alike-scaled c {p} {q} a = record { at = λ w. sum-scaled (λ u. hit u w) c p ∙ ap (λ z. k.times c z) (a.at w) ∙ sym (sum-scaled (λ u. hit u w) c q) }
 
   pub each-scaled : (P : Word → Type 0) (c : K) (p : Form K) → Each P p → Each P (scaled c p)
   each-scaled P c [] a = tt

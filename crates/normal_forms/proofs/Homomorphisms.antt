@@ -92,8 +92,8 @@ module _ {K L : Type 0} (k : Numbers K) (m : Numbers L) (h : K → L) (is : IsHo
         factor : h d ≡ m.times (m.minus (m.int t.0)) (m.part q)
         factor = is.times (k.minus (k.int t.0)) (k.part q) ∙ ap₂ m.times (is.minus (k.int t.0) ∙ ap m.minus (is.int t.0)) (is.part q)
 
-    mapped-word : (M : Word) (a : IsGrounded below M) → mapped h (word_form k below rules M a) ≡ word_form m below rules M a
-    mapped-word _ (grounded M lower) = go (first_rule rules M) (λ N e. mapped-word N (lower N e))
+    mapped-word : {M : Word} (a : IsGrounded below M) → mapped h (word_form k below rules M a) ≡ word_form m below rules M a
+    mapped-word (grounded M lower) = go (first_rule rules M) (λ N e. mapped-word (lower N e))
       where
         go : (f : Option (Rule × ℕ))
             → ((N : Word) (e : below N M ≡ true) → mapped h (word_form k below rules N (lower N e)) ≡ word_form m below rules N (lower N e))
@@ -107,5 +107,5 @@ module _ {K L : Type 0} (k : Numbers K) (m : Numbers L) (h : K → L) (is : IsHo
     mapped-normal all [] = refl
     mapped-normal all (t ∷ p) =
         mapped-append h (multiple_form k t.0 (word_form k below rules t.1 (all t.1))) (rational_normal_form k below rules all p)
-        ∙ ap₂ ◌++◌ (mapped-multiple t.0 (word_form k below rules t.1 (all t.1)) ∙ ap (multiple_form m (h t.0)) (mapped-word t.1 (all t.1)))
+        ∙ ap₂ ◌++◌ (mapped-multiple t.0 (word_form k below rules t.1 (all t.1)) ∙ ap (multiple_form m (h t.0)) (mapped-word (all t.1)))
         (mapped-normal all p)

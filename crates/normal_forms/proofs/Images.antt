@@ -7,9 +7,9 @@ use Rattle.definitions.specs.Soundness.{HasValueZero, HasValueZeroAt}
 use Rattle.definitions.specs.Representation.{Representation, Represents, Cancels, natural_multiple, multiple, path_value, word_value, value_at}
 
 -- The laws of a structure hold where they follow from a premise that each of its objects and arrows gives.
-pub laws_from_premise : {Object Arrow : Type 0} (c : Structure Object Arrow) (P : Type 0) → ((x : Object) → c.is_object x → P)
+pub laws_from_premise : {Object Arrow : Type 0} {c : Structure Object Arrow} (P : Type 0) → ((x : Object) → c.is_object x → P)
     → ((a : Arrow) → c.is_arrow a → P) → (P → PreadditiveLaws c) → PreadditiveLaws c
-laws_from_premise c P object arrow laws = record {
+laws_from_premise P object arrow laws = record {
   source_is_object = λ a h. (laws (arrow a h)).source_is_object a h;
   target_is_object = λ a h. (laws (arrow a h)).target_is_object a h;
   identity_is_arrow = λ x h. (laws (object x h)).identity_is_arrow x h;
@@ -50,8 +50,8 @@ module _ {Object A B : Type 0} (s : Structure Object A) (c : Structure Object B)
     is_arrow : IsArrow s x y arrow
     same : up arrow ≡ b
 
-  under : (x y : Object) (b : B) → IsArrow c x y b → Under x y b
-  under x y b h =
+  under : {x y : Object} {b : B} → IsArrow c x y b → Under x y b
+  under {b} h =
       let below = i.arrow b h.arrow in
       record {
         arrow = down b;
@@ -65,12 +65,12 @@ module _ {Object A B : Type 0} (s : Structure Object A) (c : Structure Object B)
         same = below.1;
       }
 
-  pub image : (x y : Object) (a : A) → IsArrow s x y a → IsArrow c x y (up a)
-  image x y a h = record { arrow = i.image_arrow a h.arrow; source = i.source a ∙ h.source; target = i.target a ∙ h.target }
+  pub image : {x y : Object} {a : A} → IsArrow s x y a → IsArrow c x y (up a)
+  image {a} h = record { arrow = i.image_arrow a h.arrow; source = i.source a ∙ h.source; target = i.target a ∙ h.target }
 
   -- what holds of images holds of arrows
-  on_arrow : (P : B → Type 0) (x y : Object) (b : B) → IsArrow c x y b → ((a : A) → IsArrow s x y a → P (up a)) → P b
-  on_arrow P x y b h each = let u = under x y b h in subst P u.same (each u.arrow u.is_arrow)
+  on_arrow : (P : B → Type 0) {x y : Object} {b : B} → IsArrow c x y b → ((a : A) → IsArrow s x y a → P (up a)) → P b
+  on_arrow P h each = let u = under h in subst P u.same (each u.arrow u.is_arrow)
 
   pub image_laws : PreadditiveLaws s → PreadditiveLaws c
   image_laws laws = record {
@@ -78,44 +78,44 @@ module _ {Object A B : Type 0} (s : Structure Object A) (c : Structure Object B)
         (subst s.is_object (sym (i.source (down b)) ∙ ap c.source u.1) (laws.source_is_object (down b) u.0));
     target_is_object = λ b h. let u = i.arrow b h in i.image_object (c.target b)
         (subst s.is_object (sym (i.target (down b)) ∙ ap c.target u.1) (laws.target_is_object (down b) u.0));
-    identity_is_arrow = λ x h. subst (IsArrow c x x) (sym (i.identity x)) (image x x (s.identity x) (laws.identity_is_arrow x (i.object x h)));
-    zero_is_arrow = λ x y h j. subst (IsArrow c x y) (sym (i.zero x y)) (image x y (s.zero x y) (laws.zero_is_arrow x y (i.object x h) (i.object y j)));
-    add_is_arrow = λ x y a b h j. on_arrow (λ a. IsArrow c x y (c.add a b)) x y a h
-        (λ a' h'. on_arrow (λ b. IsArrow c x y (c.add (up a') b)) x y b j (λ b' j'.
-        subst (IsArrow c x y) (sym (i.add a' b')) (image x y (s.add a' b') (laws.add_is_arrow x y a' b' h' j'))));
-    negate_is_arrow = λ x y a h. on_arrow (λ a. IsArrow c x y (c.negate a)) x y a h
-        (λ a' h'. subst (IsArrow c x y) (sym (i.negate a')) (image x y (s.negate a') (laws.negate_is_arrow x y a' h')));
-    compose_is_arrow = λ x y z a b h j. on_arrow (λ a. IsArrow c x z (c.compose a b)) y z a h
-        (λ a' h'. on_arrow (λ b. IsArrow c x z (c.compose (up a') b)) x y b j (λ b' j'.
-        subst (IsArrow c x z) (sym (i.compose a' b')) (image x z (s.compose a' b') (laws.compose_is_arrow x y z a' b' h' j'))));
-    compose_assoc = λ w x y z a b d h j m. on_arrow (λ a. c.compose (c.compose a b) d ≡ c.compose a (c.compose b d)) y z a h (λ a' h'.
-        on_arrow (λ b. c.compose (c.compose (up a') b) d ≡ c.compose (up a') (c.compose b d)) x y b j (λ b' j'.
-        on_arrow (λ d. c.compose (c.compose (up a') (up b')) d ≡ c.compose (up a') (c.compose (up b') d)) w x d m (λ d' m'.
+    identity_is_arrow = λ x h. subst (IsArrow c x x) (sym (i.identity x)) (image (laws.identity_is_arrow x (i.object x h)));
+    zero_is_arrow = λ x y h j. subst (IsArrow c x y) (sym (i.zero x y)) (image (laws.zero_is_arrow x y (i.object x h) (i.object y j)));
+    add_is_arrow = λ x y a b h j. on_arrow (λ a. IsArrow c x y (c.add a b)) h
+        (λ a' h'. on_arrow (λ b. IsArrow c x y (c.add (up a') b)) j (λ b' j'.
+        subst (IsArrow c x y) (sym (i.add a' b')) (image (laws.add_is_arrow x y a' b' h' j'))));
+    negate_is_arrow = λ x y a h. on_arrow (λ a. IsArrow c x y (c.negate a)) h
+        (λ a' h'. subst (IsArrow c x y) (sym (i.negate a')) (image (laws.negate_is_arrow x y a' h')));
+    compose_is_arrow = λ x y z a b h j. on_arrow (λ a. IsArrow c x z (c.compose a b)) h
+        (λ a' h'. on_arrow (λ b. IsArrow c x z (c.compose (up a') b)) j (λ b' j'.
+        subst (IsArrow c x z) (sym (i.compose a' b')) (image (laws.compose_is_arrow x y z a' b' h' j'))));
+    compose_assoc = λ w x y z a b d h j m. on_arrow (λ a. c.compose (c.compose a b) d ≡ c.compose a (c.compose b d)) h (λ a' h'.
+        on_arrow (λ b. c.compose (c.compose (up a') b) d ≡ c.compose (up a') (c.compose b d)) j (λ b' j'.
+        on_arrow (λ d. c.compose (c.compose (up a') (up b')) d ≡ c.compose (up a') (c.compose (up b') d)) m (λ d' m'.
         ap (λ e. c.compose e (up d')) (i.compose a' b') ∙ i.compose (s.compose a' b') d' ∙ ap up (laws.compose_assoc w x y z a' b' d' h' j' m')
         ∙ sym (ap (c.compose (up a')) (i.compose b' d') ∙ i.compose a' (s.compose b' d')))));
-    identity_left = λ x y a h. on_arrow (λ a. c.compose (c.identity y) a ≡ a) x y a h
+    identity_left = λ x y a h. on_arrow (λ a. c.compose (c.identity y) a ≡ a) h
         (λ a' h'. ap (λ e. c.compose e (up a')) (i.identity y) ∙ i.compose (s.identity y) a' ∙ ap up (laws.identity_left x y a' h'));
-    identity_right = λ x y a h. on_arrow (λ a. c.compose a (c.identity x) ≡ a) x y a h
+    identity_right = λ x y a h. on_arrow (λ a. c.compose a (c.identity x) ≡ a) h
         (λ a' h'. ap (c.compose (up a')) (i.identity x) ∙ i.compose a' (s.identity x) ∙ ap up (laws.identity_right x y a' h'));
-    add_assoc = λ x y a b d h j m. on_arrow (λ a. c.add (c.add a b) d ≡ c.add a (c.add b d)) x y a h (λ a' h'.
-        on_arrow (λ b. c.add (c.add (up a') b) d ≡ c.add (up a') (c.add b d)) x y b j (λ b' j'.
-        on_arrow (λ d. c.add (c.add (up a') (up b')) d ≡ c.add (up a') (c.add (up b') d)) x y d m (λ d' m'.
+    add_assoc = λ x y a b d h j m. on_arrow (λ a. c.add (c.add a b) d ≡ c.add a (c.add b d)) h (λ a' h'.
+        on_arrow (λ b. c.add (c.add (up a') b) d ≡ c.add (up a') (c.add b d)) j (λ b' j'.
+        on_arrow (λ d. c.add (c.add (up a') (up b')) d ≡ c.add (up a') (c.add (up b') d)) m (λ d' m'.
         ap (λ e. c.add e (up d')) (i.add a' b') ∙ i.add (s.add a' b') d' ∙ ap up (laws.add_assoc x y a' b' d' h' j' m')
         ∙ sym (ap (c.add (up a')) (i.add b' d') ∙ i.add a' (s.add b' d')))));
-    add_comm = λ x y a b h j. on_arrow (λ a. c.add a b ≡ c.add b a) x y a h (λ a' h'. on_arrow (λ b. c.add (up a') b ≡ c.add b (up a')) x y b j (λ b' j'.
+    add_comm = λ x y a b h j. on_arrow (λ a. c.add a b ≡ c.add b a) h (λ a' h'. on_arrow (λ b. c.add (up a') b ≡ c.add b (up a')) j (λ b' j'.
         i.add a' b' ∙ ap up (laws.add_comm x y a' b' h' j') ∙ sym (i.add b' a')));
-    add_zero = λ x y a h. on_arrow (λ a. c.add a (c.zero x y) ≡ a) x y a h
+    add_zero = λ x y a h. on_arrow (λ a. c.add a (c.zero x y) ≡ a) h
         (λ a' h'. ap (c.add (up a')) (i.zero x y) ∙ i.add a' (s.zero x y) ∙ ap up (laws.add_zero x y a' h'));
-    add_negate = λ x y a h. on_arrow (λ a. c.add a (c.negate a) ≡ c.zero x y) x y a h (λ a' h'.
+    add_negate = λ x y a h. on_arrow (λ a. c.add a (c.negate a) ≡ c.zero x y) h (λ a' h'.
         ap (c.add (up a')) (i.negate a') ∙ i.add a' (s.negate a') ∙ ap up (laws.add_negate x y a' h') ∙ sym (i.zero x y));
-    compose_add_left = λ x y z a b d h j m. on_arrow (λ a. c.compose (c.add a b) d ≡ c.add (c.compose a d) (c.compose b d)) y z a h (λ a' h'.
-        on_arrow (λ b. c.compose (c.add (up a') b) d ≡ c.add (c.compose (up a') d) (c.compose b d)) y z b j (λ b' j'.
-        on_arrow (λ d. c.compose (c.add (up a') (up b')) d ≡ c.add (c.compose (up a') d) (c.compose (up b') d)) x y d m (λ d' m'.
+    compose_add_left = λ x y z a b d h j m. on_arrow (λ a. c.compose (c.add a b) d ≡ c.add (c.compose a d) (c.compose b d)) h (λ a' h'.
+        on_arrow (λ b. c.compose (c.add (up a') b) d ≡ c.add (c.compose (up a') d) (c.compose b d)) j (λ b' j'.
+        on_arrow (λ d. c.compose (c.add (up a') (up b')) d ≡ c.add (c.compose (up a') d) (c.compose (up b') d)) m (λ d' m'.
         ap (λ e. c.compose e (up d')) (i.add a' b') ∙ i.compose (s.add a' b') d' ∙ ap up (laws.compose_add_left x y z a' b' d' h' j' m')
         ∙ sym (ap₂ c.add (i.compose a' d') (i.compose b' d') ∙ i.add (s.compose a' d') (s.compose b' d')))));
-    compose_add_right = λ x y z a b d h j m. on_arrow (λ a. c.compose a (c.add b d) ≡ c.add (c.compose a b) (c.compose a d)) y z a h (λ a' h'.
-        on_arrow (λ b. c.compose (up a') (c.add b d) ≡ c.add (c.compose (up a') b) (c.compose (up a') d)) x y b j (λ b' j'.
-        on_arrow (λ d. c.compose (up a') (c.add (up b') d) ≡ c.add (c.compose (up a') (up b')) (c.compose (up a') d)) x y d m (λ d' m'.
+    compose_add_right = λ x y z a b d h j m. on_arrow (λ a. c.compose a (c.add b d) ≡ c.add (c.compose a b) (c.compose a d)) h (λ a' h'.
+        on_arrow (λ b. c.compose (up a') (c.add b d) ≡ c.add (c.compose (up a') b) (c.compose (up a') d)) j (λ b' j'.
+        on_arrow (λ d. c.compose (up a') (c.add (up b') d) ≡ c.add (c.compose (up a') (up b')) (c.compose (up a') d)) m (λ d' m'.
         ap (c.compose (up a')) (i.add b' d') ∙ i.compose a' (s.add b' d') ∙ ap up (laws.compose_add_right x y z a' b' d' h' j' m')
         ∙ sym (ap₂ c.add (i.compose a' b') (i.compose a' d') ∙ i.add (s.compose a' b') (s.compose a' d')))));
   }
@@ -135,11 +135,10 @@ module _ {Object A B : Type 0} (s : Structure Object A) (c : Structure Object B)
   zero_image : (a : A) → c.zero (c.source (up a)) (c.target (up a)) ≡ up (s.zero (s.source a) (s.target a))
   zero_image a = ap₂ c.zero (i.source a) (i.target a) ∙ i.zero (s.source a) (s.target a)
 
-  pub image_cancels : (d : ℤ) → Cancels s d → Cancels c d
-  image_cancels d cancels =
+  pub image_cancels : {d : ℤ} → Cancels s d → Cancels c d
+  image_cancels {d} cancels =
       record {
-        at = λ b h. on_arrow (λ b. multiple c d b ≡ c.zero (c.source b) (c.target b) → b ≡ c.zero (c.source b) (c.target b)) (c.source b)
-            (c.target b) b (record { arrow = h; source = refl; target = refl })
+        at = λ b h. on_arrow (λ b. multiple c d b ≡ c.zero (c.source b) (c.target b) → b ≡ c.zero (c.source b) (c.target b)) (record { arrow = h; source = refl; target = refl })
             (λ a is e. ap up (cancels.at a is.arrow (same_under (multiple s d a) (s.zero (s.source a) (s.target a)) (sym (multiple_image d a) ∙ e ∙ zero_image a)))
             ∙ sym (zero_image a));
       }
@@ -147,13 +146,12 @@ module _ {Object A B : Type 0} (s : Structure Object A) (c : Structure Object B)
   -- representations
   module _ (f : Representation Object A) (g : Representation Object B) (objects : (v : ℕ) → f.object v ≡ g.object v)
       (arrows : (a : ℕ) → g.arrow a ≡ up (f.arrow a)) where
-    pub image_represents : (q : Quiver) → Represents s q f → Represents c q g
-    image_represents q r = record {
+    pub image_represents : {q : Quiver} → Represents s q f → Represents c q g
+    image_represents {q} r = record {
       objects = λ v h. subst c.is_object (objects v) (i.image_object (f.object v) (r.objects v h));
       arrows = λ a h. subst (λ x. IsArrow c x (g.object (target q a)) (g.arrow a)) (objects (source q a))
           (subst (λ y. IsArrow c (f.object (source q a)) y (g.arrow a)) (objects (target q a))
-          (subst (IsArrow c (f.object (source q a)) (f.object (target q a))) (sym (arrows a))
-          (image (f.object (source q a)) (f.object (target q a)) (f.arrow a) (r.arrows a h))));
+          (subst (IsArrow c (f.object (source q a)) (f.object (target q a))) (sym (arrows a)) (image (r.arrows a h))));
       identities = λ v h. arrows v ∙ ap up (r.identities v h) ∙ sym (i.identity (f.object v)) ∙ ap c.identity (objects v);
     }
 
@@ -185,8 +183,8 @@ module _ {Object A B : Type 0} (s : Structure Object A) (c : Structure Object B)
     pub zero_at_image : (q : Quiver) (u v : ℕ) (p : Poly) → HasValueZeroAt s q f u v p → HasValueZeroAt c q g u v p
     zero_at_image q u v p e = value_image q u v p ∙ ap up e ∙ sym (zero_between u v)
 
-    pub image_value_zero : (q : Quiver) (p : Poly) → HasValueZero s q f p → HasValueZero c q g p
-    image_value_zero q p none = record { at = λ u v hu hv typed. zero_at_image q u v p (none.at u v hu hv typed) }
+    pub image_value_zero : {q : Quiver} {p : Poly} → HasValueZero s q f p → HasValueZero c q g p
+    image_value_zero {q} {p} none = record { at = λ u v hu hv typed. zero_at_image q u v p (none.at u v hu hv typed) }
 
     pub zero_at_under : (q : Quiver) (u v : ℕ) (p : Poly) → HasValueZeroAt c q g u v p → HasValueZeroAt s q f u v p
     zero_at_under q u v p e = same_under (value_at s q f u v p) (s.zero (f.object u) (f.object v)) (sym (value_image q u v p) ∙ e ∙ zero_between u v)

@@ -35,12 +35,15 @@ empty_is_irreducible : (p : Parts) (rules : List Rule) → All (IsRule (letter_c
 empty_is_irreducible p rules are =
     All-weaker (IsRule (letter_count p.quiver) (asked_cmp p.order)) (λ (g : Rule). OccursNowhere [] g.lead) (λ g is place at. none g is place at) rules are
   where
-    some : (g : Rule) → IsRule (letter_count p.quiver) (asked_cmp p.order) g → 0 < length g.lead
-    some g is = leading-all (λ t. 0 < length t.1) (asked_cmp p.order) g.poly.terms (g.leading, g.lead) is.leading is.nonempty
-
     none : (g : Rule) → IsRule (letter_count p.quiver) (asked_cmp p.order) g → (place : ℕ) → OccursAt [] g.lead place → ⊥
     none g is place at =
-        absurd (omega (arith, ap length at.splits, length-append at.before (g.lead ++ at.after), length-append g.lead at.after, some g is))
+        absurd (omega (
+          arith,
+          ap length at.splits,
+          length-append at.before (g.lead ++ at.after),
+          length-append g.lead at.after,
+          (leading-all (λ t. 0 < length t.1) (asked_cmp p.order) g.poly.terms (g.leading, g.lead) is.leading is.nonempty),
+        ))
 
 -- A word of a map is a normal word, and the other way.
 module _ (p : Parts) (rules : List Rule) (u v : ℕ) where
@@ -73,8 +76,8 @@ module _ (p : Parts) (rules : List Rule) (u v : ℕ) where
   words_follow P follows (t ∷ f) each = (follows t.1 each.0, words_follow P follows f each.1)
 
 module _ (p : Parts) (rules : List Rule) where
-  listed_at : (m : NormalMap Fraction) → IsNormalMap p rules m → IsListedMap p rules m.source m.target m
-  listed_at m is = record {
+  listed_at : {m : NormalMap Fraction} → IsNormalMap p rules m → IsListedMap p rules m.source m.target m
+  listed_at {m} is = record {
     source = refl;
     target = refl;
     fractions = is.nonzero;
@@ -82,9 +85,9 @@ module _ (p : Parts) (rules : List Rule) where
     words = normal_words p rules m.source m.target m.form is.words is.irreducible;
   }
 
-  normal_at : (m : NormalMap Fraction) → IsBasis p rules → m.source < (quiver_of p.quiver).objects → m.target < (quiver_of p.quiver).objects
+  normal_at : {m : NormalMap Fraction} → IsBasis p rules → m.source < (quiver_of p.quiver).objects → m.target < (quiver_of p.quiver).objects
       → IsListedMap p rules m.source m.target m → IsNormalMap p rules m
-  normal_at m basis source target is = record {
+  normal_at {m} basis source target is = record {
     source_is_object = source;
     target_is_object = target;
     nonzero = is.fractions;
@@ -94,15 +97,15 @@ module _ (p : Parts) (rules : List Rule) where
         (word_irreducible p rules m.source m.target (empty_is_irreducible p rules basis.are_rules)) m.form is.words;
   }
 
-  to_list : (u v : ℕ) (m : NormalMap Fraction) → IsArrow (normal_forms p rules) u v m → IsListedMap p rules u v m
-  to_list u v m is = subst (λ x. IsListedMap p rules x v m) is.source
-      (subst (λ y. IsListedMap p rules m.source y m) is.target (listed_at m is.arrow.0))
+  to_list : {u v : ℕ} {m : NormalMap Fraction} → IsArrow (normal_forms p rules) u v m → IsListedMap p rules u v m
+  to_list {v} {m} is = subst (λ x. IsListedMap p rules x v m) is.source
+      (subst (λ y. IsListedMap p rules m.source y m) is.target (listed_at is.arrow.0))
 
-  from_list : (u v : ℕ) → (normal_forms p rules).is_object u → (normal_forms p rules).is_object v → (m : NormalMap Fraction)
+  from_list : {u v : ℕ} → (normal_forms p rules).is_object u → (normal_forms p rules).is_object v → {m : NormalMap Fraction}
       → IsListedMap p rules u v m → IsArrow (normal_forms p rules) u v m
-  from_list u v here there m is = record {
+  from_list {u} here there {m} is = record {
     arrow = (
-      normal_at m here.1 (subst (λ x. x < (quiver_of p.quiver).objects) (sym is.source) here.0)
+      normal_at here.1 (subst (λ x. x < (quiver_of p.quiver).objects) (sym is.source) here.0)
           (subst (λ x. x < (quiver_of p.quiver).objects) (sym is.target) there.0)
           (subst (λ x. IsListedMap p rules x m.target m) (sym is.source) (subst (λ y. IsListedMap p rules u y m) (sym is.target) is)),
       here.1,
@@ -134,8 +137,8 @@ words_at P (t ∷ f) each w some = go (word_eq t.1 w) refl (words_at P f each.1 
     go true e later some = subst P (word_eq-true t.1 w e) each.0
     go false e later some = later some
 
-contains_later : (x w : Word) (ws : List Word) → Contains ws w → Contains (x ∷ ws) w
-contains_later x w ws at = (suc at.0, omega (arith, at.1), at.2)
+contains_later : (x : Word) {w : Word} (ws : List Word) → Contains ws w → Contains (x ∷ ws) w
+contains_later x ws at = (suc at.0, omega (arith, at.1), at.2)
 
 abbrev listed_words : Form Fraction → List Word
 listed_words f = map (λ t. t.1) f
@@ -147,7 +150,7 @@ contains_at (t ∷ f) w some = go (word_eq t.1 w) refl (contains_at f w) some
     go : (b : Bool) → word_eq t.1 w ≡ b → (is_zero (fraction_at f w).top ≡ false → Contains (listed_words f) w)
         → is_zero (cond b t.0 (fraction_at f w)).top ≡ false → Contains (listed_words (t ∷ f)) w
     go true e later some = (0, omega arith, word_eq-true t.1 w e)
-    go false e later some = contains_later t.1 w (listed_words f) (later some)
+    go false e later some = contains_later t.1 (listed_words f) (later some)
 
 -- The number beside a word in a sorted list is its coefficient.
 fraction_raw : (f : Form Rational) → IsForm rationals canonical f → (w : Word) → fraction_at (mapped raw f) w ≡ raw (look rationals f w)
@@ -194,10 +197,10 @@ module _ (value : Word → Rational) where
       (word_eq-same w)
       ∙ ap₂ rationals.plus (times_one rationals (value w)) (look-without_same rationals w (gathered ws)) ∙ rationals.plus_none (value w)
 
-  gathered_at : (ws : List Word) (x : Word) → Contains ws x ⊎ (value x ≡ rationals.none) → look rationals (gathered ws) x ≡ value x
-  gathered_at [] x (inl at) = absurd (omega (arith, at.1))
-  gathered_at [] x (inr none) = sym none
-  gathered_at (w ∷ ws) x at = go (word_eq w x) refl (gathered_at ws x)
+  gathered_at : (ws : List Word) {x : Word} → Contains ws x ⊎ (value x ≡ rationals.none) → look rationals (gathered ws) x ≡ value x
+  gathered_at [] (inl at) = absurd (omega (arith, at.1))
+  gathered_at [] (inr none) = sym none
+  gathered_at (w ∷ ws) {x} at = go (word_eq w x) refl (gathered_at ws)
     where
       go : (b : Bool) → word_eq w x ≡ b → (Contains ws x ⊎ (value x ≡ rationals.none) → look rationals (gathered ws) x ≡ value x)
           → look rationals (gathered (w ∷ ws)) x ≡ value x
@@ -205,11 +208,9 @@ module _ (value : Word → Rational) where
       go false e later = look_other rationals canonical x (value w, w) (without rationals w (gathered ws)) e ∙ look-without_other w x (gathered ws) e
           ∙ later (tail at)
         where
-          apart : w ≡ x → ⊥
-          apart same = true≢false (sym (subst (λ y. word_eq w y ≡ true) same (word_eq-same w)) ∙ e)
-
           tail : Contains (w ∷ ws) x ⊎ (value x ≡ rationals.none) → Contains ws x ⊎ (value x ≡ rationals.none)
-          tail (inl at) = inl (Contains-tail w ws x apart at)
+          tail (inl at) = inl (Contains-tail w ws x (λ same. true≢false (sym (subst (λ y. word_eq w y ≡ true) same (word_eq-same w))
+              ∙ e)) at)
           tail (inr none) = inr none
 
 -- The map of a finite sum.
@@ -231,7 +232,7 @@ module _ (p : Parts) (rules : List Rule) (u v : ℕ) (here : (normal_forms p rul
   is_none_is w = none_test (value w) ∙ ap (λ x. is_zero x.top) (back w)
 
   look_is : (w : Word) → look rationals terms w ≡ value w
-  look_is w = look-collect rationals canonical (gathered value is.listed) w ∙ gathered_at value is.listed w (which (is_zero (f w).top) refl)
+  look_is w = look-collect rationals canonical (gathered value is.listed) w ∙ gathered_at value is.listed (which (is_zero (f w).top) refl)
     where
       which : (b : Bool) → is_zero (f w).top ≡ b → Contains is.listed w ⊎ (value w ≡ rationals.none)
       which true e = inr (rationals.is_none_true (value w) (is_none_is w ∙ e))
@@ -265,22 +266,20 @@ module _ (p : Parts) (rules : List Rule) (u v : ℕ) (here : (normal_forms p rul
       again : mapped raw exact_terms ≡ m.form
       again = mapped_again m.form arrow.arrow.0.nonzero
 
-      looks_raw : (w : Word) → raw (look rationals exact_terms w) ≡ raw (look rationals terms w)
-      looks_raw w = sym (fraction_raw exact_terms exact_sorted w) ∙ ap (λ z. fraction_at z w) again ∙ same w ∙ sym (ap raw (look_is w) ∙ back w)
-
-      looks : (w : Word) → look rationals exact_terms w ≡ look rationals terms w
-      looks w = sym (read_raw (look rationals exact_terms w)) ∙ ap read (looks_raw w) ∙ read_raw (look rationals terms w)
-
       exactly : exact_terms ≡ terms
-      exactly = form_unique rationals canonical exact_terms terms exact_sorted sorted (record { at = looks })
+      exactly = form_unique rationals canonical exact_terms terms exact_sorted sorted
+          (record {
+            at = (λ w. sym (read_raw (look rationals exact_terms w)) ∙ ap read (sym (fraction_raw exact_terms exact_sorted w) ∙ ap
+                (λ z. fraction_at z w) again ∙ same w ∙ sym (ap raw (look_is w) ∙ back w)) ∙ read_raw (look rationals terms w));
+          })
 
   one_map : HasOneMap p rules u v f
-  one_map = record { map = the_map; is_map = from_list p rules u v here there the_map the_list; fractions = the_fractions; only = the_only }
+  one_map = record { map = the_map; is_map = from_list p rules here there the_list; fractions = the_fractions; only = the_only }
 
 pub maps_are_finite_sums : MapsAreFiniteSums
 maps_are_finite_sums p rules u v here there = record {
-  lists = λ m. (to_list p rules u v m, from_list p rules u v here there m);
-  sums = λ m arrow. let list = to_list p rules u v m arrow in record {
+  lists = λ m. (to_list p rules, from_list p rules here there);
+  sums = λ m arrow. let list = to_list p rules arrow in record {
     lowest = lowest_at m.form list.fractions;
     words = words_at (IsNormalWord p rules u v) m.form list.words;
     listed = listed_words m.form;

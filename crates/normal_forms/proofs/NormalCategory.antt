@@ -57,8 +57,8 @@ pub record Facts {K : Type 0} (k : Field K) (s : Ground k) : Type 0 where
   pub unit_right : (v a : ℕ) → v < s.quiver.objects → s.marked v ≡ true → a < letters s.quiver → s.play a ≡ true → source s.quiver a ≡ v
       → Cong k s.order s.rules ((k.one, a ∷ v ∷ []) ∷ []) ((k.one, a ∷ []) ∷ [])
 
-pub one_letter : (q : Quiver) (u v a : ℕ) → a < letters q → target q a ≡ v → source q a ≡ u → leads q u v (a ∷ []) ≡ true
-one_letter q u v a h e f = and_from (ltb a (letters q)) (eqb (target q a) v && eqb u (source q a)) (lt-ltb a (letters q) h)
+pub one_letter : (q : Quiver) {u v a : ℕ} → a < letters q → target q a ≡ v → source q a ≡ u → leads q u v (a ∷ []) ≡ true
+one_letter q {u} {v} {a} h e f = and_from (ltb a (letters q)) (eqb (target q a) v && eqb u (source q a)) (lt-ltb a (letters q) h)
     (and_from (eqb (target q a) v) (eqb u (source q a)) (eq-eqb (target q a) v e) (eq-eqb u (source q a) (sym f)))
 
 pub arrow_same : {K : Type 0} (a b : NormalMap K) → a.source ≡ b.source → a.target ≡ b.target → a.form ≡ b.form → a ≡ b
@@ -108,440 +108,410 @@ module _ {K : Type 0} (k : Field K) (s : Ground k) where
   abbrev pub normal_structure : Structure ℕ (NormalMap K)
   normal_structure = structure_of (numbers_of k) s.sorting.below s.normal s.marked (λ v. v < s.quiver.objects) IsMap
 
-module _ {K : Type 0} (k : Field K) (s : Ground k) (facts : Facts k s) where
-  pub plays-append : (u v : Word) → AllPlay s.play u → AllPlay s.play v → AllPlay s.play (u ++ v)
-  plays-append [] v a b = b
-  plays-append (x ∷ u) v a b = (a.0, plays-append u v a.1 b)
+  module _ (facts : Facts k s) where
+    pub plays-append : (u v : Word) → AllPlay s.play u → AllPlay s.play v → AllPlay s.play (u ++ v)
+    plays-append [] v a b = b
+    plays-append (x ∷ u) v a b = (a.0, plays-append u v a.1 b)
 
-  plays_front : (u v : Word) → AllPlay s.play (u ++ v) → AllPlay s.play u
-  plays_front [] v a = tt
-  plays_front (x ∷ u) v a = (a.0, plays_front u v a.1)
+    plays_front : (u v : Word) → AllPlay s.play (u ++ v) → AllPlay s.play u
+    plays_front [] v a = tt
+    plays_front (x ∷ u) v a = (a.0, plays_front u v a.1)
 
-  plays_back : (u v : Word) → AllPlay s.play (u ++ v) → AllPlay s.play v
-  plays_back [] v a = a
-  plays_back (x ∷ u) v a = plays_back u v a.1
+    plays_back : (u v : Word) → AllPlay s.play (u ++ v) → AllPlay s.play v
+    plays_back [] v a = a
+    plays_back (x ∷ u) v a = plays_back u v a.1
 
-  pub good_range : (u v : ℕ) (w : Word) → (Good k s) u v w → (InRange k s) w
-  good_range u v w h = facts.play_range w h.plays
+    pub good_range : (u v : ℕ) (w : Word) → Good u v w → InRange w
+    good_range u v w h = facts.play_range w h.plays
 
-  pub empty_range : (InRange k s) []
-  empty_range = facts.play_range [] tt
+    pub empty_range : InRange []
+    empty_range = facts.play_range [] tt
 
-  back_empty : (u v : Word) → u ++ v ≡ [] → v ≡ []
-  back_empty [] v e = e
-  back_empty (a ∷ u) v e = absurd (clash a (u ++ v) e)
-    where
-      clash : (a : ℕ) (w : Word) → a ∷ w ≡ [] → ⊥
-      clash a w e = cc
+    back_empty : (u v : Word) → u ++ v ≡ [] → v ≡ []
+    back_empty [] v e = e
+    back_empty (a ∷ u) v e = absurd (cc)
 
-  pub good_join : (u m v : ℕ) (x y : Word) → (Good k s) m v x → (Good k s) u m y → (Good k s) u v (x ++ y)
-  good_join u m v x y a b =
-      record { leads = leads-append s.quiver u m v x y a.leads b.leads; plays = plays-append x y a.plays b.plays; unit = λ e. b.unit (back_empty x y e) }
+    pub good_join : (u m v : ℕ) (x y : Word) → Good m v x → Good u m y → Good u v (x ++ y)
+    good_join u m v x y a b =
+        record { leads = leads-append s.quiver u m v x y a.leads b.leads; plays = plays-append x y a.plays b.plays; unit = λ e. b.unit (back_empty x y e) }
 
-  pub path_leads : (u v : ℕ) (w : Word) → is_path s.quiver u v w ≡ true → leads s.quiver u v w ≡ true
-  path_leads u v [] e = absurd (cc)
-  path_leads u v (a ∷ w) e = e
+    pub path_leads : (u v : ℕ) (w : Word) → is_path s.quiver u v w ≡ true → leads s.quiver u v w ≡ true
+    path_leads u v [] e = absurd (cc)
+    path_leads u v (a ∷ w) e = e
 
-  leads_path : (u v : ℕ) (l w r : Word) (x y : ℕ) → is_path s.quiver x y w ≡ true → leads s.quiver u v (l ++ (w ++ r)) ≡ true
-      → is_path s.quiver u v (l ++ (w ++ r)) ≡ true
-  leads_path u v [] [] r x y h e = absurd (cc)
-  leads_path u v [] (a ∷ w) r x y h e = e
-  leads_path u v (b ∷ l) w r x y h e = e
+    leads_path : (u v : ℕ) (l w r : Word) (x y : ℕ) → is_path s.quiver x y w ≡ true → leads s.quiver u v (l ++ (w ++ r)) ≡ true
+        → is_path s.quiver u v (l ++ (w ++ r)) ≡ true
+    leads_path u v [] [] r x y h e = absurd (cc)
+    leads_path u v [] (a ∷ w) r x y h e = e
+    leads_path u v (b ∷ l) w r x y h e = e
 
-  path_some : (x y : ℕ) (l w r : Word) → is_path s.quiver x y w ≡ true → l ++ (w ++ r) ≡ [] → ⊥
-  path_some x y l [] r h e = absurd (cc)
-  path_some x y l (a ∷ w) r h e = clash a (w ++ r) (back_empty l ((a ∷ w) ++ r) e)
-    where
-      clash : (a : ℕ) (w : Word) → a ∷ w ≡ [] → ⊥
-      clash a w e = cc
+    path_some : (x y : ℕ) (l w r : Word) → is_path s.quiver x y w ≡ true → l ++ (w ++ r) ≡ [] → ⊥
+    path_some x y l [] r h e = absurd (cc)
+    path_some x y l (a ∷ w) r h e = cc (back_empty l ((a ∷ w) ++ r) e)
 
-  pub good_kept : (u v : ℕ) → Kept k s.order s.rules ((Good k s) u v)
-  good_kept u v i l r h a = go (s.rules.rule i).tail t.tail
-    where
-      t : IsTypedRule s.quiver s.play (s.rules.rule i)
-      t = facts.typed i h
+    pub good_kept : (u v : ℕ) → Kept k s.order s.rules (Good u v)
+    good_kept u v i l r h a = go (s.rules.rule i).tail t.tail
+      where
+        t : IsTypedRule s.quiver s.play (s.rules.rule i)
+        t = facts.typed i h
 
-      go : (p : List Term) → AllWords (λ w. (is_path s.quiver t.source t.target w ≡ true) × AllPlay s.play w) p
-          → AllWords (λ w. (Good k s) u v (l ++ (w ++ r))) p
-      go [] e = tt
-      go (x ∷ p) e = (
-        record {
-          leads = path_leads u v _
-              (path_from_fits s.quiver u v t.source t.target l x.1 r
-              (fits_from_path s.quiver u v t.source t.target l (s.rules.rule i).lead r t.lead_path
-              (leads_path u v l (s.rules.rule i).lead r t.source t.target t.lead_path a.leads)) e.0.0);
-          plays = plays-append l (x.1 ++ r) (plays_front l _ a.plays)
-              (plays-append x.1 r e.0.1 (plays_back (s.rules.rule i).lead r (plays_back l _ a.plays)));
-          unit = λ q. absurd (path_some t.source t.target l x.1 r e.0.0 q);
-        },
-        go p e.1,
-      )
-
-  pub ranges : (u v : ℕ) (p : Form K) → Each ((Good k s) u v) p → Each (InRange k s) p
-  ranges u v p a = each-weaker ((Good k s) u v) (InRange k s) (good_range u v) p a
-
-  pub reduced_like : (p : Form K) → Each (InRange k s) p → (Like k s) ((reduced k s) p) p
-  reduced_like p a = cong_left k s.order s.rules ((reduced k s) p) (s.normal p) p (alike-collect k s.sorting _)
-      (cong_sym k s.order s.rules _ _ (normal_cong k s.order s.rules p _ (facts.normal_is p a) a))
-
-  pub reduced_irreducible : (p : Form K) → Each (InRange k s) p → Each (Irr k s) ((reduced k s) p)
-  reduced_irreducible p a = each-collect k s.sorting (Irr k s) _ (normal_irreducible k s.order s.rules p _ (facts.normal_is p a))
-
-  pub reduced_good : (u v : ℕ) (p : Form K) → Each ((Good k s) u v) p → Each ((Good k s) u v) ((reduced k s) p)
-  reduced_good u v p a = each-collect k s.sorting ((Good k s) u v) _
-      (normal_each k s.order s.rules ((Good k s) u v) (good_kept u v) p _ (facts.normal_is p (ranges u v p a)) a)
-
-  pub same_form : (p q : Form K) → IsForm k s.sorting p → IsForm k s.sorting q → Each (Irr k s) p → Each (Irr k s) q → (Like k s) p q → p ≡ q
-  same_form p q f g i j e = form_unique k s.sorting p q f g (irreducible_unique k s.order s.rules facts.resolved p q i j e)
-
-  pub words_at : (x y : ℕ) (a : NormalMap K) → IsArrow (normal_structure k s) x y a → Each ((Good k s) x y) a.form
-  words_at x y a h = subst (λ z. Each ((Good k s) z y) a.form) h.source (subst (λ z. Each ((Good k s) a.source z) a.form) h.target h.arrow.words)
-
-  rebuild : (x y : ℕ) (a : NormalMap K) → a.source ≡ x → a.target ≡ y → x < s.quiver.objects → y < s.quiver.objects → IsForm k s.sorting a.form
-      → Each (Irr k s) a.form → Each ((Good k s) x y) a.form → IsArrow (normal_structure k s) x y a
-  rebuild x y a e f hx hy h i w =
-      record {
-        arrow =
-            record {
-              source_is_object = subst (λ z. z < s.quiver.objects) (sym e) hx;
-              target_is_object = subst (λ z. z < s.quiver.objects) (sym f) hy;
-              sorted = h;
-              irreducible = i;
-              words = subst (λ z. Each ((Good k s) z a.target) a.form) (sym e) (subst (λ z. Each ((Good k s) x z) a.form) (sym f) w);
-            };
-        source = e;
-        target = f;
-      }
-
-  source_object : (x y : ℕ) (a : NormalMap K) → IsArrow (normal_structure k s) x y a → x < s.quiver.objects
-  source_object x y a h = subst (λ z. z < s.quiver.objects) h.source h.arrow.source_is_object
-
-  target_object : (x y : ℕ) (a : NormalMap K) → IsArrow (normal_structure k s) x y a → y < s.quiver.objects
-  target_object x y a h = subst (λ z. z < s.quiver.objects) h.target h.arrow.target_is_object
-
-  unit_good : (v : ℕ) → v < s.quiver.objects → (Good k s) v v ((unit_word k s) v)
-  unit_good v h = go (s.marked v) refl
-    where
-      go : (b : Bool) → s.marked v ≡ b → (Good k s) v v (cond b (v ∷ []) [])
-      go false e = record { leads = eq-eqb v v refl; plays = tt; unit = λ _. e }
-      go true e = record { leads = identity_leads; plays = (facts.marked_play v h e, tt); unit = λ q. absurd (clash v [] q) }
-        where
-          clash : (a : ℕ) (w : Word) → a ∷ w ≡ [] → ⊥
-          clash a w e = cc
-
-          identity_leads : leads s.quiver v v (v ∷ []) ≡ true
-          identity_leads = one_letter s.quiver v v v (facts.is_quiver.identity_is_letter v h) (facts.is_quiver.identity_target v h)
-              (facts.is_quiver.identity_source v h)
-
-  pub compose_words : (x y z : ℕ) (p q : Form K) → Each ((Good k s) y z) p → Each ((Good k s) x y) q → Each ((Good k s) x z) (product k p q)
-  compose_words x y z p q a b = each-product k ((Good k s) y z) ((Good k s) x y) ((Good k s) x z) (λ u v p q. good_join x y z u v p q) p q a b
-
-  compose_good : (x y z : ℕ) (a b : NormalMap K) → IsArrow (normal_structure k s) y z a → IsArrow (normal_structure k s) x y b
-      → Each ((Good k s) x z) (product k a.form b.form)
-  compose_good x y z a b ha hb = each-product k ((Good k s) y z) ((Good k s) x y) ((Good k s) x z) (λ u v p q. good_join x y z u v p q) a.form b.form
-      (words_at y z a ha) (words_at x y b hb)
-
-  pub compose_arrow : (x y z : ℕ) (a b : NormalMap K) → IsArrow (normal_structure k s) y z a → IsArrow (normal_structure k s) x y b
-      → IsArrow (normal_structure k s) x z ((normal_structure k s).compose a b)
-  compose_arrow x y z a b ha hb = rebuild x z ((normal_structure k s).compose a b) hb.source ha.target (source_object x y b hb) (target_object y z a ha)
-      (form-collect k s.sorting ((Nf k s) (product k a.form b.form))) (reduced_irreducible (product k a.form b.form) (ranges x z _ good))
-      (reduced_good x z (product k a.form b.form) good)
-    where
-      good : Each ((Good k s) x z) (product k a.form b.form)
-      good = compose_good x y z a b ha hb
-
-  pub identity_arrow : (x : ℕ) → x < s.quiver.objects → IsArrow (normal_structure k s) x x ((normal_structure k s).identity x)
-  identity_arrow x h = rebuild x x ((normal_structure k s).identity x) refl refl h h (form-collect k s.sorting ((Nf k s) ((k.one, (unit_word k s) x) ∷ [])))
-      (reduced_irreducible ((k.one, (unit_word k s) x) ∷ []) (good_range x x _ (unit_good x h), tt))
-      (reduced_good x x ((k.one, (unit_word k s) x) ∷ []) (unit_good x h, tt))
-
-  pub zero_arrow : (x y : ℕ) → x < s.quiver.objects → y < s.quiver.objects → IsArrow (normal_structure k s) x y ((normal_structure k s).zero x y)
-  zero_arrow x y h i = rebuild x y ((normal_structure k s).zero x y) refl refl h i tt tt tt
-
-  pub add_arrow : (x y : ℕ) (a b : NormalMap K) → IsArrow (normal_structure k s) x y a → IsArrow (normal_structure k s) x y b
-      → IsArrow (normal_structure k s) x y ((normal_structure k s).add a b)
-  add_arrow x y a b ha hb = rebuild x y ((normal_structure k s).add a b) ha.source ha.target (source_object x y a ha) (target_object x y a ha)
-      (form-collect k s.sorting (a.form ++ b.form))
-      (each-collect k s.sorting (Irr k s) (a.form ++ b.form) (each-append (Irr k s) a.form b.form ha.arrow.irreducible hb.arrow.irreducible))
-      (each-collect k s.sorting ((Good k s) x y) (a.form ++ b.form) (each-append ((Good k s) x y) a.form b.form (words_at x y a ha) (words_at x y b hb)))
-
-  pub negate_arrow : (x y : ℕ) (a : NormalMap K) → IsArrow (normal_structure k s) x y a → IsArrow (normal_structure k s) x y ((normal_structure k s).negate a)
-  negate_arrow x y a ha = rebuild x y ((normal_structure k s).negate a) ha.source ha.target (source_object x y a ha) (target_object x y a ha)
-      (form-collect k s.sorting (scaled k (k.minus k.one) a.form))
-      (each-collect k s.sorting (Irr k s) (scaled k (k.minus k.one) a.form) (each-scaled k (Irr k s) (k.minus k.one) a.form ha.arrow.irreducible))
-      (each-collect k s.sorting ((Good k s) x y) (scaled k (k.minus k.one) a.form)
-      (each-scaled k ((Good k s) x y) (k.minus k.one) a.form (words_at x y a ha)))
-
-  pub reduced_same : (p q : Form K) → Each (InRange k s) p → Each (InRange k s) q → (Like k s) p q → (reduced k s) p ≡ (reduced k s) q
-  reduced_same p q a b e = same_form ((reduced k s) p) ((reduced k s) q) (form-collect k s.sorting ((Nf k s) p)) (form-collect k s.sorting ((Nf k s) q))
-      (reduced_irreducible p a) (reduced_irreducible q b)
-      (cong_trans k s.order s.rules ((reduced k s) p) p ((reduced k s) q) (reduced_like p a)
-      (cong_trans k s.order s.rules p q ((reduced k s) q) e (cong_sym k s.order s.rules ((reduced k s) q) q (reduced_like q b))))
-
-  -- what is a map already is its own reduced form
-  pub reduced_is : (p q : Form K) → Each (InRange k s) p → IsForm k s.sorting q → Each (Irr k s) q → (Like k s) p q → (reduced k s) p ≡ q
-  reduced_is p q a f i e = same_form ((reduced k s) p) q (form-collect k s.sorting ((Nf k s) p)) f (reduced_irreducible p a) i
-      (cong_trans k s.order s.rules ((reduced k s) p) p q (reduced_like p a) e)
-
-  pub product_left : (p p' q : Form K) → Each (InRange k s) q → (Like k s) p p' → (Like k s) (product k p q) (product k p' q)
-  product_left p p' q a e = cong_product_left k s.order s.rules facts.join empty_range p p' q a e
-
-  pub product_right : (p q q' : Form K) → Each (InRange k s) p → (Like k s) q q' → (Like k s) (product k p q) (product k p q')
-  product_right p q q' a e = cong_product_right k s.order s.rules facts.join empty_range p q q' a e
-
-  composition_assoc : (w x y z : ℕ) (a b c : NormalMap K) → IsArrow (normal_structure k s) y z a → IsArrow (normal_structure k s) x y b
-      → IsArrow (normal_structure k s) w x c → (normal_structure k s).compose ((normal_structure k s).compose a b) c ≡ (normal_structure k s).compose a
-      ((normal_structure k s).compose b c)
-  composition_assoc w x y z a b c ha hb hc = arrow_same _ _ refl refl
-      (reduced_same (product k ((reduced k s) AB) c.form) (product k a.form ((reduced k s) BC)) left_range right_range
-      (cong_trans k s.order s.rules _ _ _
-      (product_left ((reduced k s) AB) AB c.form (ranges w x c.form (words_at w x c hc)) (reduced_like AB (ranges x z AB good_ab)))
-      (cong_trans k s.order s.rules _ _ _ (cong_same k s.order s.rules _ _ (product-product k a.form b.form c.form))
-      (product_right a.form BC ((reduced k s) BC) (ranges y z a.form (words_at y z a ha))
-      (cong_sym k s.order s.rules ((reduced k s) BC) BC (reduced_like BC (ranges w y BC good_bc)))))))
-    where
-      AB : Form K
-      AB = product k a.form b.form
-
-      BC : Form K
-      BC = product k b.form c.form
-
-      good_ab : Each ((Good k s) x z) AB
-      good_ab = compose_good x y z a b ha hb
-
-      good_bc : Each ((Good k s) w y) BC
-      good_bc = compose_good w x y b c hb hc
-
-      left_range : Each (InRange k s) (product k ((reduced k s) AB) c.form)
-      left_range = ranges w z _ (compose_good w x z ((normal_structure k s).compose a b) c (compose_arrow x y z a b ha hb) hc)
-
-      right_range : Each (InRange k s) (product k a.form ((reduced k s) BC))
-      right_range = ranges w z _ (compose_good w y z a ((normal_structure k s).compose b c) ha (compose_arrow w x y b c hb hc))
-
-  unit_front : (x y : ℕ) (c : K) (w : Word) → y < s.quiver.objects → s.marked y ≡ true → (Good k s) x y w
-      → (Like k s) ((k.times k.one c, y ∷ w) ∷ []) ((c, w) ∷ [])
-  unit_front x y c [] hy m a = absurd (true≢false (sym m ∙ ap s.marked (sym (eqb-true x y a.leads)) ∙ a.unit refl))
-  unit_front x y c (b ∷ w) hy m a = cong_trans k s.order s.rules _ _ _
-      (cong_same k s.order s.rules _ _ (ap (λ z. (z, y ∷ b ∷ w) ∷ []) (k.times_comm k.one c)))
-      (cong_trans k s.order s.rules _ _ _
-      (cong_behind k s.order s.rules facts.join empty_range w (facts.play_range w a.plays.1) _ _
-      (cong_scaled k s.order s.rules c _ _ (facts.unit_left y b hy m first.letter a.plays.0 first.target)))
-      (cong_same k s.order s.rules _ _ (ap (λ z. (z, b ∷ w) ∷ []) (times_one k c))))
-    where
-      first : Step s.quiver x y b w
-      first = step s.quiver x y b w a.leads
-
-  unit_left_like : (x y : ℕ) (p : Form K) → y < s.quiver.objects → Each ((Good k s) x y) p → (Like k s) (product k ((k.one, (unit_word k s) y) ∷ []) p) p
-  unit_left_like x y p hy a = cong_trans k s.order s.rules _ _ _ (cong_same k s.order s.rules _ _ (append-nil (front k (k.one, (unit_word k s) y) p)))
-      (go (s.marked y) refl)
-    where
-      plain : (p : Form K) → front k (k.one, []) p ≡ p
-      plain [] = refl
-      plain (t ∷ p) = ap₂ (λ x z. (x, t.1) ∷ z) (k.one_times t.0) (plain p)
-
-      with_letter : s.marked y ≡ true → (p : Form K) → Each ((Good k s) x y) p → (Like k s) (front k (k.one, y ∷ []) p) p
-      with_letter m [] a = cong_refl k s.order s.rules []
-      with_letter m (t ∷ p) a = cong_append k s.order s.rules ((k.times k.one t.0, y ∷ t.1) ∷ []) ((t.0, t.1) ∷ []) (front k (k.one, y ∷ []) p) p
-          (unit_front x y t.0 t.1 hy m a.0) (with_letter m p a.1)
-
-      go : (b : Bool) → s.marked y ≡ b → (Like k s) (front k (k.one, cond b (y ∷ []) []) p) p
-      go false e = cong_same k s.order s.rules _ _ (plain p)
-      go true e = with_letter e p a
-
-  left_identity : (x y : ℕ) (a : NormalMap K) → IsArrow (normal_structure k s) x y a
-      → (normal_structure k s).compose ((normal_structure k s).identity y) a ≡ a
-  left_identity x y a ha = arrow_same _ a refl (sym ha.target)
-      (reduced_is (product k ((reduced k s) U) a.form) a.form range ha.arrow.sorted ha.arrow.irreducible
-      (cong_trans k s.order s.rules _ _ _
-      (product_left ((reduced k s) U) U a.form (ranges x y a.form (words_at x y a ha)) (reduced_like U (good_range y y _ (unit_good y hy), tt)))
-      (unit_left_like x y a.form hy (words_at x y a ha))))
-    where
-      hy : y < s.quiver.objects
-      hy = target_object x y a ha
-
-      U : Form K
-      U = (k.one, (unit_word k s) y) ∷ []
-
-      range : Each (InRange k s) (product k ((reduced k s) U) a.form)
-      range = ranges x y _ (compose_good x y y ((normal_structure k s).identity y) a (identity_arrow y hy) ha)
-
-  -- the last letter of a path
-  pub record Last (x : ℕ) (w : Word) : Type 0 where
-    pub before : Word
-    pub last : ℕ
-    pub is : w ≡ before ++ (last ∷ [])
-    pub letter : last < letters s.quiver
-    pub source : source s.quiver last ≡ x
-    pub play : s.play last ≡ true
-    pub plays : AllPlay s.play before
-
-  last_of : (x y b : ℕ) (w : Word) → leads s.quiver x y (b ∷ w) ≡ true → AllPlay s.play (b ∷ w) → Last x (b ∷ w)
-  last_of x y b [] e a =
-      record {
-        before = [];
-        last = b;
-        is = refl;
-        letter = (step s.quiver x y b [] e).letter;
-        source =
-            sym (eqb-true x (source s.quiver b) (step s.quiver x y b [] e).rest);
-        play = a.0;
-        plays = tt;
-      }
-  last_of x y b (c ∷ w) e a = more (last_of x (source s.quiver b) c w (step s.quiver x y b (c ∷ w) e).rest a.1)
-    where
-      more : Last x (c ∷ w) → Last x (b ∷ c ∷ w)
-      more l =
+        go : (p : List Term) → AllWords (λ w. (is_path s.quiver t.source t.target w ≡ true) × AllPlay s.play w) p
+            → AllWords (λ w. Good u v (l ++ (w ++ r))) p
+        go [] e = tt
+        go (x ∷ p) e = (
           record {
-            before = b ∷ l.before;
-            last = l.last;
-            is = ap (λ z. b ∷ z) l.is;
-            letter = l.letter;
-            source = l.source;
-            play = l.play;
-            plays =
-                (a.0, l.plays);
-          }
+            leads = path_leads u v _
+                (path_from_fits s.quiver u v t.source t.target l x.1 r
+                (fits_from_path s.quiver u v t.source t.target l (s.rules.rule i).lead r t.lead_path
+                (leads_path u v l (s.rules.rule i).lead r t.source t.target t.lead_path a.leads)) e.0.0);
+            plays = plays-append l (x.1 ++ r) (plays_front l _ a.plays)
+                (plays-append x.1 r e.0.1 (plays_back (s.rules.rule i).lead r (plays_back l _ a.plays)));
+            unit = λ q. absurd (path_some t.source t.target l x.1 r e.0.0 q);
+          },
+          go p e.1,
+        )
 
-  unit_back : (x y : ℕ) (c : K) (w : Word) → x < s.quiver.objects → s.marked x ≡ true → (Good k s) x y w
-      → (Like k s) ((k.times c k.one, w ++ (x ∷ [])) ∷ []) ((c, w) ∷ [])
-  unit_back x y c [] hx m a = absurd (true≢false (sym m ∙ a.unit refl))
-  unit_back x y c (b ∷ w) hx m a = at_last (last_of x y b w a.leads a.plays)
-    where
-      at_last : Last x (b ∷ w) → (Like k s) ((k.times c k.one, (b ∷ w) ++ (x ∷ [])) ∷ []) ((c, b ∷ w) ∷ [])
-      at_last l = cong_trans k s.order s.rules _ _ _
-          (cong_same k s.order s.rules _ _
-          (ap (λ z. (k.times c k.one, z) ∷ []) (ap (λ z. z ++ (x ∷ [])) l.is ∙ append_assoc l.before (l.last ∷ []) (x ∷ []))))
-          (cong_trans k s.order s.rules _ _ _
-          (cong_before k s.order s.rules facts.join empty_range l.before (facts.play_range l.before l.plays) _ _
-          (cong_scaled k s.order s.rules c _ _ (facts.unit_right x l.last hx m l.letter l.play l.source)))
-          (cong_same k s.order s.rules _ _ (ap₂ (λ y z. (y, z) ∷ []) (times_one k c) (sym l.is))))
+    pub ranges : (u v : ℕ) (p : Form K) → Each (Good u v) p → Each InRange p
+    ranges u v p a = each-weaker (Good u v) InRange (good_range u v) p a
 
-  unit_right_like : (x y : ℕ) (p : Form K) → x < s.quiver.objects → Each ((Good k s) x y) p → (Like k s) (product k p ((k.one, (unit_word k s) x) ∷ [])) p
-  unit_right_like x y p hx a = go (s.marked x) refl
-    where
-      plain : (p : Form K) → product k p ((k.one, []) ∷ []) ≡ p
-      plain [] = refl
-      plain (t ∷ p) = ap₂ (λ x z. x ∷ z) (λ i. (times_one k t.0 i, append-nil t.1 i)) (plain p)
+    pub reduced_like : {p : Form K} → Each InRange p → Like (reduced p) p
+    reduced_like {p} a = cong_left k s.order s.rules (alike-collect k s.sorting _)
+        (cong_sym k s.order s.rules (normal_cong k s.order s.rules (facts.normal_is p a) a))
 
-      with_letter : s.marked x ≡ true → (p : Form K) → Each ((Good k s) x y) p → (Like k s) (product k p ((k.one, x ∷ []) ∷ [])) p
-      with_letter m [] a = cong_refl k s.order s.rules []
-      with_letter m (t ∷ p) a = cong_append k s.order s.rules ((k.times t.0 k.one, t.1 ++ (x ∷ [])) ∷ []) ((t.0, t.1) ∷ [])
-          (product k p ((k.one, x ∷ []) ∷ [])) p (unit_back x y t.0 t.1 hx m a.0) (with_letter m p a.1)
+    pub reduced_irreducible : (p : Form K) → Each InRange p → Each Irr (reduced p)
+    reduced_irreducible p a = each-collect k s.sorting Irr _ (normal_irreducible k s.order s.rules (facts.normal_is p a))
 
-      go : (b : Bool) → s.marked x ≡ b → (Like k s) (product k p ((k.one, cond b (x ∷ []) []) ∷ [])) p
-      go false e = cong_same k s.order s.rules _ _ (plain p)
-      go true e = with_letter e p a
+    pub reduced_good : (u v : ℕ) (p : Form K) → Each (Good u v) p → Each (Good u v) (reduced p)
+    reduced_good u v p a = each-collect k s.sorting (Good u v) _
+        (normal_each k s.order s.rules (Good u v) (good_kept u v) (facts.normal_is p (ranges u v p a)) a)
 
-  right_identity : (x y : ℕ) (a : NormalMap K) → IsArrow (normal_structure k s) x y a
-      → (normal_structure k s).compose a ((normal_structure k s).identity x) ≡ a
-  right_identity x y a ha = arrow_same _ a (sym ha.source) refl
-      (reduced_is (product k a.form ((reduced k s) U)) a.form range ha.arrow.sorted ha.arrow.irreducible
-      (cong_trans k s.order s.rules _ _ _
-      (product_right a.form ((reduced k s) U) U (ranges x y a.form (words_at x y a ha)) (reduced_like U (good_range x x _ (unit_good x hx), tt)))
-      (unit_right_like x y a.form hx (words_at x y a ha))))
-    where
-      hx : x < s.quiver.objects
-      hx = source_object x y a ha
+    pub same_form : {p q : Form K} → IsForm k s.sorting p → IsForm k s.sorting q → Each Irr p → Each Irr q → Like p q → p ≡ q
+    same_form {p} {q} f g i j e = form_unique k s.sorting p q f g (irreducible_unique k s.order s.rules facts.resolved i j e)
 
-      U : Form K
-      U = (k.one, (unit_word k s) x) ∷ []
+    pub words_at : (x y : ℕ) (a : NormalMap K) → IsArrow normal_structure x y a → Each (Good x y) a.form
+    words_at x y a h = subst (λ z. Each (Good z y) a.form) h.source (subst (λ z. Each (Good a.source z) a.form) h.target h.arrow.words)
 
-      range : Each (InRange k s) (product k a.form ((reduced k s) U))
-      range = ranges x y _ (compose_good x x y a ((normal_structure k s).identity x) ha (identity_arrow x hx))
+    rebuild : {x y : ℕ} (a : NormalMap K) → a.source ≡ x → a.target ≡ y → x < s.quiver.objects → y < s.quiver.objects → IsForm k s.sorting a.form
+        → Each Irr a.form → Each (Good x y) a.form → IsArrow normal_structure x y a
+    rebuild {x} a e f hx hy h i w =
+        record {
+          arrow =
+              record {
+                source_is_object = subst (λ z. z < s.quiver.objects) (sym e) hx;
+                target_is_object = subst (λ z. z < s.quiver.objects) (sym f) hy;
+                sorted = h;
+                irreducible = i;
+                words = subst (λ z. Each (Good z a.target) a.form) (sym e) (subst (λ z. Each (Good x z) a.form) (sym f) w);
+              };
+          source = e;
+          target = f;
+        }
 
-  pub collect_same : (p q : Form K) → Alike k p q → collect k s.sorting p ≡ collect k s.sorting q
-  collect_same p q e = form_unique k s.sorting _ _ (form-collect k s.sorting p) (form-collect k s.sorting q)
-      (alike_trans k (collect k s.sorting p) p (collect k s.sorting q) (alike-collect k s.sorting p)
-      (alike_trans k p q (collect k s.sorting q) e (alike_sym k (collect k s.sorting q) q (alike-collect k s.sorting q))))
+    source_object : {x y : ℕ} {a : NormalMap K} → IsArrow normal_structure x y a → x < s.quiver.objects
+    source_object h = subst (λ z. z < s.quiver.objects) h.source h.arrow.source_is_object
 
-  addition_assoc : (x y : ℕ) (a b c : NormalMap K) → (normal_structure k s).add ((normal_structure k s).add a b) c ≡ (normal_structure k s).add a
-      ((normal_structure k s).add b c)
-  addition_assoc x y a b c = arrow_same _ _ refl refl
-      (collect_same (collect k s.sorting (a.form ++ b.form) ++ c.form) (a.form ++ collect k s.sorting (b.form ++ c.form))
-      (alike_trans k _ _ _ (alike-append k _ (a.form ++ b.form) c.form c.form (alike-collect k s.sorting (a.form ++ b.form)) (alike_refl k c.form))
-      (alike_trans k _ _ _ (alike_same k _ _ (append_assoc a.form b.form c.form))
-      (alike-append k a.form a.form (b.form ++ c.form) _ (alike_refl k a.form)
-      (alike_sym k _ (b.form ++ c.form) (alike-collect k s.sorting (b.form ++ c.form)))))))
+    target_object : {x y : ℕ} {a : NormalMap K} → IsArrow normal_structure x y a → y < s.quiver.objects
+    target_object h = subst (λ z. z < s.quiver.objects) h.target h.arrow.target_is_object
 
-  addition_comm : (x y : ℕ) (a b : NormalMap K) → IsArrow (normal_structure k s) x y a → IsArrow (normal_structure k s) x y b
-      → (normal_structure k s).add a b ≡ (normal_structure k s).add b a
-  addition_comm x y a b ha hb = arrow_same _ _ (ha.source ∙ sym hb.source) (ha.target ∙ sym hb.target)
-      (collect_same (a.form ++ b.form) (b.form ++ a.form) (alike-swap k a.form b.form))
+    unit_good : {v : ℕ} → v < s.quiver.objects → Good v v (unit_word v)
+    unit_good {v} h = go (s.marked v) refl
+      where
+        go : (b : Bool) → s.marked v ≡ b → Good v v (cond b (v ∷ []) [])
+        go false e = record { leads = eq-eqb v v refl; plays = tt; unit = λ _. e }
+        go true e = record { leads = identity_leads; plays = (facts.marked_play v h e, tt); unit = λ q. absurd (cc) }
+          where
+            identity_leads : leads s.quiver v v (v ∷ []) ≡ true
+            identity_leads = one_letter s.quiver (facts.is_quiver.identity_is_letter v h) (facts.is_quiver.identity_target v h)
+                (facts.is_quiver.identity_source v h)
 
-  addition_zero : (x y : ℕ) (a : NormalMap K) → IsArrow (normal_structure k s) x y a → (normal_structure k s).add a ((normal_structure k s).zero x y) ≡ a
-  addition_zero x y a ha = arrow_same _ a refl refl
-      (form_unique k s.sorting _ a.form (form-collect k s.sorting (a.form ++ [])) ha.arrow.sorted
-      (alike_trans k _ (a.form ++ []) a.form (alike-collect k s.sorting (a.form ++ [])) (alike_same k _ _ (append-nil a.form))))
+    pub compose_words : (x y z : ℕ) (p q : Form K) → Each (Good y z) p → Each (Good x y) q → Each (Good x z) (product k p q)
+    compose_words x y z p q a b = each-product k (Good y z) (Good x y) (Good x z) (λ u v p q. good_join x y z u v p q) p q a b
 
-  addition_negate : (x y : ℕ) (a : NormalMap K) → IsArrow (normal_structure k s) x y a
-      → (normal_structure k s).add a ((normal_structure k s).negate a) ≡ (normal_structure k s).zero x y
-  addition_negate x y a ha = arrow_same _ _ ha.source ha.target
-      (form_unique k s.sorting _ [] (form-collect k s.sorting (a.form ++ (negative k s) a.form)) tt
-      (record {
-        at = λ w. look-collect k s.sorting (a.form ++ (negative k s) a.form) w ∙ sum-append k (λ u. hit k u w) a.form ((negative k s) a.form)
-            ∙ ap (λ z. k.plus (look k a.form w) z)
-            (look-collect k s.sorting (scaled k (k.minus k.one) a.form) w ∙ sum-scaled k (λ u. hit k u w) (k.minus k.one) a.form ∙ minus_one k (look k a.form w))
-            ∙ k.plus_minus (look k a.form w);
-      }))
+    compose_good : {x y z : ℕ} {a b : NormalMap K} → IsArrow normal_structure y z a → IsArrow normal_structure x y b
+        → Each (Good x z) (product k a.form b.form)
+    compose_good {x} {y} {z} {a} {b} ha hb = each-product k (Good y z) (Good x y) (Good x z) (λ u v p q. good_join x y z u v p q) a.form b.form
+        (words_at y z a ha) (words_at x y b hb)
 
-  reduced_sum : (p q r : Form K) → Each (InRange k s) p → Each (InRange k s) q → Each (InRange k s) r → (Like k s) p (q ++ r)
-      → (reduced k s) p ≡ (sum_form k s) ((reduced k s) q) ((reduced k s) r)
-  reduced_sum p q r a b c e = reduced_is p ((sum_form k s) ((reduced k s) q) ((reduced k s) r)) a
-      (form-collect k s.sorting ((reduced k s) q ++ (reduced k s) r))
-      (each-collect k s.sorting (Irr k s) ((reduced k s) q ++ (reduced k s) r)
-      (each-append (Irr k s) ((reduced k s) q) ((reduced k s) r) (reduced_irreducible q b) (reduced_irreducible r c)))
-      (cong_trans k s.order s.rules p (q ++ r) _ e
-      (cong_trans k s.order s.rules (q ++ r) ((reduced k s) q ++ (reduced k s) r) _
-      (cong_append k s.order s.rules q ((reduced k s) q) r ((reduced k s) r) (cong_sym k s.order s.rules _ q (reduced_like q b))
-      (cong_sym k s.order s.rules _ r (reduced_like r c)))
-      (alike _ _ (alike_sym k _ ((reduced k s) q ++ (reduced k s) r) (alike-collect k s.sorting ((reduced k s) q ++ (reduced k s) r))))))
+    pub compose_arrow : (x y z : ℕ) (a b : NormalMap K) → IsArrow normal_structure y z a → IsArrow normal_structure x y b
+        → IsArrow normal_structure x z (normal_structure.compose a b)
+    compose_arrow x y z a b ha hb = rebuild (normal_structure.compose a b) hb.source ha.target (source_object hb) (target_object ha)
+        (form-collect k s.sorting (Nf (product k a.form b.form))) (reduced_irreducible (product k a.form b.form) (ranges x z _ good))
+        (reduced_good x z (product k a.form b.form) good)
+      where
+        good : Each (Good x z) (product k a.form b.form)
+        good = compose_good ha hb
 
-  product_right_sum : (p q r : Form K) → Alike k (product k p (q ++ r)) (product k p q ++ product k p r)
-  product_right_sum p [] r = alike_same k _ _ (sym (ap (λ z. z ++ product k p r) (product-none k p)))
-  product_right_sum p (t ∷ q) r = alike_trans k _ _ _ (product-behind k p t (q ++ r))
-      (alike_trans k _ _ _ (alike-append k (behind k t p) (behind k t p) _ _ (alike_refl k (behind k t p)) (product_right_sum p q r))
-      (alike_trans k _ _ _ (alike_same k _ _ (sym (append_assoc (behind k t p) (product k p q) (product k p r))))
-      (alike-append k _ _ (product k p r) (product k p r) (alike_sym k _ _ (product-behind k p t q)) (alike_refl k (product k p r)))))
+    pub identity_arrow : (x : ℕ) → x < s.quiver.objects → IsArrow normal_structure x x (normal_structure.identity x)
+    identity_arrow x h = rebuild (normal_structure.identity x) refl refl h h (form-collect k s.sorting (Nf ((k.one, unit_word x) ∷ [])))
+        (reduced_irreducible ((k.one, unit_word x) ∷ []) (good_range x x _ (unit_good h), tt))
+        (reduced_good x x ((k.one, unit_word x) ∷ []) (unit_good h, tt))
 
-  composition_sum_left : (x y z : ℕ) (a b c : NormalMap K) → IsArrow (normal_structure k s) y z a → IsArrow (normal_structure k s) y z b
-      → IsArrow (normal_structure k s) x y c → (normal_structure k s).compose ((normal_structure k s).add a b) c ≡ (normal_structure k s).add
-      ((normal_structure k s).compose a c) ((normal_structure k s).compose b c)
-  composition_sum_left x y z a b c ha hb hc = arrow_same _ _ refl refl
-      (reduced_sum (product k ((sum_form k s) a.form b.form) c.form) (product k a.form c.form) (product k b.form c.form)
-      (ranges x z _ (compose_good x y z ((normal_structure k s).add a b) c (add_arrow y z a b ha hb) hc)) (ranges x z _ (compose_good x y z a c ha hc))
-      (ranges x z _ (compose_good x y z b c hb hc))
-      (cong_trans k s.order s.rules _ _ _
-      (product_left ((sum_form k s) a.form b.form) (a.form ++ b.form) c.form (ranges x y c.form (words_at x y c hc))
-      (alike _ _ (alike-collect k s.sorting (a.form ++ b.form)))) (cong_same k s.order s.rules _ _ (product-append k a.form b.form c.form))))
+    pub zero_arrow : (x y : ℕ) → x < s.quiver.objects → y < s.quiver.objects → IsArrow normal_structure x y (normal_structure.zero x y)
+    zero_arrow x y h i = rebuild (normal_structure.zero x y) refl refl h i tt tt tt
 
-  composition_sum_right : (x y z : ℕ) (a b c : NormalMap K) → IsArrow (normal_structure k s) y z a → IsArrow (normal_structure k s) x y b
-      → IsArrow (normal_structure k s) x y c → (normal_structure k s).compose a ((normal_structure k s).add b c) ≡ (normal_structure k s).add
-      ((normal_structure k s).compose a b) ((normal_structure k s).compose a c)
-  composition_sum_right x y z a b c ha hb hc = arrow_same _ _ refl refl
-      (reduced_sum (product k a.form ((sum_form k s) b.form c.form)) (product k a.form b.form) (product k a.form c.form)
-      (ranges x z _ (compose_good x y z a ((normal_structure k s).add b c) ha (add_arrow x y b c hb hc))) (ranges x z _ (compose_good x y z a b ha hb))
-      (ranges x z _ (compose_good x y z a c ha hc))
-      (cong_trans k s.order s.rules _ _ _
-      (product_right a.form ((sum_form k s) b.form c.form) (b.form ++ c.form) (ranges y z a.form (words_at y z a ha))
-      (alike _ _ (alike-collect k s.sorting (b.form ++ c.form)))) (alike _ _ (product_right_sum a.form b.form c.form))))
+    pub add_arrow : (x y : ℕ) (a b : NormalMap K) → IsArrow normal_structure x y a → IsArrow normal_structure x y b
+        → IsArrow normal_structure x y (normal_structure.add a b)
+    add_arrow x y a b ha hb = rebuild (normal_structure.add a b) ha.source ha.target (source_object ha) (target_object ha)
+        (form-collect k s.sorting (a.form ++ b.form))
+        (each-collect k s.sorting Irr (a.form ++ b.form) (each-append Irr a.form b.form ha.arrow.irreducible hb.arrow.irreducible))
+        (each-collect k s.sorting (Good x y) (a.form ++ b.form) (each-append (Good x y) a.form b.form (words_at x y a ha) (words_at x y b hb)))
 
-  -- The laws of the category of normal forms.
-  pub normal_laws : PreadditiveLaws (normal_structure k s)
-  normal_laws = record {
-    source_is_object = λ a h. h.source_is_object;
-    target_is_object = λ a h. h.target_is_object;
-    identity_is_arrow = identity_arrow;
-    zero_is_arrow = zero_arrow;
-    add_is_arrow = add_arrow;
-    negate_is_arrow = negate_arrow;
-    compose_is_arrow = compose_arrow;
-    compose_assoc = composition_assoc;
-    identity_left = left_identity;
-    identity_right = right_identity;
-    add_assoc = λ x y a b c _ _ _. addition_assoc x y a b c;
-    add_comm = addition_comm;
-    add_zero = addition_zero;
-    add_negate = addition_negate;
-    compose_add_left = composition_sum_left;
-    compose_add_right = composition_sum_right;
-  }
+    pub negate_arrow : (x y : ℕ) (a : NormalMap K) → IsArrow normal_structure x y a → IsArrow normal_structure x y (normal_structure.negate a)
+    negate_arrow x y a ha = rebuild (normal_structure.negate a) ha.source ha.target (source_object ha) (target_object ha)
+        (form-collect k s.sorting (scaled k (k.minus k.one) a.form))
+        (each-collect k s.sorting Irr (scaled k (k.minus k.one) a.form) (each-scaled k Irr (k.minus k.one) a.form ha.arrow.irreducible))
+        (each-collect k s.sorting (Good x y) (scaled k (k.minus k.one) a.form)
+        (each-scaled k (Good x y) (k.minus k.one) a.form (words_at x y a ha)))
+
+    pub reduced_same : {p q : Form K} → Each InRange p → Each InRange q → Like p q → reduced p ≡ reduced q
+    reduced_same {p} {q} a b e = same_form (form-collect k s.sorting (Nf p)) (form-collect k s.sorting (Nf q))
+        (reduced_irreducible p a) (reduced_irreducible q b) (cong_trans k s.order s.rules (reduced_like a)
+        (cong_trans k s.order s.rules e (cong_sym k s.order s.rules (reduced_like b))))
+
+    -- what is a map already is its own reduced form
+    pub reduced_is : {p q : Form K} → Each InRange p → IsForm k s.sorting q → Each Irr q → Like p q → reduced p ≡ q
+    reduced_is {p} a f i e = same_form (form-collect k s.sorting (Nf p)) f (reduced_irreducible p a) i
+        (cong_trans k s.order s.rules (reduced_like a) e)
+
+    pub product_left : (p p' q : Form K) → Each InRange q → Like p p' → Like (product k p q) (product k p' q)
+    product_left p p' q a e = cong_product_left k s.order s.rules facts.join empty_range q a e
+
+    pub product_right : (p q q' : Form K) → Each InRange p → Like q q' → Like (product k p q) (product k p q')
+    product_right p q q' a e = cong_product_right k s.order s.rules facts.join empty_range p a e
+
+    composition_assoc : (w x y z : ℕ) (a b c : NormalMap K) → IsArrow normal_structure y z a → IsArrow normal_structure x y b
+        → IsArrow normal_structure w x c → normal_structure.compose (normal_structure.compose a b) c ≡ normal_structure.compose a
+        (normal_structure.compose b c)
+    composition_assoc w x y z a b c ha hb hc = arrow_same _ _ refl refl (reduced_same left_range right_range (cong_trans k s.order s.rules
+        (product_left (reduced AB) AB c.form (ranges w x c.form (words_at w x c hc)) (reduced_like (ranges x z AB good_ab)))
+        (cong_trans k s.order s.rules (cong_same k s.order s.rules (product-product k a.form b.form c.form))
+        (product_right a.form BC (reduced BC) (ranges y z a.form (words_at y z a ha))
+        (cong_sym k s.order s.rules (reduced_like (ranges w y BC good_bc)))))))
+      where
+        AB : Form K
+        AB = product k a.form b.form
+
+        BC : Form K
+        BC = product k b.form c.form
+
+        good_ab : Each (Good x z) AB
+        good_ab = compose_good ha hb
+
+        good_bc : Each (Good w y) BC
+        good_bc = compose_good hb hc
+
+        left_range : Each InRange (product k (reduced AB) c.form)
+        left_range = ranges w z _ (compose_good (compose_arrow x y z a b ha hb) hc)
+
+        right_range : Each InRange (product k a.form (reduced BC))
+        right_range = ranges w z _ (compose_good ha (compose_arrow w x y b c hb hc))
+
+    unit_front : (x : ℕ) {y : ℕ} (c : K) (w : Word) → y < s.quiver.objects → s.marked y ≡ true → Good x y w
+        → Like ((k.times k.one c, y ∷ w) ∷ []) ((c, w) ∷ [])
+    unit_front x {y} c [] hy m a = absurd (true≢false (sym m ∙ ap s.marked (sym (eqb-true x y a.leads)) ∙ a.unit refl))
+    unit_front x {y} c (b ∷ w) hy m a = cong_trans k s.order s.rules
+        (cong_same k s.order s.rules (ap (λ z. (z, y ∷ b ∷ w) ∷ []) (k.times_comm k.one c))) (cong_trans k s.order s.rules
+        (cong_behind k s.order s.rules facts.join empty_range (facts.play_range w a.plays.1)
+        (cong_scaled k s.order s.rules c (facts.unit_left y b hy m first.letter a.plays.0 first.target)))
+        (cong_same k s.order s.rules (ap (λ z. (z, b ∷ w) ∷ []) (times_one k c))))
+      where
+        first : Step s.quiver x y b w
+        first = step s.quiver x y b w a.leads
+
+    unit_left_like : (x : ℕ) {y : ℕ} {p : Form K} → y < s.quiver.objects → Each (Good x y) p → Like (product k ((k.one, unit_word y) ∷ []) p) p
+    unit_left_like x {y} {p} hy a = cong_trans k s.order s.rules (cong_same k s.order s.rules (append-nil (front k (k.one, unit_word y) p)))
+        (go (s.marked y) refl)
+      where
+        plain : (p : Form K) → front k (k.one, []) p ≡ p
+        plain [] = refl
+        plain (t ∷ p) = ap₂ (λ x z. (x, t.1) ∷ z) (k.one_times t.0) (plain p)
+
+        with_letter : s.marked y ≡ true → (p : Form K) → Each (Good x y) p → Like (front k (k.one, y ∷ []) p) p
+        with_letter m [] a = cong_refl k s.order s.rules []
+        with_letter m (t ∷ p) a = cong_append k s.order s.rules (unit_front x t.0 t.1 hy m a.0) (with_letter m p a.1)
+
+        go : (b : Bool) → s.marked y ≡ b → Like (front k (k.one, cond b (y ∷ []) []) p) p
+        go false e = cong_same k s.order s.rules (plain p)
+        go true e = with_letter e p a
+
+    left_identity : (x y : ℕ) (a : NormalMap K) → IsArrow normal_structure x y a
+        → normal_structure.compose (normal_structure.identity y) a ≡ a
+    left_identity x y a ha = arrow_same _ a refl (sym ha.target) (reduced_is range ha.arrow.sorted ha.arrow.irreducible
+        (cong_trans k s.order s.rules
+        (product_left (reduced U) U a.form (ranges x y a.form (words_at x y a ha)) (reduced_like (good_range y y _ (unit_good hy), tt)))
+        (unit_left_like x hy (words_at x y a ha))))
+      where
+        hy : y < s.quiver.objects
+        hy = target_object ha
+
+        U : Form K
+        U = (k.one, unit_word y) ∷ []
+
+        range : Each InRange (product k (reduced U) a.form)
+        range = ranges x y _ (compose_good (identity_arrow y hy) ha)
+
+    -- the last letter of a path
+    pub record Last (x : ℕ) (w : Word) : Type 0 where
+      pub before : Word
+      pub last : ℕ
+      pub is : w ≡ before ++ (last ∷ [])
+      pub letter : last < letters s.quiver
+      pub source : source s.quiver last ≡ x
+      pub play : s.play last ≡ true
+      pub plays : AllPlay s.play before
+
+    last_of : (x y : ℕ) {b : ℕ} (w : Word) → leads s.quiver x y (b ∷ w) ≡ true → AllPlay s.play (b ∷ w) → Last x (b ∷ w)
+    last_of x y {b} [] e a =
+        record {
+          before = [];
+          last = b;
+          is = refl;
+          letter = (step s.quiver x y b [] e).letter;
+          source =
+              sym (eqb-true x (source s.quiver b) (step s.quiver x y b [] e).rest);
+          play = a.0;
+          plays = tt;
+        }
+    last_of x y {b} (c ∷ w) e a = more (last_of x (source s.quiver b) w (step s.quiver x y b (c ∷ w) e).rest a.1)
+      where
+        more : Last x (c ∷ w) → Last x (b ∷ c ∷ w)
+        more l =
+            record {
+              before = b ∷ l.before;
+              last = l.last;
+              is = ap (λ z. b ∷ z) l.is;
+              letter = l.letter;
+              source = l.source;
+              play = l.play;
+              plays =
+                  (a.0, l.plays);
+            }
+
+    unit_back : {x : ℕ} (y : ℕ) (c : K) (w : Word) → x < s.quiver.objects → s.marked x ≡ true → Good x y w
+        → Like ((k.times c k.one, w ++ (x ∷ [])) ∷ []) ((c, w) ∷ [])
+    unit_back y c [] hx m a = absurd (true≢false (sym m ∙ a.unit refl))
+    unit_back {x} y c (b ∷ w) hx m a = at_last (last_of x y w a.leads a.plays)
+      where
+        at_last : Last x (b ∷ w) → Like ((k.times c k.one, (b ∷ w) ++ (x ∷ [])) ∷ []) ((c, b ∷ w) ∷ [])
+        at_last l = cong_trans k s.order s.rules (cong_same k s.order s.rules
+            (ap (λ z. (k.times c k.one, z) ∷ []) (ap (λ z. z ++ (x ∷ [])) l.is ∙ append_assoc l.before (l.last ∷ []) (x ∷ []))))
+            (cong_trans k s.order s.rules (cong_before k s.order s.rules facts.join empty_range (facts.play_range l.before l.plays)
+            (cong_scaled k s.order s.rules c (facts.unit_right x l.last hx m l.letter l.play l.source)))
+            (cong_same k s.order s.rules (ap₂ (λ y z. (y, z) ∷ []) (times_one k c) (sym l.is))))
+
+    unit_right_like : {x : ℕ} (y : ℕ) {p : Form K} → x < s.quiver.objects → Each (Good x y) p → Like (product k p ((k.one, unit_word x) ∷ [])) p
+    unit_right_like {x} y {p} hx a = go (s.marked x) refl
+      where
+        plain : (p : Form K) → product k p ((k.one, []) ∷ []) ≡ p
+        plain [] = refl
+        plain (t ∷ p) = ap₂ (λ x z. x ∷ z) (λ i. (times_one k t.0 i, append-nil t.1 i)) (plain p)
+
+        with_letter : s.marked x ≡ true → (p : Form K) → Each (Good x y) p → Like (product k p ((k.one, x ∷ []) ∷ [])) p
+        with_letter m [] a = cong_refl k s.order s.rules []
+        with_letter m (t ∷ p) a = cong_append k s.order s.rules (unit_back y t.0 t.1 hx m a.0) (with_letter m p a.1)
+
+        go : (b : Bool) → s.marked x ≡ b → Like (product k p ((k.one, cond b (x ∷ []) []) ∷ [])) p
+        go false e = cong_same k s.order s.rules (plain p)
+        go true e = with_letter e p a
+
+    right_identity : (x y : ℕ) (a : NormalMap K) → IsArrow normal_structure x y a
+        → normal_structure.compose a (normal_structure.identity x) ≡ a
+    right_identity x y a ha = arrow_same _ a (sym ha.source) refl (reduced_is range ha.arrow.sorted ha.arrow.irreducible
+        (cong_trans k s.order s.rules
+        (product_right a.form (reduced U) U (ranges x y a.form (words_at x y a ha)) (reduced_like (good_range x x _ (unit_good hx), tt)))
+        (unit_right_like y hx (words_at x y a ha))))
+      where
+        hx : x < s.quiver.objects
+        hx = source_object ha
+
+        U : Form K
+        U = (k.one, unit_word x) ∷ []
+
+        range : Each InRange (product k a.form (reduced U))
+        range = ranges x y _ (compose_good ha (identity_arrow x hx))
+
+    pub collect_same : {p q : Form K} → Alike k p q → collect k s.sorting p ≡ collect k s.sorting q
+    collect_same {p} {q} e = form_unique k s.sorting _ _ (form-collect k s.sorting p) (form-collect k s.sorting q)
+        (alike_trans k (alike-collect k s.sorting p) (alike_trans k e (alike_sym k (alike-collect k s.sorting q))))
+
+    addition_assoc : (x y : ℕ) (a b c : NormalMap K) → normal_structure.add (normal_structure.add a b) c ≡ normal_structure.add a
+        (normal_structure.add b c)
+    addition_assoc x y a b c = arrow_same _ _ refl refl (collect_same
+        (alike_trans k (alike-append k (alike-collect k s.sorting (a.form ++ b.form)) (alike_refl k c.form))
+        (alike_trans k (alike_same k (append_assoc a.form b.form c.form)) (alike-append k (alike_refl k a.form)
+        (alike_sym k (alike-collect k s.sorting (b.form ++ c.form)))))))
+
+    addition_comm : (x y : ℕ) (a b : NormalMap K) → IsArrow normal_structure x y a → IsArrow normal_structure x y b
+        → normal_structure.add a b ≡ normal_structure.add b a
+    addition_comm x y a b ha hb = arrow_same _ _ (ha.source ∙ sym hb.source) (ha.target ∙ sym hb.target)
+        (collect_same (alike-swap k a.form b.form))
+
+    addition_zero : (x y : ℕ) (a : NormalMap K) → IsArrow normal_structure x y a → normal_structure.add a (normal_structure.zero x y) ≡ a
+    addition_zero x y a ha = arrow_same _ a refl refl
+        (form_unique k s.sorting _ a.form (form-collect k s.sorting (a.form ++ [])) ha.arrow.sorted
+        (alike_trans k (alike-collect k s.sorting (a.form ++ [])) (alike_same k (append-nil a.form))))
+
+    addition_negate : (x y : ℕ) (a : NormalMap K) → IsArrow normal_structure x y a
+        → normal_structure.add a (normal_structure.negate a) ≡ normal_structure.zero x y
+    addition_negate x y a ha = arrow_same _ _ ha.source ha.target
+        (form_unique k s.sorting _ [] (form-collect k s.sorting (a.form ++ negative a.form)) tt (record {
+          at = λ w. look-collect k s.sorting (a.form ++ negative a.form) w ∙ sum-append k (λ u. hit k u w) a.form (negative a.form)
+              ∙ ap (λ z. k.plus (look k a.form w) z)
+              (look-collect k s.sorting (scaled k (k.minus k.one) a.form) w ∙ sum-scaled k (λ u. hit k u w) (k.minus k.one) a.form ∙ minus_one k (look k a.form w))
+              ∙ k.plus_minus (look k a.form w);
+        }))
+
+    reduced_sum : {p : Form K} (q r : Form K) → Each InRange p → Each InRange q → Each InRange r → Like p (q ++ r)
+        → reduced p ≡ sum_form (reduced q) (reduced r)
+    reduced_sum q r a b c e = reduced_is a (form-collect k s.sorting (reduced q ++ reduced r))
+        (each-collect k s.sorting Irr (reduced q ++ reduced r)
+        (each-append Irr (reduced q) (reduced r) (reduced_irreducible q b) (reduced_irreducible r c)))
+        (cong_trans k s.order s.rules e (cong_trans k s.order s.rules
+        (cong_append k s.order s.rules (cong_sym k s.order s.rules (reduced_like b)) (cong_sym k s.order s.rules (reduced_like c)))
+        (alike _ _ (alike_sym k (alike-collect k s.sorting (reduced q ++ reduced r))))))
+
+    product_right_sum : (p q r : Form K) → Alike k (product k p (q ++ r)) (product k p q ++ product k p r)
+    product_right_sum p [] r = alike_same k (sym (ap (λ z. z ++ product k p r) (product-none k p)))
+    product_right_sum p (t ∷ q) r = alike_trans k (product-behind k p t (q ++ r))
+        (alike_trans k (alike-append k (alike_refl k (behind k t p)) (product_right_sum p q r))
+        (alike_trans k (alike_same k (sym (append_assoc (behind k t p) (product k p q) (product k p r))))
+        (alike-append k (alike_sym k (product-behind k p t q)) (alike_refl k (product k p r)))))
+
+    composition_sum_left : (x y z : ℕ) (a b c : NormalMap K) → IsArrow normal_structure y z a → IsArrow normal_structure y z b
+        → IsArrow normal_structure x y c → normal_structure.compose (normal_structure.add a b) c ≡ normal_structure.add
+        (normal_structure.compose a c) (normal_structure.compose b c)
+    composition_sum_left x y z a b c ha hb hc = arrow_same _ _ refl refl (reduced_sum (product k a.form c.form) (product k b.form c.form)
+        (ranges x z _ (compose_good (add_arrow y z a b ha hb) hc)) (ranges x z _ (compose_good ha hc)) (ranges x z _ (compose_good hb hc))
+        (cong_trans k s.order s.rules
+        (product_left (sum_form a.form b.form) (a.form ++ b.form) c.form (ranges x y c.form (words_at x y c hc))
+        (alike _ _ (alike-collect k s.sorting (a.form ++ b.form)))) (cong_same k s.order s.rules (product-append k a.form b.form c.form))))
+
+    composition_sum_right : (x y z : ℕ) (a b c : NormalMap K) → IsArrow normal_structure y z a → IsArrow normal_structure x y b
+        → IsArrow normal_structure x y c → normal_structure.compose a (normal_structure.add b c) ≡ normal_structure.add
+        (normal_structure.compose a b) (normal_structure.compose a c)
+    composition_sum_right x y z a b c ha hb hc = arrow_same _ _ refl refl (reduced_sum (product k a.form b.form) (product k a.form c.form)
+        (ranges x z _ (compose_good ha (add_arrow x y b c hb hc))) (ranges x z _ (compose_good ha hb)) (ranges x z _ (compose_good ha hc))
+        (cong_trans k s.order s.rules
+        (product_right a.form (sum_form b.form c.form) (b.form ++ c.form) (ranges y z a.form (words_at y z a ha))
+        (alike _ _ (alike-collect k s.sorting (b.form ++ c.form)))) (alike _ _ (product_right_sum a.form b.form c.form))))
+
+    -- The laws of the category of normal forms.
+    pub normal_laws : PreadditiveLaws normal_structure
+    normal_laws = record {
+      source_is_object = λ a h. h.source_is_object;
+      target_is_object = λ a h. h.target_is_object;
+      identity_is_arrow = identity_arrow;
+      zero_is_arrow = zero_arrow;
+      add_is_arrow = add_arrow;
+      negate_is_arrow = negate_arrow;
+      compose_is_arrow = compose_arrow;
+      compose_assoc = composition_assoc;
+      identity_left = left_identity;
+      identity_right = right_identity;
+      add_assoc = λ x y a b c _ _ _. addition_assoc x y a b c;
+      add_comm = addition_comm;
+      add_zero = addition_zero;
+      add_negate = addition_negate;
+      compose_add_left = composition_sum_left;
+      compose_add_right = composition_sum_right;
+    }

@@ -117,10 +117,10 @@ module _ (p : Parts) (rules : List Rule) (are : All (IsRule (letter_count p.quiv
       (at.splits ∙ ap (λ x. at.before ++ (x.lead ++ at.after)) (sym (led_at-is rules (suc n) g numbered))))
 
   irreducible_from : (w : Word) → All (λ g. OccursNowhere w g.lead) rules → Irreducible rationals word_order word_rules w
-  irreducible_from w none = no_lead rationals (letter_count p.quiver) (asked_cmp p.order) rank laws rules are w none
+  irreducible_from w none = no_lead rationals (letter_count p.quiver) (asked_cmp p.order) rank laws rules are none
 
-  map_read : (m : NormalMap Fraction) → IsNormalMap p rules m → IsMap rationals exact_ground (exact m) × (plain (exact m) ≡ m)
-  map_read m is = (
+  map_read : {m : NormalMap Fraction} → IsNormalMap p rules m → IsMap rationals exact_ground (exact m) × (plain (exact m) ≡ m)
+  map_read {m} is = (
     record {
       source_is_object = is.source_is_object;
       target_is_object = is.target_is_object;
@@ -134,8 +134,8 @@ module _ (p : Parts) (rules : List Rule) (are : All (IsRule (letter_count p.quiv
     ap (λ z. record { source = m.source; target = m.target; form = z }) (mapped_again m.form is.nonzero),
   )
 
-  map_raw : (a : NormalMap Rational) → IsMap rationals exact_ground a → IsNormalMap p rules (plain a)
-  map_raw a is = record {
+  map_raw : {a : NormalMap Rational} → IsMap rationals exact_ground a → IsNormalMap p rules (plain a)
+  map_raw {a} is = record {
     source_is_object = is.source_is_object;
     target_is_object = is.target_is_object;
     nonzero = nonzero_raw a.form is.sorted;
@@ -187,8 +187,8 @@ module _ (p : Parts) (rules : List Rule) (are : All (IsRule (letter_count p.quiv
     back = λ a. ap (λ z. record { source = a.source; target = a.target; form = z }) (mapped_back a.form);
     object = λ v h. h.0;
     image_object = λ v h. (h, basis);
-    arrow = λ m h. map_read m h.0;
-    image_arrow = λ a h. (map_raw a h, basis);
+    arrow = λ m h. map_read h.0;
+    image_arrow = λ a h. (map_raw h, basis);
     source = λ a. refl;
     target = λ a. refl;
     identity = λ v. word_plain v v (cond (is_marked_in p v) (v ∷ []) []);

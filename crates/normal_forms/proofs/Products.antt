@@ -84,25 +84,21 @@ module _ {K : Type 0} (k : Field K) where
   each-product P Q R h (t ∷ p) q a b = each-append R (front t q) (product p q) (each-front P Q R h t q a.0 b) (each-product P Q R h p q a.1 b)
 
   module _ (o : Order) (g : Rules o) (join : (u v : Word) → o.Range u → o.Range v → o.Range (u ++ v)) (empty : o.Range []) where
-    pub cong_before : (x : Word) → o.Range x → (p q : Form K) → Cong k o g p q → Cong k o g (with_words (λ u. x ++ u) p) (with_words (λ u. x ++ u) q)
-    cong_before x r p q e = cong_trans k o g _ _ _ (cong_same k o g _ _ (moved p))
-        (cong_trans k o g _ _ _ (cong_between k o g join x [] r empty p q e) (cong_same k o g _ _ (sym (moved q))))
+    pub cong_before : {x : Word} → o.Range x → {p q : Form K} → Cong k o g p q → Cong k o g (with_words (λ u. x ++ u) p) (with_words (λ u. x ++ u) q)
+    cong_before {x} r {p} {q} e = cong_trans k o g (cong_same k o g (moved p))
+        (cong_trans k o g (cong_between k o g join r empty e) (cong_same k o g (sym (moved q))))
       where
         moved : (p : Form K) → with_words (λ u. x ++ u) p ≡ with_words (λ u. x ++ (u ++ [])) p
         moved p = words-same _ _ p (λ u. ap (λ z. x ++ z) (sym (append-nil u)))
 
-    pub cong_behind : (y : Word) → o.Range y → (p q : Form K) → Cong k o g p q → Cong k o g (with_words (λ u. u ++ y) p) (with_words (λ u. u ++ y) q)
-    cong_behind y r p q e = cong_between k o g join [] y empty r p q e
+    pub cong_behind : {y : Word} → o.Range y → {p q : Form K} → Cong k o g p q → Cong k o g (with_words (λ u. u ++ y) p) (with_words (λ u. u ++ y) q)
+    cong_behind r e = cong_between k o g join empty r e
 
-    pub cong_product_right : (p q q' : Form K) → Each o.Range p → Cong k o g q q' → Cong k o g (product p q) (product p q')
-    cong_product_right [] q q' a e = cong_refl k o g []
-    cong_product_right (t ∷ p) q q' a e = cong_append k o g (front t q) (front t q') (product p q) (product p q')
-        (cong_before t.1 a.0 (scaled k t.0 q) (scaled k t.0 q') (cong_scaled k o g t.0 q q' e)) (cong_product_right p q q' a.1 e)
+    pub cong_product_right : (p : Form K) {q q' : Form K} → Each o.Range p → Cong k o g q q' → Cong k o g (product p q) (product p q')
+    cong_product_right [] a e = cong_refl k o g []
+    cong_product_right (t ∷ p) a e = cong_append k o g (cong_before a.0 (cong_scaled k o g t.0 e)) (cong_product_right p a.1 e)
 
-    pub cong_product_left : (p p' q : Form K) → Each o.Range q → Cong k o g p p' → Cong k o g (product p q) (product p' q)
-    cong_product_left p p' [] a e = cong_same k o g _ _ (product-none p ∙ sym (product-none p'))
-    cong_product_left p p' (s ∷ q) a e = cong_left k o g (product p (s ∷ q)) (behind s p ++ product p q) (product p' (s ∷ q)) (product-behind p s q)
-        (cong_trans k o g _ _ _
-        (cong_append k o g (behind s p) (behind s p') (product p q) (product p' q)
-        (cong_behind s.1 a.0 (scaled k s.0 p) (scaled k s.0 p') (cong_scaled k o g s.0 p p' e)) (cong_product_left p p' q a.1 e))
-        (alike _ _ (alike_sym k _ _ (product-behind p' s q))))
+    pub cong_product_left : {p p' : Form K} (q : Form K) → Each o.Range q → Cong k o g p p' → Cong k o g (product p q) (product p' q)
+    cong_product_left {p} {p'} [] a e = cong_same k o g (product-none p ∙ sym (product-none p'))
+    cong_product_left {p} {p'} (s ∷ q) a e = cong_left k o g (product-behind p s q) (cong_trans k o g (cong_append k o g
+        (cong_behind a.0 (cong_scaled k o g s.0 e)) (cong_product_left q a.1 e)) (alike _ _ (alike_sym k (product-behind p' s q))))

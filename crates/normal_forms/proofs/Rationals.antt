@@ -32,8 +32,8 @@ pub record Rational : Type 0 where
   pub bottom : ℕ
   pub lowest : IsLowest top bottom
 
-lowest_same : (a : ℤ) (b : ℕ) (p q : IsLowest a b) → p ≡ q
-lowest_same a b p q = λ i. record { positive = le_prop p.positive q.positive i; apart = λ d h j. ℕ_set d 1 (p.apart d h j) (q.apart d h j) i }
+lowest_same : {a : ℤ} {b : ℕ} (p q : IsLowest a b) → p ≡ q
+lowest_same p q = λ i. record { positive = le_prop p.positive q.positive i; apart = λ d h j. ℕ_set d 1 (p.apart d h j) (q.apart d h j) i }
 
 abbrev made : (a : ℤ) (b : ℕ) → IsLowest a b → Rational
 made a b h = record { top = a; bottom = b; lowest = h }
@@ -43,7 +43,7 @@ rational_same x y e f = go x.top y.top x.bottom y.bottom e f x.lowest y.lowest
   where
     go : (a c : ℤ) (b d : ℕ) → a ≡ c → b ≡ d → (p : IsLowest a b) (q : IsLowest c d) → made a b p ≡ made c d q
     go a c b d e f p = subst (λ z. (q : IsLowest z d) → made a b p ≡ made z d q) e
-        (subst (λ z. (q : IsLowest a z) → made a b p ≡ made a z q) f (λ q. ap (made a b) (lowest_same a b p q)))
+        (subst (λ z. (q : IsLowest a z) → made a b p ≡ made a z q) f (λ q. ap (made a b) (lowest_same p q)))
 
 unsigned_abs-neg : (a : ℤ) → unsigned_abs (neg_ℤ a) ≡ unsigned_abs a
 unsigned_abs-neg (pos zero) = refl
@@ -62,31 +62,23 @@ unsigned_abs-quotient : (a : ℤ) (g : ℕ) → unsigned_abs (quotient a g) ≡ 
 unsigned_abs-quotient (pos n) g = refl
 unsigned_abs-quotient (negsuc n) g = unsigned_abs-neg (pos (suc n / g))
 
-divisor_positive : (g b : ℕ) → g ∣ b → 0 < b → 0 < g
-divisor_positive zero b h p = absurd (none b (eq-zero_of_zero-dvd h) p)
-  where
-    none : (b : ℕ) → b ≡ 0 → 0 < b → ⊥
-    none b e p = omega (arith, e)
-divisor_positive (suc g) b h p = omega arith
+divisor_positive : (g : ℕ) {b : ℕ} → g ∣ b → 0 < b → 0 < g
+divisor_positive zero {b} h p = absurd (omega (arith, (eq-zero_of_zero-dvd h)))
+divisor_positive (suc g) h p = omega arith
 
-factor_positive : (g m b : ℕ) → g * m ≡ b → 0 < b → 0 < m
-factor_positive g zero b e p = omega (arith, e)
-factor_positive g (suc m) b e p = omega arith
+factor_positive : (g m : ℕ) {b : ℕ} → g * m ≡ b → 0 < b → 0 < m
+factor_positive g zero e p = omega (arith, e)
+factor_positive g (suc m) e p = omega arith
 
-quotient_lowest : (a : ℤ) (b g : ℕ) → 0 < b → IsGcd (unsigned_abs a) b g → IsLowest (quotient a g) (b / g)
-quotient_lowest a b g p h =
+quotient_lowest : (a : ℤ) {b : ℕ} (g : ℕ) → 0 < b → IsGcd (unsigned_abs a) b g → IsLowest (quotient a g) (b / g)
+quotient_lowest a {b} g p h =
     record {
-      positive = factor_positive g (b / g) b (mul-div_cancel' g h.1) p;
+      positive = factor_positive g (b / g) (mul-div_cancel' g h.1) p;
       apart =
-          λ d i j. eq-one_of_dvd-one
-          (dvd_of_mul-dvd-mul_left d (divisor_positive g b h.1 p)
-          (subst (λ z. g * d ∣ z) (sym (one_more g))
+          λ d i j. eq-one_of_dvd-one (dvd_of_mul-dvd-mul_left d (divisor_positive g h.1 p) (subst (λ z. g * d ∣ z) (sym (omega arith))
           (h.2 (g * d) (subst (λ z. g * d ∣ z) (mul-div_cancel' g h.0) (mul-dvd-mul_left d g (subst (λ z. d ∣ z) (unsigned_abs-quotient a g) i)))
           (subst (λ z. g * d ∣ z) (mul-div_cancel' g h.1) (mul-dvd-mul_left d g j)))));
     }
-  where
-    one_more : (g : ℕ) → g * 1 ≡ g
-    one_more g = omega arith
 
 pub zero_in_lowest : IsLowest (pos 0) 1
 zero_in_lowest = record { positive = omega arith; apart = λ d i j. eq-one_of_dvd-one j }
@@ -96,7 +88,7 @@ pub over : ℤ → ℕ → Rational
 over a zero = made (pos 0) 1 zero_in_lowest
 over a (suc b) =
     let g = unsigned_abs (gcd_of a (pos (suc b))) in
-    made (quotient a g) (suc b / g) (quotient_lowest a (suc b) g (omega arith) (gcd_of-IsGcd a (pos (suc b))))
+    made (quotient a g) (suc b / g) (quotient_lowest a g (omega arith) (gcd_of-IsGcd a (pos (suc b))))
 
 -- x is a over b
 pub record Value (x : Rational) (a : ℤ) (b : ℕ) : Type 0 where
@@ -109,7 +101,7 @@ over_value a zero h = absurd (omega arith)
 over_value a (suc b) h = from (unsigned_abs (gcd_of a (pos (suc b)))) (gcd_of-IsGcd a (pos (suc b)))
   where
     from : (g : ℕ) (divides : IsGcd (unsigned_abs a) (suc b) g)
-        → Value (made (quotient a g) (suc b / g) (quotient_lowest a (suc b) g (omega arith) divides)) a (suc b)
+        → Value (made (quotient a g) (suc b / g) (quotient_lowest a g (omega arith) divides)) a (suc b)
     from g divides = record {
       positive = omega arith;
       cross = ap (λ z. quotient a g *ℤ z) (ap pos (sym (mul-div_cancel' g divides.1))) ∙ mul_swap (quotient a g) (pos g) (pos (suc b / g))
@@ -119,8 +111,8 @@ over_value a (suc b) h = from (unsigned_abs (gcd_of a (pos (suc b)))) (gcd_of-Is
 pub self_value : (x : Rational) → Value x x.top x.bottom
 self_value x = record { positive = x.lowest.positive; cross = refl }
 
-cancel : (n : ℕ) (a b : ℤ) → 0 < n → a *ℤ pos n ≡ b *ℤ pos n → a ≡ b
-cancel n a b h e = apart a b
+cancel : {n : ℕ} (a b : ℤ) → 0 < n → a *ℤ pos n ≡ b *ℤ pos n → a ≡ b
+cancel {n} a b h e = apart a b
     (*ℤ_cancel n (a +ℤ neg_ℤ b) h (*ℤ_comm (pos n) (a +ℤ neg_ℤ b) ∙ +ℤ-*ℤ a (neg_ℤ b) (pos n) ∙ ap₂ ◌+ℤ◌ e (neg_ℤ-*ℤ b (pos n)) ∙ +ℤ_invr (b *ℤ pos n)))
   where
     apart : (a b : ℤ) → a +ℤ neg_ℤ b ≡ pos 0 → a ≡ b
@@ -148,28 +140,24 @@ cross_unique x y e = rational_same x y tops bottoms
         (divides_other y.bottom (unsigned_abs y.top) x.bottom (lowest_gcd y) (subst (λ z. y.bottom ∣ z) sizes (dvd-mul_left y.bottom (unsigned_abs x.top))))
 
     tops : x.top ≡ y.top
-    tops = cancel y.bottom x.top y.top y.lowest.positive (e ∙ ap (λ z. y.top *ℤ pos z) bottoms)
+    tops = cancel x.top y.top y.lowest.positive (e ∙ ap (λ z. y.top *ℤ pos z) bottoms)
 
-pub value_unique : (x y : Rational) (a : ℤ) (b : ℕ) → Value x a b → Value y a b → x ≡ y
-value_unique x y a b v w = cross_unique x y
-    (cancel b _ _ v.positive
+pub value_unique : {x y : Rational} {a : ℤ} {b : ℕ} → Value x a b → Value y a b → x ≡ y
+value_unique {x} {y} {a} {b} v w = cross_unique x y (cancel _ _ v.positive
     (turn x.top (pos y.bottom) (pos b) ∙ ap (λ z. z *ℤ pos y.bottom) v.cross ∙ turn a (pos x.bottom) (pos y.bottom)
     ∙ ap (λ z. z *ℤ pos x.bottom) (sym w.cross) ∙ turn y.top (pos b) (pos x.bottom)))
   where
     turn : (p q r : ℤ) → (p *ℤ q) *ℤ r ≡ (p *ℤ r) *ℤ q
     turn p q r = *ℤ_assoc p q r ∙ ap (λ z. p *ℤ z) (*ℤ_comm q r) ∙ sym (*ℤ_assoc p r q)
 
-pub value_change : (x : Rational) (a c : ℤ) (b d : ℕ) → a ≡ c → b ≡ d → Value x a b → Value x c d
-value_change x a c b d e f v = subst (λ z. Value x z d) e (subst (λ z. Value x a z) f v)
-
-pos_times : (x y : ℕ) → 0 < x → 0 < y → 0 < x * y
-pos_times x y p q = grind arith
+pub value_change : {x : Rational} {a c : ℤ} {b d : ℕ} → a ≡ c → b ≡ d → Value x a b → Value x c d
+value_change {x} {a} {d} e f v = subst (λ z. Value x z d) e (subst (λ z. Value x a z) f v)
 
 -- enlarged
-pub value_times : (x : Rational) (a : ℤ) (b n : ℕ) → 0 < n → Value x a b → Value x (a *ℤ pos n) (b * n)
-value_times x a b n h v =
+pub value_times : {x : Rational} {a : ℤ} {b n : ℕ} → 0 < n → Value x a b → Value x (a *ℤ pos n) (b * n)
+value_times {x} {a} {b} {n} h v =
     record {
-      positive = pos_times b n v.positive h;
+      positive = grind arith;
       cross = sym (*ℤ_assoc x.top (pos b) (pos n)) ∙ ap (λ z. z *ℤ pos n) v.cross
           ∙ *ℤ_assoc a (pos x.bottom) (pos n) ∙ ap (λ z. a *ℤ z) (*ℤ_comm (pos x.bottom) (pos n)) ∙ sym (*ℤ_assoc a (pos n) (pos x.bottom));
     }
@@ -187,18 +175,18 @@ rational_minus x = made (neg_ℤ x.top) x.bottom
 swap4 : (a b c d : ℤ) → (a *ℤ b) *ℤ (c *ℤ d) ≡ (a *ℤ c) *ℤ (b *ℤ d)
 swap4 a b c d = *ℤ_assoc a b (c *ℤ d) ∙ ap (λ z. a *ℤ z) (mul_swap b c d) ∙ sym (*ℤ_assoc a c (b *ℤ d))
 
-pub carry : (x : Rational) (a c : ℤ) (b d : ℕ) → Value x a b → a *ℤ pos d ≡ c *ℤ pos b → x.top *ℤ pos d ≡ c *ℤ pos x.bottom
-carry x a c b d v e = cancel b _ _ v.positive
+pub carry : {x : Rational} {a : ℤ} (c : ℤ) {b : ℕ} (d : ℕ) → Value x a b → a *ℤ pos d ≡ c *ℤ pos b → x.top *ℤ pos d ≡ c *ℤ pos x.bottom
+carry {x} {a} c {b} d v e = cancel _ _ v.positive
     (turn x.top (pos d) (pos b) ∙ ap (λ z. z *ℤ pos d) v.cross ∙ turn a (pos x.bottom) (pos d) ∙ ap (λ z. z *ℤ pos x.bottom) e
     ∙ turn c (pos b) (pos x.bottom))
   where
     turn : (p q r : ℤ) → (p *ℤ q) *ℤ r ≡ (p *ℤ r) *ℤ q
     turn p q r = *ℤ_assoc p q r ∙ ap (λ z. p *ℤ z) (*ℤ_comm q r) ∙ sym (*ℤ_assoc p r q)
 
-pub plus_value : (x y : Rational) (a c : ℤ) (b d : ℕ) → Value x a b → Value y c d → Value (rational_plus x y) (a *ℤ pos d +ℤ c *ℤ pos b) (b * d)
+pub plus_value : {x y : Rational} {a c : ℤ} {b d : ℕ} → Value x a b → Value y c d → Value (rational_plus x y) (a *ℤ pos d +ℤ c *ℤ pos b) (b * d)
 unfolding rational_plus
-plus_value x y a c b d v w = through
-    (over_value (x.top *ℤ pos y.bottom +ℤ y.top *ℤ pos x.bottom) (x.bottom * y.bottom) (pos_times x.bottom y.bottom x.lowest.positive y.lowest.positive))
+plus_value {x} {y} {a} {c} {b} {d} v w = through
+    (over_value (x.top *ℤ pos y.bottom +ℤ y.top *ℤ pos x.bottom) (x.bottom * y.bottom) (grind arith))
   where
     S : Rational
     S = over (x.top *ℤ pos y.bottom +ℤ y.top *ℤ pos x.bottom) (x.bottom * y.bottom)
@@ -219,25 +207,22 @@ plus_value x y a c b d v w = through
     through : Value S (x.top *ℤ pos y.bottom +ℤ y.top *ℤ pos x.bottom) (x.bottom * y.bottom) → Value S (a *ℤ pos d +ℤ c *ℤ pos b) (b * d)
     through u =
         record {
-          positive = pos_times b d v.positive w.positive;
-          cross =
-              carry S (x.top *ℤ pos y.bottom +ℤ y.top *ℤ pos x.bottom) (a *ℤ pos d +ℤ c *ℤ pos b) (x.bottom * y.bottom) (b * d) u same;
+          positive = grind arith;
+          cross = carry (a *ℤ pos d +ℤ c *ℤ pos b) (b * d) u same;
         }
 
-pub times_value : (x y : Rational) (a c : ℤ) (b d : ℕ) → Value x a b → Value y c d → Value (rational_times x y) (a *ℤ c) (b * d)
+pub times_value : {x y : Rational} {a c : ℤ} {b d : ℕ} → Value x a b → Value y c d → Value (rational_times x y) (a *ℤ c) (b * d)
 unfolding rational_times
-times_value x y a c b d v w =
+times_value {x} {y} {a} {c} {b} {d} v w =
     record {
-      positive = pos_times b d v.positive w.positive;
-      cross =
-          carry (over (x.top *ℤ y.top) (x.bottom * y.bottom)) (x.top *ℤ y.top) (a *ℤ c) (x.bottom * y.bottom) (b * d)
-          (over_value (x.top *ℤ y.top) (x.bottom * y.bottom) (pos_times x.bottom y.bottom x.lowest.positive y.lowest.positive))
+      positive = grind arith;
+      cross = carry (a *ℤ c) (b * d) (over_value (x.top *ℤ y.top) (x.bottom * y.bottom) (grind arith))
           (swap4 x.top y.top (pos b) (pos d) ∙ ap₂ (λ p q. p *ℤ q) v.cross w.cross ∙ swap4 a (pos x.bottom) c (pos y.bottom));
     }
 
-pub minus_value : (x : Rational) (a : ℤ) (b : ℕ) → Value x a b → Value (rational_minus x) (neg_ℤ a) b
+pub minus_value : {x : Rational} {a : ℤ} {b : ℕ} → Value x a b → Value (rational_minus x) (neg_ℤ a) b
 unfolding rational_minus
-minus_value x a b v = record { positive = v.positive; cross = neg_ℤ-*ℤ x.top (pos b) ∙ ap neg_ℤ v.cross ∙ sym (neg_ℤ-*ℤ a (pos x.bottom)) }
+minus_value {x} {a} {b} v = record { positive = v.positive; cross = neg_ℤ-*ℤ x.top (pos b) ∙ ap neg_ℤ v.cross ∙ sym (neg_ℤ-*ℤ a (pos x.bottom)) }
 
 pub rational_none : Rational
 rational_none = made (pos 0) 1 zero_in_lowest
@@ -250,43 +235,28 @@ rational_part n = over (pos 1) n
 
 is_zero_true : (a : ℤ) → is_zero a ≡ true → a ≡ pos 0
 is_zero_true (pos zero) e = refl
-is_zero_true (pos (suc n)) e = absurd (clash e)
-  where
-    clash : false ≡ true → ⊥
-    clash e = cc
-is_zero_true (negsuc n) e = absurd (clash e)
-  where
-    clash : false ≡ true → ⊥
-    clash e = cc
+is_zero_true (pos (suc n)) e = absurd (cc)
+is_zero_true (negsuc n) e = absurd (cc)
 
 times_one : (a : ℤ) → a *ℤ pos 1 ≡ a
 times_one a = *ℤ_comm a (pos 1) ∙ omega (arith, ints)
-
-one_mul : (n : ℕ) → 1 * n ≡ n
-one_mul n = omega arith
-
-mul_one : (n : ℕ) → n * 1 ≡ n
-mul_one n = omega arith
 
 int_value : (a : ℤ) → Value (rational_int a) a 1
 unfolding rational_int
 int_value a = self_value (rational_int a)
 
-none_value : (n : ℕ) → 0 < n → Value rational_none (pos 0) n
+none_value : {n : ℕ} → 0 < n → Value rational_none (pos 0) n
 unfolding rational_none
-none_value n h = value_change rational_none (pos 0 *ℤ pos n) (pos 0) (1 * n) n (zero-*ℤ (pos n)) (one_mul n)
-    (value_times rational_none (pos 0) 1 n h (self_value rational_none))
+none_value {n} h = value_change (zero-*ℤ (pos n)) (omega arith) (value_times h (self_value rational_none))
 
-part_value : (n : ℕ) → 0 < n → Value (rational_part n) (pos 1) n
+part_value : {n : ℕ} → 0 < n → Value (rational_part n) (pos 1) n
 unfolding rational_part
-part_value n h = over_value (pos 1) n h
+part_value {n} h = over_value (pos 1) n h
 
 plus_assoc : (x y z : Rational) → rational_plus (rational_plus x y) z ≡ rational_plus x (rational_plus y z)
-plus_assoc x y z = value_unique (rational_plus (rational_plus x y) z) (rational_plus x (rational_plus y z)) _ _
-    (plus_value (rational_plus x y) z _ _ _ _ (plus_value x y _ _ _ _ (self_value x) (self_value y)) (self_value z))
-    (value_change (rational_plus x (rational_plus y z)) _ _ _ _ (sym (tops x.top y.top z.top (pos x.bottom) (pos y.bottom) (pos z.bottom)))
-    (sym (mul_assoc x.bottom y.bottom z.bottom))
-    (plus_value x (rational_plus y z) _ _ _ _ (self_value x) (plus_value y z _ _ _ _ (self_value y) (self_value z))))
+plus_assoc x y z = value_unique (plus_value (plus_value (self_value x) (self_value y)) (self_value z))
+    (value_change (sym (tops x.top y.top z.top (pos x.bottom) (pos y.bottom) (pos z.bottom))) (sym (mul_assoc x.bottom y.bottom z.bottom))
+    (plus_value (self_value x) (plus_value (self_value y) (self_value z))))
   where
     tops : (a b c d e f : ℤ) → (a *ℤ e +ℤ b *ℤ d) *ℤ f +ℤ c *ℤ (d *ℤ e) ≡ a *ℤ (e *ℤ f) +ℤ (b *ℤ f +ℤ c *ℤ e) *ℤ d
     tops a b c d e f = simp (+ℤ-*ℤ, *ℤ_assoc)
@@ -294,95 +264,75 @@ plus_assoc x y z = value_unique (rational_plus (rational_plus x y) z) (rational_
         ap (λ z. c *ℤ z) (*ℤ_comm d e) in omega (arith, ints, p, q))
 
 plus_comm : (x y : Rational) → rational_plus x y ≡ rational_plus y x
-plus_comm x y = value_unique (rational_plus x y) (rational_plus y x) _ _ (plus_value x y _ _ _ _ (self_value x) (self_value y))
-    (value_change (rational_plus y x) _ _ _ _ (swapped (y.top *ℤ pos x.bottom) (x.top *ℤ pos y.bottom)) (mul_comm y.bottom x.bottom)
-    (plus_value y x _ _ _ _ (self_value y) (self_value x)))
-  where
-    swapped : (a b : ℤ) → a +ℤ b ≡ b +ℤ a
-    swapped a b = omega (arith, ints)
+plus_comm x y = value_unique (plus_value (self_value x) (self_value y))
+    (value_change (omega (arith, ints)) (mul_comm y.bottom x.bottom)
+    (plus_value (self_value y) (self_value x)))
 
 plus_none : (x : Rational) → rational_plus x rational_none ≡ x
-plus_none x = value_unique (rational_plus x rational_none) x _ _
-    (value_change (rational_plus x rational_none) _ _ _ _ (ap₂ ◌+ℤ◌ (times_one x.top) (zero-*ℤ (pos x.bottom)) ∙ +ℤ_idr x.top) (mul_one x.bottom)
-    (plus_value x rational_none _ _ _ _ (self_value x) (none_value 1 (omega arith)))) (self_value x)
+plus_none x = value_unique (value_change (ap₂ ◌+ℤ◌ (times_one x.top) (zero-*ℤ (pos x.bottom)) ∙ +ℤ_idr x.top) (omega arith)
+    (plus_value (self_value x) (none_value (omega arith)))) (self_value x)
 
 plus_minus : (x : Rational) → rational_plus x (rational_minus x) ≡ rational_none
-plus_minus x = value_unique (rational_plus x (rational_minus x)) rational_none _ _
-    (value_change (rational_plus x (rational_minus x)) _ _ _ _
+plus_minus x = value_unique (value_change
     (ap (λ z. x.top *ℤ pos x.bottom +ℤ z) (neg_ℤ-*ℤ x.top (pos x.bottom)) ∙ +ℤ_invr (x.top *ℤ pos x.bottom)) refl
-    (plus_value x (rational_minus x) _ _ _ _ (self_value x) (minus_value x _ _ (self_value x))))
-    (none_value (x.bottom * x.bottom) (pos_times x.bottom x.bottom x.lowest.positive x.lowest.positive))
+    (plus_value (self_value x) (minus_value (self_value x)))) (none_value (grind arith))
 
 times_assoc : (x y z : Rational) → rational_times (rational_times x y) z ≡ rational_times x (rational_times y z)
-times_assoc x y z = value_unique (rational_times (rational_times x y) z) (rational_times x (rational_times y z)) _ _
-    (times_value (rational_times x y) z _ _ _ _ (times_value x y _ _ _ _ (self_value x) (self_value y)) (self_value z))
-    (value_change (rational_times x (rational_times y z)) _ _ _ _ (sym (*ℤ_assoc x.top y.top z.top)) (sym (mul_assoc x.bottom y.bottom z.bottom))
-    (times_value x (rational_times y z) _ _ _ _ (self_value x) (times_value y z _ _ _ _ (self_value y) (self_value z))))
+times_assoc x y z = value_unique (times_value (times_value (self_value x) (self_value y)) (self_value z))
+    (value_change (sym (*ℤ_assoc x.top y.top z.top)) (sym (mul_assoc x.bottom y.bottom z.bottom))
+    (times_value (self_value x) (times_value (self_value y) (self_value z))))
 
 times_comm : (x y : Rational) → rational_times x y ≡ rational_times y x
-times_comm x y = value_unique (rational_times x y) (rational_times y x) _ _ (times_value x y _ _ _ _ (self_value x) (self_value y))
-    (value_change (rational_times y x) _ _ _ _ (*ℤ_comm y.top x.top) (mul_comm y.bottom x.bottom) (times_value y x _ _ _ _ (self_value y) (self_value x)))
+times_comm x y = value_unique (times_value (self_value x) (self_value y))
+    (value_change (*ℤ_comm y.top x.top) (mul_comm y.bottom x.bottom) (times_value (self_value y) (self_value x)))
 
 one_times : (x : Rational) → rational_times (rational_int (pos 1)) x ≡ x
-one_times x = value_unique (rational_times (rational_int (pos 1)) x) x _ _
-    (value_change (rational_times (rational_int (pos 1)) x) _ _ _ _ (*ℤ_comm (pos 1) x.top ∙ times_one x.top) (one_mul x.bottom)
-    (times_value (rational_int (pos 1)) x _ _ _ _ (int_value (pos 1)) (self_value x))) (self_value x)
+one_times x = value_unique (value_change (*ℤ_comm (pos 1) x.top ∙ times_one x.top) (omega arith)
+    (times_value (int_value (pos 1)) (self_value x))) (self_value x)
 
 times_plus : (x y z : Rational) → rational_times x (rational_plus y z) ≡ rational_plus (rational_times x y) (rational_times x z)
-times_plus x y z = value_unique (rational_times x (rational_plus y z)) (rational_plus (rational_times x y) (rational_times x z)) _ _
-    (value_change (rational_times x (rational_plus y z)) _ _ _ _ (tops x.top y.top z.top (pos x.bottom) (pos y.bottom) (pos z.bottom))
-    (bottoms x.bottom y.bottom z.bottom)
-    (value_times (rational_times x (rational_plus y z)) _ _ x.bottom x.lowest.positive
-    (times_value x (rational_plus y z) _ _ _ _ (self_value x) (plus_value y z _ _ _ _ (self_value y) (self_value z)))))
-    (plus_value (rational_times x y) (rational_times x z) _ _ _ _ (times_value x y _ _ _ _ (self_value x) (self_value y))
-    (times_value x z _ _ _ _ (self_value x) (self_value z)))
+times_plus x y z = value_unique (value_change (tops x.top y.top z.top (pos x.bottom) (pos y.bottom) (pos z.bottom))
+    (mul_assoc x.bottom (y.bottom * z.bottom) x.bottom ∙ ap (λ z. x.bottom * z) (mul_assoc y.bottom z.bottom x.bottom ∙ ap
+    (λ z. y.bottom * z) (mul_comm z.bottom x.bottom)) ∙ sym (mul_assoc x.bottom y.bottom (x.bottom * z.bottom)))
+    (value_times x.lowest.positive
+    (times_value (self_value x) (plus_value (self_value y) (self_value z))))) (plus_value (times_value (self_value x) (self_value y))
+    (times_value (self_value x) (self_value z)))
   where
     tops : (a b c d e f : ℤ) → (a *ℤ (b *ℤ f +ℤ c *ℤ e)) *ℤ d ≡ (a *ℤ b) *ℤ (d *ℤ f) +ℤ (a *ℤ c) *ℤ (d *ℤ e)
     tops a b c d e f = simp (*ℤ-+ℤ, +ℤ-*ℤ, *ℤ_assoc)
         (let p : a *ℤ (b *ℤ (f *ℤ d)) ≡ a *ℤ (b *ℤ (d *ℤ f)) = ap (λ z. a *ℤ (b *ℤ z)) (*ℤ_comm f d) in let q : a *ℤ (c *ℤ (e *ℤ d)) ≡ a *ℤ (c *ℤ (d *ℤ e)) =
         ap (λ z. a *ℤ (c *ℤ z)) (*ℤ_comm e d) in omega (arith, ints, p, q))
 
-    bottoms : (d e f : ℕ) → (d * (e * f)) * d ≡ (d * e) * (d * f)
-    bottoms d e f = mul_assoc d (e * f) d ∙ ap (λ z. d * z) (mul_assoc e f d ∙ ap (λ z. e * z) (mul_comm f d)) ∙ sym (mul_assoc d e (d * f))
-
 int_plus : (a b : ℤ) → rational_int (a +ℤ b) ≡ rational_plus (rational_int a) (rational_int b)
-int_plus a b = value_unique (rational_int (a +ℤ b)) (rational_plus (rational_int a) (rational_int b)) _ _ (int_value (a +ℤ b))
-    (value_change (rational_plus (rational_int a) (rational_int b)) _ _ _ _ (ap₂ ◌+ℤ◌ (times_one a) (times_one b)) refl
-    (plus_value (rational_int a) (rational_int b) _ _ _ _ (int_value a) (int_value b)))
+int_plus a b = value_unique (int_value (a +ℤ b)) (value_change (ap₂ ◌+ℤ◌ (times_one a) (times_one b)) refl
+    (plus_value (int_value a) (int_value b)))
 
 int_times : (a b : ℤ) → rational_int (a *ℤ b) ≡ rational_times (rational_int a) (rational_int b)
-int_times a b = value_unique (rational_int (a *ℤ b)) (rational_times (rational_int a) (rational_int b)) _ _ (int_value (a *ℤ b))
-    (times_value (rational_int a) (rational_int b) _ _ _ _ (int_value a) (int_value b))
+int_times a b = value_unique (int_value (a *ℤ b)) (times_value (int_value a) (int_value b))
 
 int_only : (a : ℤ) → rational_int a ≡ rational_none → a ≡ pos 0
 unfolding rational_int rational_none
 int_only a e = ap (λ x. x.top) e
 
 part_is : (n : ℕ) → 0 < n → rational_times (rational_int (pos n)) (rational_part n) ≡ rational_int (pos 1)
-part_is n h = value_unique (rational_times (rational_int (pos n)) (rational_part n)) (rational_int (pos 1)) _ _
-    (times_value (rational_int (pos n)) (rational_part n) _ _ _ _ (int_value (pos n)) (part_value n h))
-    (value_change (rational_int (pos 1)) _ _ _ _ (*ℤ_comm (pos 1) (pos n)) refl (value_times (rational_int (pos 1)) _ _ n h (int_value (pos 1))))
+part_is n h = value_unique (times_value (int_value (pos n)) (part_value h))
+    (value_change (*ℤ_comm (pos 1) (pos n)) refl (value_times h (int_value (pos 1))))
 
 split : (x : Rational) → (a : ℤ) × (n : ℕ) × (0 < n) × (x ≡ rational_times (rational_int a) (rational_part n))
 split x = (
   x.top,
   x.bottom,
   x.lowest.positive,
-  value_unique x (rational_times (rational_int x.top) (rational_part x.bottom)) _ _ (self_value x)
-      (value_change (rational_times (rational_int x.top) (rational_part x.bottom)) _ _ _ _ (times_one x.top) (one_mul x.bottom)
-      (times_value (rational_int x.top) (rational_part x.bottom) _ _ _ _ (int_value x.top) (part_value x.bottom x.lowest.positive))),
+  value_unique (self_value x) (value_change (times_one x.top) (omega arith)
+      (times_value (int_value x.top) (part_value x.lowest.positive))),
 )
 
 none_true : (x : Rational) → is_zero x.top ≡ true → x ≡ rational_none
-none_true x e = value_unique x rational_none _ _ (value_change x x.top (pos 0) x.bottom x.bottom (is_zero_true x.top e) refl (self_value x))
-    (none_value x.bottom x.lowest.positive)
+none_true x e = value_unique (value_change (is_zero_true x.top e) refl (self_value x)) (none_value x.lowest.positive)
 
 none_false : (x : Rational) → is_zero x.top ≡ false → x ≢ rational_none
 unfolding rational_none
-none_false x e h = clash (sym (ap (λ z. is_zero z.top) h) ∙ e)
-  where
-    clash : true ≡ false → ⊥
-    clash e = cc
+none_false x e h = cc (sym (ap (λ z. is_zero z.top) h) ∙ e)
 
 pub rationals : Field Rational
 rationals = record {
@@ -463,7 +413,7 @@ abbrev pub read : Fraction → Rational
 read x = over x.top x.bottom
 
 pub read_raw : (x : Rational) → read (raw x) ≡ x
-read_raw x = value_unique (over x.top x.bottom) x x.top x.bottom (over_value x.top x.bottom x.lowest.positive) (self_value x)
+read_raw x = value_unique (over_value x.top x.bottom x.lowest.positive) (self_value x)
 
 pub raw_read : (x : Fraction) → IsLowest x.top x.bottom → raw (read x) ≡ x
 raw_read x lowest = ap raw (read_raw (record { top = x.top; bottom = x.bottom; lowest = lowest }))

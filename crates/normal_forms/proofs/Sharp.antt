@@ -62,13 +62,10 @@ module _ {K : Type 0} (k : Field K) where
         forth : (a z : K) → z ≡ k.plus a (k.plus (k.minus a) z)
         forth a z = sym (sym (k.plus_assoc a (k.minus a) z) ∙ ap (λ y. k.plus y z) (k.plus_minus a) ∙ none_plus k z)
 
-        product_of : (w : Word) → k.int (c *ℤ b w) ≡ k.times (k.int c) (k.int (b w))
-        product_of w = k.int_times c (b w)
-
         at_rest : (w : Word) → look k r w ≡ k.int (d w)
         at_rest w = lookup (row k o g (k.minus (k.int c)) x.left x.number x.right) p w
             ∙ ap₂ k.plus (at_row (k.minus (k.int c)) w ∙ minus_times k (k.int c) (k.int (b w)))
-            (e w ∙ ap k.int (h w) ∙ k.int_plus (c *ℤ b w) (d w) ∙ ap (λ z. k.plus z (k.int (d w))) (product_of w))
+            (e w ∙ ap k.int (h w) ∙ k.int_plus (c *ℤ b w) (d w) ∙ ap (λ z. k.plus z (k.int (d w))) (k.int_times c (b w)))
             ∙ back (k.times (k.int c) (k.int (b w))) (k.int (d w))
 
         whole : (w : Word) → look k p w ≡ look k (row k o g (k.int c) x.left x.number x.right ++ r) w
@@ -78,8 +75,8 @@ module _ {K : Type 0} (k : Field K) where
             ∙ ap₂ k.plus (at_row (k.int c) w)
             (lookup (row k o g (k.minus (k.int c)) x.left x.number x.right) p w
             ∙ ap (λ z. k.plus z (look k p w)) (at_row (k.minus (k.int c)) w ∙ minus_times k (k.int c) (k.int (b w)))))
-    span_like _ (part f d n hn hd h) p e = cong_left k o g p (scaled k (k.part n) (scaled k (k.int (pos n)) p)) [] (record { at = shrunk })
-        (cong_scaled k o g (k.part n) _ [] (span_like d hd (scaled k (k.int (pos n)) p) grown))
+    span_like _ (part f d n hn hd h) p e = cong_left k o g (record { at = shrunk })
+        (cong_scaled k o g (k.part n) (span_like d hd (scaled k (k.int (pos n)) p) grown))
       where
         grown : (w : Word) → look k (scaled k (k.int (pos n)) p) w ≡ k.int (d w)
         grown w = sum-scaled k (λ u. hit k u w) (k.int (pos n)) p ∙ ap (k.times (k.int (pos n))) (e w) ∙ sym (k.int_times (pos n) (f w))
@@ -112,273 +109,247 @@ module _ {K : Type 0} (k : Field K) (s : Ground k) where
   abbrev pub TermsPlay : List (ℤ × List ℕ) → Type 0
   TermsPlay p = AllByRecursion (λ t. AllPlay s.play t.1) p
 
-module _ {K : Type 0} (k : Field K) (s : Ground k) (facts : Facts k s) where
-  letter_good : (a : ℕ) → a < letters s.quiver → s.play a ≡ true → Good k s (source s.quiver a) (target s.quiver a) (a ∷ [])
-  letter_good a h e =
-      record { leads = one_letter s.quiver (source s.quiver a) (target s.quiver a) a h refl refl; plays = (e, tt); unit = λ q. absurd (clash a [] q) }
-    where
-      clash : (a : ℕ) (w : Word) → a ∷ w ≡ [] → ⊥
-      clash a w e = cc
+  module _ (facts : Facts k s) where
+    letter_good : {a : ℕ} → a < letters s.quiver → s.play a ≡ true → Good k s (source s.quiver a) (target s.quiver a) (a ∷ [])
+    letter_good {a} h e =
+        record { leads = one_letter s.quiver h refl refl; plays = (e, tt); unit = λ q. absurd (cc) }
 
-  word_is_arrow : (u v : ℕ) (w : Word) → u < s.quiver.objects → v < s.quiver.objects → Good k s u v w → IsArrow (S k s) u v ((word_arrow k s) u v w)
-  word_is_arrow u v w hu hv a =
-      record {
-        arrow =
-            record {
-              source_is_object = hu;
-              target_is_object = hv;
-              sorted = form-collect k s.sorting (Nf k s ((k.one, w) ∷ []));
-              irreducible =
-                  reduced_irreducible k s facts ((k.one, w) ∷ []) (good_range k s facts u v w a, tt);
-              words = reduced_good k s facts u v ((k.one, w) ∷ []) (a, tt);
-            };
-        source = refl;
-        target = refl;
-      }
+    word_is_arrow : {u v : ℕ} {w : Word} → u < s.quiver.objects → v < s.quiver.objects → Good k s u v w → IsArrow S u v (word_arrow u v w)
+    word_is_arrow {u} {v} {w} hu hv a =
+        record {
+          arrow =
+              record {
+                source_is_object = hu;
+                target_is_object = hv;
+                sorted = form-collect k s.sorting (Nf k s ((k.one, w) ∷ []));
+                irreducible =
+                    reduced_irreducible k s facts ((k.one, w) ∷ []) (good_range k s facts u v w a, tt);
+                words = reduced_good k s facts u v ((k.one, w) ∷ []) (a, tt);
+              };
+          source = refl;
+          target = refl;
+        }
 
-  letter_is_arrow : (a : ℕ) → a < letters s.quiver → IsArrow (S k s) (source s.quiver a) (target s.quiver a) ((letter_arrow k s) a)
-  letter_is_arrow a h = go (s.play a) refl (ltb a s.quiver.objects) refl
-    where
-      su : source s.quiver a < s.quiver.objects
-      su = facts.is_quiver.source_is_object a h
+    letter_is_arrow : (a : ℕ) → a < letters s.quiver → IsArrow S (source s.quiver a) (target s.quiver a) (letter_arrow a)
+    letter_is_arrow a h = go (s.play a) refl (ltb a s.quiver.objects) refl
+      where
+        su : source s.quiver a < s.quiver.objects
+        su = facts.is_quiver.source_is_object a h
 
-      ta : target s.quiver a < s.quiver.objects
-      ta = facts.is_quiver.target_is_object a h
+        ta : target s.quiver a < s.quiver.objects
+        ta = facts.is_quiver.target_is_object a h
 
-      go : (b : Bool) → s.play a ≡ b → (c : Bool) → ltb a s.quiver.objects ≡ c
-          → IsArrow (S k s) (source s.quiver a) (target s.quiver a)
-          (cond b ((word_arrow k s) (source s.quiver a) (target s.quiver a) (a ∷ []))
-          (cond c ((S k s).identity a) ((S k s).zero (source s.quiver a) (target s.quiver a))))
-      go true e c f = word_is_arrow _ _ (a ∷ []) su ta (letter_good a h e)
-      go false e true f = subst (λ z. IsArrow (S k s) z (target s.quiver a) ((S k s).identity a))
-          (sym (facts.is_quiver.identity_source a (ltb-true a s.quiver.objects f)))
-          (subst (λ z. IsArrow (S k s) a z ((S k s).identity a)) (sym (facts.is_quiver.identity_target a (ltb-true a s.quiver.objects f)))
-          (identity_arrow k s facts a (ltb-true a s.quiver.objects f)))
-      go false e false f = zero_arrow k s facts _ _ su ta
+        go : (b : Bool) → s.play a ≡ b → (c : Bool) → ltb a s.quiver.objects ≡ c → IsArrow S (source s.quiver a) (target s.quiver a)
+            (cond b (word_arrow (source s.quiver a) (target s.quiver a) (a ∷ []))
+            (cond c (S.identity a) (S.zero (source s.quiver a) (target s.quiver a))))
+        go true e c f = word_is_arrow su ta (letter_good h e)
+        go false e true f = subst (λ z. IsArrow S z (target s.quiver a) (S.identity a))
+            (sym (facts.is_quiver.identity_source a (ltb-true a s.quiver.objects f)))
+            (subst (λ z. IsArrow S a z (S.identity a)) (sym (facts.is_quiver.identity_target a (ltb-true a s.quiver.objects f)))
+            (identity_arrow k s facts a (ltb-true a s.quiver.objects f)))
+        go false e false f = zero_arrow k s facts _ _ su ta
 
-  letter_identity : (v : ℕ) → v < s.quiver.objects → (letter_arrow k s) v ≡ (S k s).identity v
-  letter_identity v h = go (s.play v) refl
-    where
-      go : (b : Bool) → s.play v ≡ b → cond b ((word_arrow k s) (source s.quiver v) (target s.quiver v) (v ∷ []))
-          (cond (ltb v s.quiver.objects) ((S k s).identity v) ((S k s).zero (source s.quiver v) (target s.quiver v))) ≡ (S k s).identity v
-      go true e = arrow_same _ _ (facts.is_quiver.identity_source v h) (facts.is_quiver.identity_target v h)
-          (ap (λ b. reduced k s ((k.one, cond b (v ∷ []) []) ∷ [])) (sym (facts.play_marked v h e)))
-      go false e = ap (λ b. cond b ((S k s).identity v) ((S k s).zero (source s.quiver v) (target s.quiver v))) (lt-ltb v s.quiver.objects h)
+    letter_identity : (v : ℕ) → v < s.quiver.objects → letter_arrow v ≡ S.identity v
+    letter_identity v h = go (s.play v) refl
+      where
+        go : (b : Bool) → s.play v ≡ b → cond b (word_arrow (source s.quiver v) (target s.quiver v) (v ∷ []))
+            (cond (ltb v s.quiver.objects) (S.identity v) (S.zero (source s.quiver v) (target s.quiver v))) ≡ S.identity v
+        go true e = arrow_same _ _ (facts.is_quiver.identity_source v h) (facts.is_quiver.identity_target v h)
+            (ap (λ b. reduced k s ((k.one, cond b (v ∷ []) []) ∷ [])) (sym (facts.play_marked v h e)))
+        go false e = ap (λ b. cond b (S.identity v) (S.zero (source s.quiver v) (target s.quiver v))) (lt-ltb v s.quiver.objects h)
 
-  pub normal_represents : Represents (S k s) s.quiver (normal_representation k s)
-  normal_represents = record { objects = λ v h. h; arrows = letter_is_arrow; identities = letter_identity }
+    pub normal_represents : Represents S s.quiver normal_representation
+    normal_represents = record { objects = λ v h. h; arrows = letter_is_arrow; identities = letter_identity }
 
-  lookup : (p q : Form K) (w : Word) → look k (p ++ q) w ≡ k.plus (look k p w) (look k q w)
-  lookup p q w = sum-append k (λ u. hit k u w) p q
+    lookup : (p q : Form K) (w : Word) → look k (p ++ q) w ≡ k.plus (look k p w) (look k q w)
+    lookup p q w = sum-append k (λ u. hit k u w) p q
 
-  look-natural : (n : ℕ) (a : NormalMap K) (w : Word) → look k (natural_multiple (S k s) n a).form w ≡ k.times (k.int (pos n)) (look k a.form w)
-  look-natural zero a w = sym (ap (λ z. k.times z (look k a.form w)) (int_none k) ∙ none_times k (look k a.form w))
-  look-natural (suc n) a w = look-collect k s.sorting (a.form ++ (natural_multiple (S k s) n a).form) w ∙ lookup a.form (natural_multiple (S k s) n a).form w
-      ∙ ap₂ k.plus (sym (k.one_times (look k a.form w))) (look-natural n a w) ∙ sym (plus_times k k.one (k.int (pos n)) (look k a.form w))
-      ∙ ap (λ z. k.times z (look k a.form w))
-      (ap (λ z. k.plus z (k.int (pos n))) (sym k.int_one) ∙ sym (k.int_plus (pos 1) (pos n)) ∙ ap k.int (more_by_one n))
-    where
-      more_by_one : (n : ℕ) → pos 1 +ℤ pos n ≡ pos (suc n)
-      more_by_one n = omega (arith, ints)
+    look-natural : (n : ℕ) (a : NormalMap K) (w : Word) → look k (natural_multiple S n a).form w ≡ k.times (k.int (pos n)) (look k a.form w)
+    look-natural zero a w = sym (ap (λ z. k.times z (look k a.form w)) (int_none k) ∙ none_times k (look k a.form w))
+    look-natural (suc n) a w = look-collect k s.sorting (a.form ++ (natural_multiple S n a).form) w ∙ lookup a.form (natural_multiple S n a).form w
+        ∙ ap₂ k.plus (sym (k.one_times (look k a.form w))) (look-natural n a w) ∙ sym (plus_times k k.one (k.int (pos n)) (look k a.form w))
+        ∙ ap (λ z. k.times z (look k a.form w))
+        (ap (λ z. k.plus z (k.int (pos n))) (sym k.int_one) ∙ sym (k.int_plus (pos 1) (pos n)) ∙ ap k.int (omega (arith, ints)))
 
-  look-multiple : (c : ℤ) (a : NormalMap K) (w : Word) → look k (multiple (S k s) c a).form w ≡ k.times (k.int c) (look k a.form w)
-  look-multiple (pos n) a w = look-natural n a w
-  look-multiple (negsuc n) a w = look-collect k s.sorting (scaled k (k.minus k.one) (natural_multiple (S k s) (suc n) a).form) w
-      ∙ sum-scaled k (λ u. hit k u w) (k.minus k.one) (natural_multiple (S k s) (suc n) a).form ∙ minus_one k _ ∙ ap k.minus (look-natural (suc n) a w)
-      ∙ sym (minus_times k (k.int (pos (suc n))) (look k a.form w))
-      ∙ ap (λ z. k.times z (look k a.form w))
-      (sym (minus_unique k (k.int (pos (suc n))) (k.int (negsuc n)) (sym (k.int_plus (pos (suc n)) (negsuc n)) ∙ ap k.int (none_left n) ∙ int_none k)))
-    where
-      none_left : (n : ℕ) → pos (suc n) +ℤ negsuc n ≡ pos 0
-      none_left n = omega (arith, ints)
+    look-multiple : (c : ℤ) (a : NormalMap K) (w : Word) → look k (multiple S c a).form w ≡ k.times (k.int c) (look k a.form w)
+    look-multiple (pos n) a w = look-natural n a w
+    look-multiple (negsuc n) a w = look-collect k s.sorting (scaled k (k.minus k.one) (natural_multiple S (suc n) a).form) w
+        ∙ sum-scaled k (λ u. hit k u w) (k.minus k.one) (natural_multiple S (suc n) a).form ∙ minus_one k _ ∙ ap k.minus (look-natural (suc n) a w)
+        ∙ sym (minus_times k (k.int (pos (suc n))) (look k a.form w))
+        ∙ ap (λ z. k.times z (look k a.form w))
+        (sym (minus_unique k (k.int (pos (suc n))) (k.int (negsuc n)) (sym (k.int_plus (pos (suc n)) (negsuc n)) ∙ ap k.int (omega (arith, ints)) ∙ int_none k)))
 
-  natural_arrow : (x y n : ℕ) (a : NormalMap K) → IsArrow (S k s) x y a → IsArrow (S k s) x y (natural_multiple (S k s) n a)
-  natural_arrow x y zero a h =
-      record {
-        arrow = (zero_arrow k s facts a.source a.target h.arrow.source_is_object h.arrow.target_is_object).arrow;
-        source = h.source;
-        target =
-            h.target;
-      }
-  natural_arrow x y (suc n) a h = add_arrow k s facts x y a (natural_multiple (S k s) n a) h (natural_arrow x y n a h)
+    natural_arrow : {x y : ℕ} (n : ℕ) {a : NormalMap K} → IsArrow S x y a → IsArrow S x y (natural_multiple S n a)
+    natural_arrow zero {a} h =
+        record {
+          arrow = (zero_arrow k s facts a.source a.target h.arrow.source_is_object h.arrow.target_is_object).arrow;
+          source = h.source;
+          target =
+              h.target;
+        }
+    natural_arrow {x} {y} (suc n) {a} h = add_arrow k s facts x y a (natural_multiple S n a) h (natural_arrow n h)
 
-  multiple_arrow : (x y : ℕ) (c : ℤ) (a : NormalMap K) → IsArrow (S k s) x y a → IsArrow (S k s) x y (multiple (S k s) c a)
-  multiple_arrow x y (pos n) a h = natural_arrow x y n a h
-  multiple_arrow x y (negsuc n) a h = negate_arrow k s facts x y (natural_multiple (S k s) (suc n) a) (natural_arrow x y (suc n) a h)
+    multiple_arrow : {x y : ℕ} (c : ℤ) {a : NormalMap K} → IsArrow S x y a → IsArrow S x y (multiple S c a)
+    multiple_arrow (pos n) h = natural_arrow n h
+    multiple_arrow {x} {y} (negsuc n) {a} h = negate_arrow k s facts x y (natural_multiple S (suc n) a) (natural_arrow (suc n) h)
 
-  pub normal_cancels : (n : ℕ) → 0 < n → Cancels (S k s) (pos n)
-  normal_cancels n h =
-      record {
-        at = λ a m e. arrow_same a _ refl refl
-            (form_unique k s.sorting a.form [] m.sorted tt
-            (record { at = λ w. int_cancel k n (look k a.form w) h (sym (look-natural n a w) ∙ ap (λ z. look k z.form w) e) }));
-      }
+    pub normal_cancels : {n : ℕ} → 0 < n → Cancels S (pos n)
+    normal_cancels {n} h =
+        record {
+          at = λ a m e. arrow_same a _ refl refl
+              (form_unique k s.sorting a.form [] m.sorted tt
+              (record { at = λ w. int_cancel k (look k a.form w) h (sym (look-natural n a w) ∙ ap (λ z. look k z.form w) e) }));
+        }
 
-  path_arrow : (u v a : ℕ) (w : Word) → Good k s u v (a ∷ w) → path_value (S k s) (normal_representation k s) a w ≡ (word_arrow k s) u v (a ∷ w)
-  path_arrow u v a [] h = ap
-      (λ b. cond b ((word_arrow k s) (source s.quiver a) (target s.quiver a) (a ∷ []))
-      (cond (ltb a s.quiver.objects) ((S k s).identity a) ((S k s).zero (source s.quiver a) (target s.quiver a)))) h.plays.0
-      ∙ arrow_same _ _ (sym (eqb-true u (source s.quiver a) first.rest)) first.target refl
-    where
-      first : Step s.quiver u v a []
-      first = step s.quiver u v a [] h.leads
-  path_arrow u v a (b ∷ w) h = ap₂ (S k s).compose at_letter (path_arrow u (source s.quiver a) b w rest)
-      ∙ arrow_same _ _ refl first.target
-      (reduced_same k s facts (product k (reduced k s A) (reduced k s W)) ((k.one, a ∷ b ∷ w) ∷ []) (ranges k s facts u (target s.quiver a) _ (product_good))
-      (good_range k s facts u v _ h, tt)
-      (cong_trans k s.order s.rules _ _ _
-      (product_left k s facts (reduced k s A) A (reduced k s W)
-      (ranges k s facts u (source s.quiver a) _ (reduced_good k s facts u (source s.quiver a) W (rest, tt)))
-      (reduced_like k s facts A (good_range k s facts _ _ _ (letter_good a first.letter h.plays.0), tt)))
-      (cong_trans k s.order s.rules _ _ _
-      (product_right k s facts A (reduced k s W) W (good_range k s facts _ _ _ (letter_good a first.letter h.plays.0), tt)
-      (reduced_like k s facts W (good_range k s facts _ _ _ rest, tt)))
-      (cong_same k s.order s.rules _ _ (ap (λ z. (z, a ∷ b ∷ w) ∷ []) (k.one_times k.one))))))
-    where
-      A : Form K
-      A = (k.one, a ∷ []) ∷ []
+    path_arrow : {u : ℕ} (v : ℕ) {a : ℕ} (w : Word) → Good k s u v (a ∷ w) → path_value S normal_representation a w ≡ word_arrow u v (a ∷ w)
+    path_arrow {u} v {a} [] h = ap (λ b. cond b (word_arrow (source s.quiver a) (target s.quiver a) (a ∷ []))
+        (cond (ltb a s.quiver.objects) (S.identity a) (S.zero (source s.quiver a) (target s.quiver a)))) h.plays.0
+        ∙ arrow_same _ _ (sym (eqb-true u (source s.quiver a) first.rest)) first.target refl
+      where
+        first : Step s.quiver u v a []
+        first = step s.quiver u v a [] h.leads
+    path_arrow {u} v {a} (b ∷ w) h = ap₂ S.compose at_letter (path_arrow (source s.quiver a) w rest) ∙ arrow_same _ _ refl first.target
+        (reduced_same k s facts (ranges k s facts u (target s.quiver a) _ (product_good)) (good_range k s facts u v _ h, tt)
+        (cong_trans k s.order s.rules (product_left k s facts (reduced k s A) A (reduced k s W)
+        (ranges k s facts u (source s.quiver a) _ (reduced_good k s facts u (source s.quiver a) W (rest, tt)))
+        (reduced_like k s facts (good_range k s facts _ _ _ (letter_good first.letter h.plays.0), tt))) (cong_trans k s.order s.rules
+        (product_right k s facts A (reduced k s W) W (good_range k s facts _ _ _ (letter_good first.letter h.plays.0), tt)
+        (reduced_like k s facts (good_range k s facts _ _ _ rest, tt)))
+        (cong_same k s.order s.rules (ap (λ z. (z, a ∷ b ∷ w) ∷ []) (k.one_times k.one))))))
+      where
+        A : Form K
+        A = (k.one, a ∷ []) ∷ []
 
-      W : Form K
-      W = (k.one, b ∷ w) ∷ []
+        W : Form K
+        W = (k.one, b ∷ w) ∷ []
 
-      first : Step s.quiver u v a (b ∷ w)
-      first = step s.quiver u v a (b ∷ w) h.leads
+        first : Step s.quiver u v a (b ∷ w)
+        first = step s.quiver u v a (b ∷ w) h.leads
 
-      clash : (a : ℕ) (w : Word) → a ∷ w ≡ [] → ⊥
-      clash a w e = cc
+        rest : Good k s u (source s.quiver a) (b ∷ w)
+        rest = record { leads = first.rest; plays = h.plays.1; unit = λ q. absurd (cc) }
 
-      rest : Good k s u (source s.quiver a) (b ∷ w)
-      rest = record { leads = first.rest; plays = h.plays.1; unit = λ q. absurd (clash b w q) }
+        at_letter : letter_arrow a ≡ word_arrow (source s.quiver a) (target s.quiver a) (a ∷ [])
+        at_letter = ap (λ b. cond b (word_arrow (source s.quiver a) (target s.quiver a) (a ∷ []))
+            (cond (ltb a s.quiver.objects) (S.identity a) (S.zero (source s.quiver a) (target s.quiver a)))) h.plays.0
 
-      at_letter : (letter_arrow k s) a ≡ (word_arrow k s) (source s.quiver a) (target s.quiver a) (a ∷ [])
-      at_letter = ap
-          (λ b. cond b ((word_arrow k s) (source s.quiver a) (target s.quiver a) (a ∷ []))
-          (cond (ltb a s.quiver.objects) ((S k s).identity a) ((S k s).zero (source s.quiver a) (target s.quiver a)))) h.plays.0
+        product_good : Each (Good k s u (target s.quiver a)) (product k (reduced k s A) (reduced k s W))
+        product_good = compose_words k s facts u (source s.quiver a) (target s.quiver a) (reduced k s A) (reduced k s W)
+            (reduced_good k s facts _ _ A (letter_good first.letter h.plays.0, tt)) (reduced_good k s facts _ _ W (rest, tt))
 
-      product_good : Each (Good k s u (target s.quiver a)) (product k (reduced k s A) (reduced k s W))
-      product_good = compose_words k s facts u (source s.quiver a) (target s.quiver a) (reduced k s A) (reduced k s W)
-          (reduced_good k s facts _ _ A (letter_good a first.letter h.plays.0, tt)) (reduced_good k s facts _ _ W (rest, tt))
+    -- the terms whose words are paths of the signature
+    abbrev kept : ℕ → ℕ → List (ℤ × List ℕ) → List (ℤ × List ℕ)
+    kept u v [] = []
+    kept u v (t ∷ p) = cond (is_path s.quiver u v t.1) (t ∷ kept u v p) (kept u v p)
 
-  -- the terms whose words are paths of the signature
-  abbrev kept : ℕ → ℕ → List (ℤ × List ℕ) → List (ℤ × List ℕ)
-  kept u v [] = []
-  kept u v (t ∷ p) = cond (is_path s.quiver u v t.1) (t ∷ kept u v p) (kept u v p)
+    kept_same : (u v : ℕ) (p : List (ℤ × List ℕ)) (w : List ℕ) → coefficient_of (kept u v p) w ≡ cond (is_path s.quiver u v w) (coefficient_of p w) (pos 0)
+    kept_same u v [] w = go (is_path s.quiver u v w)
+      where
+        go : (b : Bool) → pos 0 ≡ cond b (pos 0) (pos 0)
+        go true = refl
+        go false = refl
+    kept_same u v (t ∷ p) w = go (is_path s.quiver u v t.1) refl (word_eq t.1 w) refl (kept_same u v p w)
+      where
+        Goal : Bool → Bool → Type 0
+        Goal b c = coefficient_of (kept u v p) w ≡ cond (is_path s.quiver u v w) (coefficient_of p w) (pos 0)
+            → coefficient_of (cond b (t ∷ kept u v p) (kept u v p)) w ≡ cond (is_path s.quiver u v w) (cond c t.0 (pos 0) +ℤ coefficient_of p w) (pos 0)
 
-  kept_same : (u v : ℕ) (p : List (ℤ × List ℕ)) (w : List ℕ) → coefficient_of (kept u v p) w ≡ cond (is_path s.quiver u v w) (coefficient_of p w) (pos 0)
-  kept_same u v [] w = go (is_path s.quiver u v w)
-    where
-      go : (b : Bool) → pos 0 ≡ cond b (pos 0) (pos 0)
-      go true = refl
-      go false = refl
-  kept_same u v (t ∷ p) w = go (is_path s.quiver u v t.1) refl (word_eq t.1 w) refl (kept_same u v p w)
-    where
-      Goal : Bool → Bool → Type 0
-      Goal b c = coefficient_of (kept u v p) w ≡ cond (is_path s.quiver u v w) (coefficient_of p w) (pos 0)
-          → coefficient_of (cond b (t ∷ kept u v p) (kept u v p)) w ≡ cond (is_path s.quiver u v w) (cond c t.0 (pos 0) +ℤ coefficient_of p w) (pos 0)
+        spread : (d : Bool) (y : ℤ) → cond d y (pos 0) ≡ cond d (pos 0 +ℤ y) (pos 0)
+        spread true y = sym (+ℤ_idl y)
+        spread false y = refl
 
-      spread : (d : Bool) (y : ℤ) → cond d y (pos 0) ≡ cond d (pos 0 +ℤ y) (pos 0)
-      spread true y = sym (+ℤ_idl y)
-      spread false y = refl
+        go : (b : Bool) → is_path s.quiver u v t.1 ≡ b → (c : Bool) → word_eq t.1 w ≡ c → Goal b c
+        go true e true f ih = ap (λ x. cond x t.0 (pos 0) +ℤ coefficient_of (kept u v p) w) f
+            ∙ ap (λ z. t.0 +ℤ z) (ih ∙ ap (λ d. cond d (coefficient_of p w) (pos 0)) at) ∙ sym (ap (λ d. cond d (t.0 +ℤ coefficient_of p w) (pos 0)) at)
+          where
+            at : is_path s.quiver u v w ≡ true
+            at = ap (is_path s.quiver u v) (sym (word_eq-true t.1 w f)) ∙ e
+        go true e false f ih = ap (λ x. cond x t.0 (pos 0) +ℤ coefficient_of (kept u v p) w) f ∙ +ℤ_idl (coefficient_of (kept u v p) w) ∙ ih
+            ∙ spread (is_path s.quiver u v w) (coefficient_of p w)
+        go false e true f ih = ih ∙ ap (λ d. cond d (coefficient_of p w) (pos 0)) at ∙ sym (ap (λ d. cond d (t.0 +ℤ coefficient_of p w) (pos 0)) at)
+          where
+            at : is_path s.quiver u v w ≡ false
+            at = ap (is_path s.quiver u v) (sym (word_eq-true t.1 w f)) ∙ e
+        go false e false f ih = ih ∙ spread (is_path s.quiver u v w) (coefficient_of p w)
 
-      go : (b : Bool) → is_path s.quiver u v t.1 ≡ b → (c : Bool) → word_eq t.1 w ≡ c → Goal b c
-      go true e true f ih = ap (λ x. cond x t.0 (pos 0) +ℤ coefficient_of (kept u v p) w) f
-          ∙ ap (λ z. t.0 +ℤ z) (ih ∙ ap (λ d. cond d (coefficient_of p w) (pos 0)) at) ∙ sym (ap (λ d. cond d (t.0 +ℤ coefficient_of p w) (pos 0)) at)
-        where
-          at : is_path s.quiver u v w ≡ true
-          at = ap (is_path s.quiver u v) (sym (word_eq-true t.1 w f)) ∙ e
-      go true e false f ih = ap (λ x. cond x t.0 (pos 0) +ℤ coefficient_of (kept u v p) w) f ∙ +ℤ_idl (coefficient_of (kept u v p) w) ∙ ih
-          ∙ spread (is_path s.quiver u v w) (coefficient_of p w)
-      go false e true f ih = ih ∙ ap (λ d. cond d (coefficient_of p w) (pos 0)) at ∙ sym (ap (λ d. cond d (t.0 +ℤ coefficient_of p w) (pos 0)) at)
-        where
-          at : is_path s.quiver u v w ≡ false
-          at = ap (is_path s.quiver u v) (sym (word_eq-true t.1 w f)) ∙ e
-      go false e false f ih = ih ∙ spread (is_path s.quiver u v w) (coefficient_of p w)
+    kept_typed : {u v : ℕ} {p : List (ℤ × List ℕ)} → IsTyped s.quiver u v p → (w : List ℕ) → coefficient_of (kept u v p) w ≡ coefficient_of p w
+    kept_typed {u} {v} {p} typed w = kept_same u v p w ∙ go (is_path s.quiver u v w) refl (ℤ_discrete (coefficient_of p w) (pos 0))
+      where
+        go : (b : Bool) → is_path s.quiver u v w ≡ b → Dec (coefficient_of p w ≡ pos 0) → cond b (coefficient_of p w) (pos 0) ≡ coefficient_of p w
+        go true e d = refl
+        go false e (yes z) = sym z
+        go false e (no n) = absurd (true≢false (sym (typed.at w n) ∙ e))
 
-  kept_typed : (u v : ℕ) (p : List (ℤ × List ℕ)) → IsTyped s.quiver u v p → (w : List ℕ) → coefficient_of (kept u v p) w ≡ coefficient_of p w
-  kept_typed u v p typed w = kept_same u v p w ∙ go (is_path s.quiver u v w) refl (ℤ_discrete (coefficient_of p w) (pos 0))
-    where
-      go : (b : Bool) → is_path s.quiver u v w ≡ b → Dec (coefficient_of p w ≡ pos 0) → cond b (coefficient_of p w) (pos 0) ≡ coefficient_of p w
-      go true e d = refl
-      go false e (yes z) = sym z
-      go false e (no n) = absurd (true≢false (sym (typed.at w n) ∙ e))
+    path_good : (u v : ℕ) (w : Word) → is_path s.quiver u v w ≡ true → AllPlay s.play w → Good k s u v w
+    path_good u v [] e a = absurd (cc)
+    path_good u v (b ∷ w) e a = record { leads = e; plays = a; unit = λ q. absurd (cc) }
 
-  path_good : (u v : ℕ) (w : Word) → is_path s.quiver u v w ≡ true → AllPlay s.play w → Good k s u v w
-  path_good u v [] e a = absurd (cc)
-  path_good u v (b ∷ w) e a = record { leads = e; plays = a; unit = λ q. absurd (clash b w q) }
-    where
-      clash : (a : ℕ) (w : Word) → a ∷ w ≡ [] → ⊥
-      clash a w e = cc
+    word_value_is : (u v : ℕ) (none : NormalMap K) (w : Word) → is_path s.quiver u v w ≡ true → AllPlay s.play w
+        → word_value S normal_representation none w ≡ word_arrow u v w
+    word_value_is u v none [] e a = absurd (cc)
+    word_value_is u v none (b ∷ w) e a = path_arrow v w (path_good u v (b ∷ w) e a)
 
-  word_value_is : (u v : ℕ) (none : NormalMap K) (w : Word) → is_path s.quiver u v w ≡ true → AllPlay s.play w
-      → word_value (S k s) (normal_representation k s) none w ≡ (word_arrow k s) u v w
-  word_value_is u v none [] e a = absurd (cc)
-  word_value_is u v none (b ∷ w) e a = path_arrow u v b w (path_good u v (b ∷ w) e a)
+    value_arrow : {u v : ℕ} (p : List (ℤ × List ℕ)) → u < s.quiver.objects → v < s.quiver.objects → TermsPlay p
+        → IsArrow S u v (value_at S s.quiver normal_representation u v p) × Like k s
+        (value_at S s.quiver normal_representation u v p).form (integral k (kept u v p))
+    value_arrow {u} {v} [] hu hv a = (zero_arrow k s facts u v hu hv, cong_refl k s.order s.rules [])
+    value_arrow {u} {v} (t ∷ p) hu hv a = go (is_path s.quiver u v t.1) refl (value_arrow p hu hv a.1)
+      where
+        R : NormalMap K
+        R = value_at S s.quiver normal_representation u v p
 
-  value_arrow : (u v : ℕ) (p : List (ℤ × List ℕ)) → u < s.quiver.objects → v < s.quiver.objects → (TermsPlay k s) p
-      → IsArrow (S k s) u v (value_at (S k s) s.quiver (normal_representation k s) u v p) × Like k s
-      (value_at (S k s) s.quiver (normal_representation k s) u v p).form (integral k (kept u v p))
-  value_arrow u v [] hu hv a = (zero_arrow k s facts u v hu hv, cong_refl k s.order s.rules [])
-  value_arrow u v (t ∷ p) hu hv a = go (is_path s.quiver u v t.1) refl (value_arrow u v p hu hv a.1)
-    where
-      R : NormalMap K
-      R = value_at (S k s) s.quiver (normal_representation k s) u v p
+        M : NormalMap K
+        M = multiple S t.0 (word_value S normal_representation (S.zero u v) t.1)
 
-      M : NormalMap K
-      M = multiple (S k s) t.0 (word_value (S k s) (normal_representation k s) ((S k s).zero u v) t.1)
+        go : (b : Bool) → is_path s.quiver u v t.1 ≡ b → IsArrow S u v R × Like k s R.form (integral k (kept u v p))
+            → IsArrow S u v (cond b (S.add M R) R) × Like k s (cond b (S.add M R) R).form (integral k (cond b (t ∷ kept u v p) (kept u v p)))
+        go false e ih = ih
+        go true e ih = (
+          add_arrow k s facts u v M R m_arrow ih.0,
+          cong_left k s.order s.rules (alike-collect k s.sorting (M.form ++ R.form)) (cong_append k s.order s.rules m_like ih.1),
+        )
+          where
+            is : word_value S normal_representation (S.zero u v) t.1 ≡ word_arrow u v t.1
+            is = word_value_is u v (S.zero u v) t.1 e a.0
 
-      go : (b : Bool) → is_path s.quiver u v t.1 ≡ b → IsArrow (S k s) u v R × Like k s R.form (integral k (kept u v p))
-          → IsArrow (S k s) u v (cond b ((S k s).add M R) R) × Like k s (cond b ((S k s).add M R) R).form (integral k (cond b (t ∷ kept u v p) (kept u v p)))
-      go false e ih = ih
-      go true e ih = (
-        add_arrow k s facts u v M R m_arrow ih.0,
-        cong_left k s.order s.rules _ (M.form ++ R.form) _ (alike-collect k s.sorting (M.form ++ R.form))
-            (cong_append k s.order s.rules M.form ((k.times k.one (k.int t.0), t.1) ∷ []) R.form (integral k (kept u v p)) m_like ih.1),
-      )
-        where
-          is : word_value (S k s) (normal_representation k s) ((S k s).zero u v) t.1 ≡ (word_arrow k s) u v t.1
-          is = word_value_is u v ((S k s).zero u v) t.1 e a.0
+            good : Good k s u v t.1
+            good = path_good u v t.1 e a.0
 
-          good : Good k s u v t.1
-          good = path_good u v t.1 e a.0
+            m_arrow : IsArrow S u v M
+            m_arrow = multiple_arrow t.0 (subst (λ z. IsArrow S u v z) (sym is) (word_is_arrow hu hv good))
 
-          m_arrow : IsArrow (S k s) u v M
-          m_arrow = multiple_arrow u v t.0 _ (subst (λ z. IsArrow (S k s) u v z) (sym is) (word_is_arrow u v t.1 hu hv good))
+            W : Form K
+            W = (k.one, t.1) ∷ []
 
-          W : Form K
-          W = (k.one, t.1) ∷ []
+            m_like : Like k s M.form ((k.times k.one (k.int t.0), t.1) ∷ [])
+            m_like = cong_left k s.order s.rules (record {
+              at = λ w. ap (λ z. look k (multiple S t.0 z).form w) is ∙ look-multiple t.0 (word_arrow u v t.1) w
+                  ∙ sym (sum-scaled k (λ u. hit k u w) (k.int t.0) (reduced k s W));
+            }) (cong_trans k s.order s.rules
+                (cong_scaled k s.order s.rules (k.int t.0) (reduced_like k s facts (good_range k s facts u v t.1 good, tt)))
+                (cong_same k s.order s.rules (ap (λ z. (z, t.1) ∷ []) (k.times_comm (k.int t.0) k.one))))
 
-          m_like : Like k s M.form ((k.times k.one (k.int t.0), t.1) ∷ [])
-          m_like = cong_left k s.order s.rules M.form (scaled k (k.int t.0) (reduced k s W)) _
-              (record {
-                at = λ w. ap (λ z. look k (multiple (S k s) t.0 z).form w) is ∙ look-multiple t.0 ((word_arrow k s) u v t.1) w
-                    ∙ sym (sum-scaled k (λ u. hit k u w) (k.int t.0) (reduced k s W));
-              })
-              (cong_trans k s.order s.rules _ _ _
-              (cong_scaled k s.order s.rules (k.int t.0) (reduced k s W) W (reduced_like k s facts W (good_range k s facts u v t.1 good, tt)))
-              (cong_same k s.order s.rules _ _ (ap (λ z. (z, t.1) ∷ []) (k.times_comm (k.int t.0) k.one))))
+    integral_typed : {u v : ℕ} {p : List (ℤ × List ℕ)} → IsTyped s.quiver u v p → Alike k (integral k (kept u v p)) (integral k p)
+    integral_typed {u} {v} {p} typed = record { at = λ w. look-lifted_one k (kept u v p) w ∙ ap k.int (kept_typed typed w) ∙ sym (look-lifted_one k p w) }
 
-  integral_typed : (u v : ℕ) (p : List (ℤ × List ℕ)) → IsTyped s.quiver u v p → Alike k (integral k (kept u v p)) (integral k p)
-  integral_typed u v p typed = record { at = λ w. look-lifted_one k (kept u v p) w ∙ ap k.int (kept_typed u v p typed w) ∙ sym (look-lifted_one k p w) }
+    value_like : {u v : ℕ} {p : List (ℤ × List ℕ)} → u < s.quiver.objects → v < s.quiver.objects → TermsPlay p → IsTyped s.quiver u v p
+        → Like k s (value_at S s.quiver normal_representation u v p).form (integral k p)
+    value_like {p} hu hv a typed = cong_trans k s.order s.rules (value_arrow p hu hv a).1 (alike _ _ (integral_typed typed))
 
-  value_like : (u v : ℕ) (p : List (ℤ × List ℕ)) → u < s.quiver.objects → v < s.quiver.objects → (TermsPlay k s) p → IsTyped s.quiver u v p
-      → Like k s (value_at (S k s) s.quiver (normal_representation k s) u v p).form (integral k p)
-  value_like u v p hu hv a typed = cong_trans k s.order s.rules _ _ _ (value_arrow u v p hu hv a).1 (alike _ _ (integral_typed u v p typed))
+    pub ideal_zero : (p : List (ℤ × List ℕ)) → TermsPlay p → Span (AnyRow s.order s.rules) (coefficient_of p)
+        → HasValueZero S s.quiver normal_representation p
+    ideal_zero p a h = record { at = λ u v hu hv typed. is_zero u v hu hv typed }
+      where
+        is_zero : (u v : ℕ) → u < s.quiver.objects → v < s.quiver.objects → IsTyped s.quiver u v p
+            → HasValueZeroAt S s.quiver normal_representation u v p
+        is_zero u v hu hv typed = arrow_same _ _ at.source at.target (same_form k s facts at.arrow.sorted tt at.arrow.irreducible tt
+            (cong_trans k s.order s.rules (value_like hu hv a typed) (ideal_like k s.order s.rules p h)))
+          where
+            at : IsArrow S u v (value_at S s.quiver normal_representation u v p)
+            at = (value_arrow p hu hv a).0
 
-  pub ideal_zero : (p : List (ℤ × List ℕ)) → (TermsPlay k s) p → Span (AnyRow s.order s.rules) (coefficient_of p)
-      → HasValueZero (S k s) s.quiver (normal_representation k s) p
-  ideal_zero p a h = record { at = λ u v hu hv typed. is_zero u v hu hv typed }
-    where
-      is_zero : (u v : ℕ) → u < s.quiver.objects → v < s.quiver.objects → IsTyped s.quiver u v p
-          → HasValueZeroAt (S k s) s.quiver (normal_representation k s) u v p
-      is_zero u v hu hv typed = arrow_same _ _ at.source at.target
-          (same_form k s facts _ [] at.arrow.sorted tt at.arrow.irreducible tt
-          (cong_trans k s.order s.rules _ _ _ (value_like u v p hu hv a typed) (ideal_like k s.order s.rules p h)))
-        where
-          at : IsArrow (S k s) u v (value_at (S k s) s.quiver (normal_representation k s) u v p)
-          at = (value_arrow u v p hu hv a).0
-
-  pub zero_ideal : (p : List (ℤ × List ℕ)) (u v : ℕ) → u < s.quiver.objects → v < s.quiver.objects → (TermsPlay k s) p → IsTyped s.quiver u v p
-      → HasValueZeroAt (S k s) s.quiver (normal_representation k s) u v p → Span (AnyRow s.order s.rules) (coefficient_of p)
-  zero_ideal p u v hu hv a typed e = cong_none_span k s.order s.rules p
-      (cong_trans k s.order s.rules _ _ _ (cong_sym k s.order s.rules _ _ (value_like u v p hu hv a typed))
-      (cong_same k s.order s.rules _ _ (ap (λ z. z.form) e)))
+    pub zero_ideal : {p : List (ℤ × List ℕ)} {u v : ℕ} → u < s.quiver.objects → v < s.quiver.objects → TermsPlay p → IsTyped s.quiver u v p
+        → HasValueZeroAt S s.quiver normal_representation u v p → Span (AnyRow s.order s.rules) (coefficient_of p)
+    zero_ideal {p} hu hv a typed e = cong_none_span k s.order s.rules p
+        (cong_trans k s.order s.rules (cong_sym k s.order s.rules (value_like hu hv a typed))
+        (cong_same k s.order s.rules (ap (λ z. z.form) e)))

@@ -1,6 +1,6 @@
 -- An object U, a map a of U, the rule a, and a starred statement that assumes nothing: the normal forms tell a' from zero, but have no involution,
 -- since a goes to zero. Both ways they have one.
-use Rattle.std.proofs.Common.{◌≡◌, ◌<◌, ℕ, zero, suc, pos, Bool, true, false, List, [], ◌∷◌, ◌++◌, length, Some, Option, refl, sym, ap, ◌∙◌, arith}
+use Rattle.std.proofs.Common.{◌≡◌, ◌<◌, ℕ, zero, suc, pos, Bool, true, false, List, [], ◌∷◌, length, Some, refl, sym, ap, ◌∙◌, arith}
 use Rattle.std.proofs.lemmas.Int.{ints}
 use Rattle.std.proofs.lemmas.List.{length-append}
 use Rattle.std.proofs.lemmas.List.Elements.{All-nil}
@@ -37,7 +37,7 @@ use Rattle.adjoint_rules.specs.declared.parts.Parts.{Parts}
 use Rattle.adjoint_rules.specs.Problem.{IsPosed, IsShape, IsSide, IsDeclaredMap, IsTypedOf, HasObjects, HasLettersInPlay, IsInPlay, is_in_play}
 use Rattle.adjoint_rules.proofs.Generators.{posed_quiver}
 use Rattle.confluence.specs.Typed.{IsTypedInPlay}
-use Rattle.confluence.specs.Reductions.{IsZero, IsReduced}
+use Rattle.confluence.specs.Reductions.{IsReduced}
 use Rattle.confluence.proofs.RestLaws.{normal_forms_are_reduced, rests_of_ideal_are_zero}
 use Rattle.confluence.proofs.WrittenTerms.{shaped_as_written}
 use Rattle.normal_forms.specs.Fractions.{Fraction}
@@ -78,12 +78,12 @@ none_pair R = λ i j d less inside. absurd (omega (arith, less, inside))
 
 one_typed : (a : ℕ) → IsPath (quiver_of declared) 0 0 (a ∷ []) → IsTypedOf declared (record { terms = (pos 1, a ∷ []) ∷ []; canonical = one_term a }) (at_object 0)
 one_typed a path = typed_from_paths (quiver_of declared) 0 0 ((pos 1, a ∷ []) ∷ [])
-    (alone (λ (t : Term). IsPath (quiver_of declared) 0 0 t.1) (pos 1, a ∷ []) path)
+    (alone (λ (t : Term). IsPath (quiver_of declared) 0 0 t.1) path)
 
 posed : IsPosed parts
 posed = record {
   declared = record {
-    distinct = AllPairs-cons Differs (85 ∷ []) ((97 ∷ []) ∷ []) (alone (Differs (85 ∷ [])) (97 ∷ []) (names_differ 85 97 (λ e. omega (arith, e))))
+    distinct = AllPairs-cons Differs (85 ∷ []) ((97 ∷ []) ∷ []) (alone (Differs (85 ∷ [])) (names_differ (λ e. omega (arith, e))))
         (all_pairs_one Differs (97 ∷ []));
     few_objects = omega arith;
     few_maps = omega arith;
@@ -99,13 +99,13 @@ posed = record {
   assumption_letters = All-nil (HasLettersInPlay declared true []);
   few_claims = omega arith;
   claims_typed = (one_typed 2 refl, tt);
-  claim_ends = alone (HasObjects declared) (at_object 0) (record { source = omega arith; target = omega arith });
-  claim_letters = alone (HasLettersInPlay declared true []) (record { terms = adjoint_terms; canonical = one_term 2 })
-      (alone (λ (t : Term). All (IsInPlay declared true []) t.1) (pos 1, 2 ∷ []) (alone (IsInPlay declared true []) 2 refl));
+  claim_ends = alone (HasObjects declared) (record { source = omega arith; target = omega arith });
+  claim_letters = alone (HasLettersInPlay declared true [])
+      (alone (λ (t : Term). All (IsInPlay declared true []) t.1) (alone (IsInPlay declared true []) refl));
   some_shape = omega arith;
   few_shapes = omega arith;
-  shapes = alone (IsShape 1) (record { modulus = 2; sides = 1 ∷ [] })
-      (record { modulus = refl; side_of_each = refl; sides = alone IsSide 1 (record { least = omega arith; most = omega arith }) });
+  shapes = alone (IsShape 1)
+      (record { modulus = refl; side_of_each = refl; sides = alone IsSide (record { least = omega arith; most = omega arith }) });
   solved_maps = All-nil (IsDeclaredMap declared);
   solved_ascending = λ i j d less inside. absurd (omega (arith, less, inside));
 }
@@ -121,46 +121,39 @@ laws : IsAdmissible 3 word_cmp (rank_of 3)
 laws = word_cmp-admissible 3
 
 over_letter : (a : ℕ) → a < 3 → IsOver 3 (a ∷ [])
-over_letter a inside = alone (λ b. b < 3) a inside
+over_letter a inside = alone (λ b. b < 3) inside
 
 are_rules : All (IsRule 3 word_cmp) rules
-are_rules = alone (IsRule 3 word_cmp) map_rule (record {
+are_rules = alone (IsRule 3 word_cmp) (record {
   leading = refl;
   positive = omega (arith, ints);
   in_range = omega arith;
-  nonempty = alone (λ (t : Term). 0 < length t.1) (pos 1, 1 ∷ []) (omega arith);
-  over = alone (λ (t : Term). IsOver 3 t.1) (pos 1, 1 ∷ []) (over_letter 1 (omega arith));
+  nonempty = alone (λ (t : Term). 0 < length t.1) (omega arith);
+  over = alone (λ (t : Term). IsOver 3 t.1) (over_letter 1 (omega arith));
 })
-
--- it meets no rule
-same_lead : (f g : Rule) → ◌≡◌ {A = Option Rule} (Some f) (Some g) → g.lead ≡ f.lead
-same_lead f g e = cc
 
 which : (n : ℕ) (g : Rule) → rule_at rules n ≡ Some g → (n ≡ 1) × (g.lead ≡ 1 ∷ [])
 which zero g is = absurd (cc)
-which (suc zero) g is = (refl, same_lead map_rule g is)
+which (suc zero) g is = (refl, (cc))
 which (suc (suc n)) g is = absurd (cc)
 
-no_ambiguity : (a : Ambiguity) → IsAmbiguity rules a → ⊥
-no_ambiguity a is = by_kind a.kind is.meets (which a.i is.first is.first_numbered) (which a.j is.second is.second_numbered)
+no_ambiguity : {a : Ambiguity} → IsAmbiguity rules a → ⊥
+no_ambiguity {a} is = by_kind a.kind is.meets (which a.i is.first is.first_numbered) (which a.j is.second is.second_numbered)
   where
-    short : (before shared : List ℕ) → 1 ∷ [] ≡ before ++ shared → 0 < length before → 0 < length shared → ⊥
-    short before shared e some other = omega (arith, ap length e, length-append before shared, some, other)
-
     by_kind : (k : Kind) → MeetsAs k a.i a.j is.first.lead is.second.lead a.place → (a.i ≡ 1) × (is.first.lead ≡ 1 ∷ [])
         → (a.j ≡ 1) × (is.second.lead ≡ 1 ∷ []) → ⊥
     by_kind Inclusion at f g = at.0 (f.0 ∙ sym g.0)
-    by_kind Overlap at f g = short at.before at.shared (sym f.1 ∙ at.left_splits) at.before_letters at.shared_letters
+    by_kind Overlap at f g = omega (arith, ap length (sym f.1 ∙ at.left_splits), length-append at.before at.shared, at.before_letters, at.shared_letters)
 
 resolved : Resolved 3 word_cmp rules
-resolved = record { each = λ a is. absurd (no_ambiguity a is) }
+resolved = record { each = λ a is. absurd (no_ambiguity is) }
 
 abbrev play : ℕ → Bool
 play = is_in_play declared true []
 
 typed : All (λ g. IsTypedInPlay (quiver_of declared) play g.poly.terms) rules
-typed = alone (λ (g : Rule). IsTypedInPlay (quiver_of declared) play g.poly.terms) map_rule
-    (record { source = 0; target = 0; typed = one_typed 1 refl; in_play = record { at = words_with_coefficients (AreInPlay play) map_terms (alone (λ (t : Term). AreInPlay play t.1) (pos 1, 1 ∷ []) refl) } })
+typed = alone (λ (g : Rule). IsTypedInPlay (quiver_of declared) play g.poly.terms)
+    (record { source = 0; target = 0; typed = one_typed 1 refl; in_play = record { at = words_with_coefficients (AreInPlay play) map_terms (alone (λ (t : Term). AreInPlay play t.1) refl) } })
 
 basis : IsBasis parts rules
 basis = record {
@@ -173,7 +166,7 @@ basis = record {
 
 -- a' is its own normal form, and so it is outside
 adjoint_over : All (λ t. IsOver 3 t.1) adjoint_terms
-adjoint_over = alone (λ (t : Term). IsOver 3 t.1) (pos 1, 2 ∷ []) (over_letter 2 (omega arith))
+adjoint_over = alone (λ (t : Term). IsOver 3 t.1) (over_letter 2 (omega arith))
 
 adjoint_reduced : IsReduced 3 word_cmp rules adjoint_terms (start_of adjoint_terms)
 adjoint_reduced = normal_forms_are_reduced 3 word_cmp (rank_of 3) rules adjoint_terms 0 (start_of adjoint_terms) laws are_rules
@@ -181,14 +174,7 @@ adjoint_reduced = normal_forms_are_reduced 3 word_cmp (rank_of 3) rules adjoint_
     adjoint_over refl
 
 outside : InRationalIdeal (polynomials_of rules) adjoint_terms → ⊥
-outside inside = clash (rests_of_ideal_are_zero 3 word_cmp (rank_of 3) rules adjoint_terms (start_of adjoint_terms) laws are_rules resolved inside
-    (record { at = words_with_coefficients (IsOver 3) adjoint_terms adjoint_over }) adjoint_reduced)
-  where
-    clash : IsZero adjoint_terms → ⊥
-    clash none = differ (none.at (2 ∷ []))
-      where
-        differ : pos 1 ≡ pos 0 → ⊥
-        differ e = cc
+outside inside = cc ((rests_of_ideal_are_zero 3 word_cmp (rank_of 3) rules adjoint_terms (start_of adjoint_terms) laws are_rules resolved inside (record { at = words_with_coefficients (IsOver 3) adjoint_terms adjoint_over }) adjoint_reduced).at (2 ∷ []))
 
 one_signature : (a : ℕ) → IsPath (quiver_of declared) 0 0 (a ∷ []) → HasSignature (quiver_of declared) ((pos 1, a ∷ []) ∷ [])
 one_signature a path = record { source = 0; target = 0; source_is_object = omega arith; target_is_object = omega arith; typed = one_typed a path }
@@ -208,7 +194,7 @@ no_involution adjoint involution star =
     claim.nonzero (other.1.0.at claim.source claim.target claim.source_is_object claim.target_is_object claim.typed)
   where
     first : HasValueZero (normal_forms parts rules) (quiver_of declared) (forms_representation parts rules) map_terms
-    first = inside_is_zero parts rules basis map_terms ((refl, tt), tt) (one_signature 1 refl) (record {
+    first = inside_is_zero parts rules basis ((refl, tt), tt) (one_signature 1 refl) (record {
       denominator = pos 1;
       rows = record { coefficient = pos 1; left = []; generator = 1; right = [] } ∷ [];
       combination = record { positive = omega (arith, ints); sum = record { at = λ w. refl } };

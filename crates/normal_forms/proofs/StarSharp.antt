@@ -1,8 +1,8 @@
 -- A claim of a starred statement that isn't zero isn't zero both ways: the generators have the adjoints of the assumptions.
-use Rattle.std.proofs.Common.{◌≡◌, ℕ, ◌<◌, ℤ, pos, negsuc, ◌*ℤ◌, Bool, true, false, cond, ◌||◌, List, [], ◌∷◌, refl, sym, ap, ◌∙◌, arith}
+use Rattle.std.proofs.Common.{◌≡◌, ℕ, ◌<◌, negsuc, Bool, true, false, cond, ◌||◌, List, [], ◌∷◌, refl, sym, ap, ◌∙◌, arith}
 use Rattle.std.proofs.lemmas.Int.{ints}
 use Rattle.std.specs.List.{AllByRecursion, flat_map}
-use Rattle.definitions.specs.Poly.{Poly, coefficient_of, SamePolynomial, poly_multiple, poly_eq}
+use Rattle.definitions.specs.Poly.{Poly, SamePolynomial, poly_multiple, poly_eq}
 use Rattle.definitions.specs.Category.{Structure, PreadditiveLaws}
 use Rattle.definitions.specs.Quiver.{Quiver, IsQuiver, IsTyped}
 use Rattle.definitions.specs.Representation.{Representation, Represents}
@@ -26,18 +26,15 @@ use Rattle.normal_forms.specs.SharpMeans.{SharpMeans, StarSharpMeans}
 use Rattle.normal_forms.proofs.Units.{all_front, all_back}
 use Rattle.normal_forms.proofs.BothWays.{both, both_ways_laws, exchange_laws, both_ways_cancels, both_ways_represents, value_there, value_back}
 
-minus_none : (c : ℤ) → negsuc 0 *ℤ c ≡ pos 0 → c ≡ pos 0
-minus_none c e = omega (arith, ints, e)
-
 module _ {Object Arrow : Type 0} {s : Structure Object Arrow} (laws : PreadditiveLaws s) (q : Quiver) (quiver : IsQuiver q) (f : Representation Object Arrow) (rep : Represents s q f) where
   abbrev Zero : Poly → Type 0
   Zero = HasValueZero s q f
 
-  negative_is_zero : (p : Poly) → Zero p → Zero (poly_multiple (negsuc 0) p)
-  negative_is_zero p vanish = record {
+  negative_is_zero : {p : Poly} → Zero p → Zero (poly_multiple (negsuc 0) p)
+  negative_is_zero {p} vanish = record {
     at = λ u v in_u in_v typed.
         let group = group_at laws q f rep u v in_u in_v in
-        let positive : IsTyped q u v p = record { at = λ w some. typed.at w (λ e. some (minus_none (coefficient_of p w) (sym (coefficient_of-multiple (negsuc 0) p w) ∙ e))) } in
+        let positive : IsTyped q u v p = record { at = λ w some. typed.at w (λ e. some (omega (arith, ints, (sym (coefficient_of-multiple (negsuc 0) p w) ∙ e)))) } in
         value_at-linear laws q f rep u v in_u in_v (poly_multiple (negsuc 0) p)
         ∙ linear-scale group (word_at laws q f rep u v) (word_at_is_arrow laws q f rep u v in_u in_v) (negsuc 0) p
         ∙ ap (times (s.zero (f.object u) (f.object v)) s.add s.negate (negsuc 0))
@@ -46,9 +43,8 @@ module _ {Object Arrow : Type 0} {s : Structure Object Arrow} (laws : Preadditiv
   }
 
   -- the adjoint of an assumption is a generator, or plus or minus the assumption
-  adjoint_is_zero : (p : Poly) → Zero p → AllByRecursion Zero (new_adjoint q p) → Zero (adjoint_poly q p)
-  adjoint_is_zero p vanish new =
-      go (poly_eq (adjoint_poly q p) p) (poly_eq (adjoint_poly q p) (poly_multiple (negsuc 0) p)) refl refl new
+  adjoint_is_zero : {p : Poly} → Zero p → AllByRecursion Zero (new_adjoint q p) → Zero (adjoint_poly q p)
+  adjoint_is_zero {p} vanish new = go (poly_eq (adjoint_poly q p) p) (poly_eq (adjoint_poly q p) (poly_multiple (negsuc 0) p)) refl refl new
     where
       same_is_zero : (r : Poly) → SamePolynomial (adjoint_poly q p) r → Zero r → Zero (adjoint_poly q p)
       same_is_zero r same none = (zero_along laws q f rep (adjoint_poly q p ∷ []) (r ∷ []) (same, tt) (none, tt)).0
@@ -57,7 +53,7 @@ module _ {Object Arrow : Type 0} {s : Structure Object Arrow} (laws : Preadditiv
           → AllByRecursion Zero (cond (b || c) [] (adjoint_poly q p ∷ [])) → Zero (adjoint_poly q p)
       go true c plus minus new = same_is_zero p (poly_eq-true (adjoint_poly q p) p plus) vanish
       go false true plus minus new =
-          same_is_zero (poly_multiple (negsuc 0) p) (poly_eq-true (adjoint_poly q p) (poly_multiple (negsuc 0) p) minus) (negative_is_zero p vanish)
+          same_is_zero (poly_multiple (negsuc 0) p) (poly_eq-true (adjoint_poly q p) (poly_multiple (negsuc 0) p) minus) (negative_is_zero vanish)
       go false false plus minus new = new.0
 
   -- so each assumption is zero both ways
@@ -68,7 +64,7 @@ module _ {Object Arrow : Type 0} {s : Structure Object Arrow} (laws : Preadditiv
     record {
       at = λ u v in_u in_v typed. both (value_there laws q quiver f rep u v p ∙ vanish.0.at u v in_u in_v typed)
           (value_back laws q quiver f rep u v p
-          ∙ (adjoint_is_zero p vanish.0 (all_front Zero (new_adjoint q p) (flat_map (new_adjoint q) ps) new)).at
+          ∙ (adjoint_is_zero vanish.0 (all_front Zero (new_adjoint q p) (flat_map (new_adjoint q) ps) new)).at
           v u in_v in_u (typed-adjoint_poly q quiver u v p typed));
     },
     pairs_are_zero ps vanish.1 (all_back Zero (new_adjoint q p) (flat_map (new_adjoint q) ps) new),
@@ -84,17 +80,17 @@ module _ {Object Arrow : Type 0} {s : Structure Object Arrow} (laws : Preadditiv
       (pairs_are_zero assumptions (all_front Zero assumptions _ zeros)
       (all_front Zero (flat_map (new_adjoint q) assumptions) (flat_map (units q true) marked) rest))
 
-tells_both_ways : {Object Arrow : Type 0} (s : Structure Object Arrow) (q : Quiver) (f : Representation Object Arrow) (marked : List ℕ) (assumptions : List Poly) (claim : Poly)
+tells_both_ways : {Object Arrow : Type 0} {s : Structure Object Arrow} {q : Quiver} {f : Representation Object Arrow} (marked : List ℕ) (assumptions : List Poly) {claim : Poly}
     → IsQuiver q → AllByRecursion (λ v. v < q.objects) marked → (starred : Bool) → starred ≡ true
     → TellsFromZero s q f (generators_of q starred marked assumptions) claim
     → TellsFromZero (both_ways s) q (both_ways_representation q f) (generators_of q starred marked assumptions) claim
-tells_both_ways s q f marked assumptions claim quiver in_range false not_starred tells = absurd (cc)
-tells_both_ways s q f marked assumptions claim quiver in_range true starred tells =
+tells_both_ways marked assumptions quiver in_range false not_starred tells = absurd (cc)
+tells_both_ways {s} {q} {f} marked assumptions {claim} quiver in_range true starred tells =
     let laws = tells.laws in
     let rep = tells.represents in
     record {
       laws = both_ways_laws s laws;
-      cancels = λ n above. both_ways_cancels s (pos n) (tells.cancels n above);
+      cancels = λ n above. both_ways_cancels s (tells.cancels n above);
       represents = (both_ways_represents laws q quiver f rep).represents;
       zeros = generators_both_ways laws q quiver f rep marked assumptions in_range tells.zeros;
       claim = record {
@@ -112,7 +108,7 @@ star_sharp_means p rules claim posed starred sharp =
     let q = quiver_of p.quiver in
     let quiver = posed_quiver p posed in
     record {
-      tells = tells_both_ways (normal_forms p rules) q (forms_representation p rules) (numbers p.marked) (polynomials p.assumptions) claim quiver (marked_are_objects p posed)
+      tells = tells_both_ways (numbers p.marked) (polynomials p.assumptions) quiver (marked_are_objects p posed)
           p.starred starred sharp.tells;
       involution = exchange_laws (normal_forms p rules);
       represents = both_ways_represents sharp.tells.laws q quiver (forms_representation p rules) sharp.tells.represents;

@@ -87,8 +87,8 @@ module _ {K : Type 0} (k : Field K) (o : Order) (g : Rules o) (normal : Form K �
     marked_play = λ v h m. and_from (ltb v count) _ (lt-ltb v count (subst (λ n. v < n) (sym c.count_is) (c.is_quiver.identity_is_letter v h)))
         (ap (λ b. cond b (list_any (nat_eq v) marked) (starred || nat_le v (star q v))) (lt-ltb v q.objects h) ∙ m);
     play_marked = λ v h e. by_mark v h (plays_of v e).which;
-    unit_left = λ v a hv m ha e t. unit_like k o g (v ∷ a ∷ []) (a ∷ []) (left v a m (plays_of a e) t);
-    unit_right = λ v a hv m ha e t. unit_like k o g (a ∷ v ∷ []) (a ∷ []) (right v a m (plays_of a e) t);
+    unit_left = λ v a hv m ha e t. unit_like k (v ∷ a ∷ []) (a ∷ []) (left v a m (plays_of a e) t);
+    unit_right = λ v a hv m ha e t. unit_like k (a ∷ v ∷ []) (a ∷ []) (right v a m (plays_of a e) t);
   }
     where
       by_mark : (v : ℕ) → v < q.objects → ((v < q.objects) × (list_any (nat_eq v) marked ≡ true)) ⊎
@@ -103,7 +103,7 @@ module _ {K : Type 0} (k : Field K) (o : Order) (g : Rules o) (normal : Form K �
               → IsGenerated (left_unit v a)
           go (inl x) = subst (λ z. IsGenerated (left_unit v z)) (sym t ∙ c.is_quiver.identity_target a x.0)
               (unit_itself q starred marked assumptions IsGenerated c.generated v m)
-          go (inr x) = unit_of_target q starred marked assumptions IsGenerated c.generated v a m x.0 (subst (λ n. a < n) c.count_is p.letter) x.1 t
+          go (inr x) = unit_of_target q starred marked assumptions IsGenerated c.generated m x.0 (subst (λ n. a < n) c.count_is p.letter) x.1 t
 
       right : (v a : ℕ) → list_any (nat_eq v) marked ≡ true → Plays a → source q a ≡ v → IsGenerated (right_unit v a)
       right v a m p t = go p.which
@@ -112,4 +112,4 @@ module _ {K : Type 0} (k : Field K) (o : Order) (g : Rules o) (normal : Form K �
               → IsGenerated (right_unit v a)
           go (inl x) = subst (λ z. IsGenerated (right_unit v z)) (sym t ∙ c.is_quiver.identity_source a x.0)
               (unit_itself q starred marked assumptions IsGenerated c.generated v m)
-          go (inr x) = unit_of_source q starred marked assumptions IsGenerated c.generated v a m x.0 (subst (λ n. a < n) c.count_is p.letter) x.1 t
+          go (inr x) = unit_of_source q starred marked assumptions IsGenerated c.generated m x.0 (subst (λ n. a < n) c.count_is p.letter) x.1 t

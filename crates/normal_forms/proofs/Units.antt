@@ -35,11 +35,11 @@ all_marked P h (m ∷ marked) v e a = go (λ j. all_marked P h marked v j (all_b
     go rest (inl i) = subst (λ z. AllByRecursion P (h z)) (sym (eqb-true v m i)) (all_front P (h m) (flat_map h marked) a)
     go rest (inr j) = rest j
 
-all_range : {A : Type 0} (P : A → Type 0) (h : ℕ → List A) (n b a : ℕ) → b ≤ a → a < b + n → AllByRecursion P (flat_map h (range_with_len b n))
+all_range : {A : Type 0} (P : A → Type 0) (h : ℕ → List A) (n : ℕ) {b a : ℕ} → b ≤ a → a < b + n → AllByRecursion P (flat_map h (range_with_len b n))
     → AllByRecursion P (h a)
-all_range P h zero b a p q all = absurd (omega arith)
-all_range P h (suc n) b a p q all = go
-    (λ e. all_range P h n (b + 1) a (omega (arith, e)) (omega (arith, q)) (all_back P (h b) (flat_map h (range_with_len (b + 1) n)) all)) (order b a)
+all_range P h zero p q all = absurd (omega arith)
+all_range P h (suc n) {b} {a} p q all = go
+    (λ e. all_range P h n (omega (arith, e)) (omega (arith, q)) (all_back P (h b) (flat_map h (range_with_len (b + 1) n)) all)) (order b a)
   where
     order : (b a : ℕ) → (b ≡ a) ⊎ (b ≢ a)
     order b a = by_test (eqb b a) refl
@@ -62,29 +62,27 @@ module _ (q : Quiver) (starred : Bool) (marked : List ℕ) (assumptions : List (
   pub unit_itself : (v : ℕ) → list_any (nat_eq v) marked ≡ true → P (left_unit v v)
   unit_itself v m = (of_mark v m).0
 
-  of_letter : (v a : ℕ) → list_any (nat_eq v) marked ≡ true → q.objects ≤ a → a < letters q → (starred || nat_le a (star q a)) ≡ true
+  of_letter : (v : ℕ) {a : ℕ} → list_any (nat_eq v) marked ≡ true → q.objects ≤ a → a < letters q → (starred || nat_le a (star q a)) ≡ true
       → AllByRecursion P (cond (eqb (target q a) v) (left_unit v a ∷ []) [] ++ cond (eqb (source q a) v) (right_unit v a ∷ []) [])
-  of_letter v a m h i e = subst
+  of_letter v {a} m h i e = subst
       (λ b. AllByRecursion P (cond b (cond (eqb (target q a) v) (left_unit v a ∷ []) [] ++ cond (eqb (source q a) v) (right_unit v a ∷ []) []) [])) e
-      (all_range P (letter_units q starred v) (letters q - q.objects) q.objects a h (omega arith) (of_mark v m).1)
+      (all_range P (letter_units q starred v) (letters q - q.objects) h (omega arith) (of_mark v m).1)
 
-  pub unit_of_target : (v a : ℕ) → list_any (nat_eq v) marked ≡ true → q.objects ≤ a → a < letters q → (starred || nat_le a (star q a)) ≡ true
+  pub unit_of_target : {v a : ℕ} → list_any (nat_eq v) marked ≡ true → q.objects ≤ a → a < letters q → (starred || nat_le a (star q a)) ≡ true
       → target q a ≡ v → P (left_unit v a)
-  unit_of_target v a m h i e t =
-      (subst (λ b. AllByRecursion P (cond b (left_unit v a ∷ []) [])) (eq-eqb (target q a) v t)
-      (all_front P (cond (eqb (target q a) v) (left_unit v a ∷ []) []) (cond (eqb (source q a) v) (right_unit v a ∷ []) []) (of_letter v a m h i e))).0
+  unit_of_target {v} {a} m h i e t = (subst (λ b. AllByRecursion P (cond b (left_unit v a ∷ []) [])) (eq-eqb (target q a) v t)
+      (all_front P (cond (eqb (target q a) v) (left_unit v a ∷ []) []) (cond (eqb (source q a) v) (right_unit v a ∷ []) []) (of_letter v m h i e))).0
 
-  pub unit_of_source : (v a : ℕ) → list_any (nat_eq v) marked ≡ true → q.objects ≤ a → a < letters q → (starred || nat_le a (star q a)) ≡ true
+  pub unit_of_source : {v a : ℕ} → list_any (nat_eq v) marked ≡ true → q.objects ≤ a → a < letters q → (starred || nat_le a (star q a)) ≡ true
       → source q a ≡ v → P (right_unit v a)
-  unit_of_source v a m h i e t =
-      (subst (λ b. AllByRecursion P (cond b (right_unit v a ∷ []) [])) (eq-eqb (source q a) v t)
-      (all_back P (cond (eqb (target q a) v) (left_unit v a ∷ []) []) (cond (eqb (source q a) v) (right_unit v a ∷ []) []) (of_letter v a m h i e))).0
+  unit_of_source {v} {a} m h i e t = (subst (λ b. AllByRecursion P (cond b (right_unit v a ∷ []) [])) (eq-eqb (source q a) v t)
+      (all_back P (cond (eqb (target q a) v) (left_unit v a ∷ []) []) (cond (eqb (source q a) v) (right_unit v a ∷ []) []) (of_letter v m h i e))).0
 
 -- x - y in the ideal makes the words x and y alike
-pub unit_like : {K : Type 0} (k : Field K) (o : Order) (g : Rules o) (x y : Word) → Span (AnyRow o g) (coefficient_of (((pos 1, x) ∷ (negsuc 0, y) ∷ [])))
+pub unit_like : {K : Type 0} (k : Field K) {o : Order} {g : Rules o} (x y : Word) → Span (AnyRow o g) (coefficient_of (((pos 1, x) ∷ (negsuc 0, y) ∷ [])))
     → Cong k o g ((k.one, x) ∷ []) ((k.one, y) ∷ [])
-unit_like {K = K} k o g x y h = cong_left k o g ((k.one, x) ∷ []) (L ++ Y) Y (record { at = same })
-    (cong_after k o g L [] Y (ideal_like k o g (((pos 1, x) ∷ (negsuc 0, y) ∷ [])) h))
+unit_like {K = K} k {o} {g} x y h = cong_left k o g (record { at = same })
+    (cong_after k o g Y (ideal_like k o g (((pos 1, x) ∷ (negsuc 0, y) ∷ [])) h))
   where
     L : Form K
     L = lifted k k.one (((pos 1, x) ∷ (negsuc 0, y) ∷ []))

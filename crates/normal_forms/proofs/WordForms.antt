@@ -66,8 +66,8 @@ same_kept [] one other each = refl
 same_kept (t ∷ p) one other each =
     ap₂ (λ b rest. cond b (t ∷ rest) rest) (All-head (λ (u : Term). one u.1 ≡ other u.1) t p each) (same_kept p one other (All-tail (λ (u : Term). one u.1 ≡ other u.1) t p each))
 
-pub other_terms-parted : (letters : ℕ) (compare : Compare) (g : Rule) → IsRule letters compare g → other_terms g ≡ (parted (led_of g)).tail
-other_terms-parted letters compare g is = same_kept g.poly.terms (λ w. not (word_eq g.lead w)) (is_lower (led_of g))
+pub other_terms-parted : {letters : ℕ} {compare : Compare} {g : Rule} → IsRule letters compare g → other_terms g ≡ (parted (led_of g)).tail
+other_terms-parted {g} is = same_kept g.poly.terms (λ w. not (word_eq g.lead w)) (is_lower (led_of g))
     (words_listed Same g.poly.terms distinct g.poly.canonical.shaped.nonzero each)
   where
     Same : Word → Type 0
@@ -95,8 +95,8 @@ module _ {K : Type 0} (k : Field K) (letters : ℕ) (compare : Compare) (rank : 
   abbrev below : Word → Word → Bool
   below = is_below letters compare
 
-  pub no_lead : (word : Word) → HasNoLead rules word → Irreducible k o g word
-  no_lead word none = record { at = λ i l r has e. at i l r e (rule_of_number rules i has) }
+  pub no_lead : {word : Word} → HasNoLead rules word → Irreducible k o g word
+  no_lead {word} none = record { at = λ i l r has e. at i l r e (rule_of_number rules i has) }
     where
       at : (i : ℕ) (l r : Word) → word ≡ l ++ ((g.rule i).lead ++ r) → ((f : Rule) × (rule_at rules i ≡ Some f)) → ⊥
       at i l r e (f, numbered) = rule_at-all (λ f. OccursNowhere word f.lead) rules i f numbered none (length l)
@@ -108,10 +108,10 @@ module _ {K : Type 0} (k : Field K) (letters : ℕ) (compare : Compare) (rank : 
       ∙ sym (ap (λ x. k.times (k.minus x) (k.int c)) (k.one_times (k.part q)) ∙ minus_times k (k.part q) (k.int c))
 
   -- the form of a word that is below
-  taken : (p : Form K) (b : Bool) → b ≡ true → (form : b ≡ true → Form K) → ((e : b ≡ true) → Normal k o g p (form e))
+  taken : {p : Form K} (b : Bool) → b ≡ true → (form : b ≡ true → Form K) → ((e : b ≡ true) → Normal k o g p (form e))
       → Normal k o g p (form_where (numbers_of k) below rules b form)
-  taken p true e form each = each refl
-  taken p false e form each = absurd (cc)
+  taken true e form each = each refl
+  taken false e form each = absurd (cc)
 
   -- at the place of a rule, the sum over its other terms
   module _ (M : Word) (form : (L : Word) → below L M ≡ true → Form K) (each : (L : Word) (e : below L M ≡ true) → Normal k o g ((k.one, L) ∷ []) (form L e))
@@ -120,11 +120,10 @@ module _ {K : Type 0} (k : Field K) (letters : ℕ) (compare : Compare) (rank : 
         → Normal k o g (with_words (λ u. l ++ (u ++ r)) (lifted k (k.minus (k.times k.one (k.part q))) p))
         (lower_forms (numbers_of k) below rules M form q l r p)
     lower_normal [] less = done
-    lower_normal (t ∷ p) less = normal-append k o g ((k.times (k.minus (k.times k.one (k.part q))) (k.int t.0), L) ∷ []) _ _ _
+    lower_normal (t ∷ p) less = normal-append k o g
         (subst (λ c. Normal k o g ((c, L) ∷ []) (scaled k d (form_where (numbers_of k) below rules (below L M) (form L)))) (factor q t.0)
-        (normal_scaled k o g d ((k.one, L) ∷ []) _
-        (taken ((k.one, L) ∷ []) (below L M) (test_from_below letters compare L M (less_below letters compare rank laws L M less.0)) (form L)
-        (each L))))
+        (normal_scaled k o g d
+        (taken (below L M) (test_from_below letters compare L M (less_below letters compare rank laws L M less.0)) (form L) (each L))))
         (lower_normal p less.1)
       where
         L : Word
@@ -133,8 +132,8 @@ module _ {K : Type 0} (k : Field K) (letters : ℕ) (compare : Compare) (rank : 
         d : K
         d = k.times (k.minus (k.int t.0)) (k.part q)
 
-  pub word_normal : (M : Word) (a : IsGrounded below M) → o.Range M → Normal k o g ((k.one, M) ∷ []) (word_form (numbers_of k) below rules M a)
-  word_normal _ (grounded M down) range = go (first_rule rules M) (first_rule-tells rules M) (λ L e. word_normal L (down L e))
+  pub word_normal : {M : Word} (a : IsGrounded below M) → o.Range M → Normal k o g ((k.one, M) ∷ []) (word_form (numbers_of k) below rules M a)
+  word_normal (grounded M down) range = go (first_rule rules M) (first_rule-tells rules M) (λ L e. word_normal (down L e))
     where
       form : (L : Word) → below L M ≡ true → Form K
       form L e = word_form (numbers_of k) below rules L (down L e)
@@ -142,7 +141,7 @@ module _ {K : Type 0} (k : Field K) (letters : ℕ) (compare : Compare) (rank : 
       go : (f : Option (Rule × ℕ)) → MatchOption f (HasNoLead rules M) (IsFound rules M)
           → ((L : Word) (e : below L M ≡ true) → o.Range L → Normal k o g ((k.one, L) ∷ []) (form L e))
           → Normal k o g ((k.one, M) ∷ []) (form_by (numbers_of k) below rules M form f)
-      go None none each = keep k.one M [] [] (no_lead M none) done
+      go None none each = keep k.one M [] [] (no_lead none) done
       go (Some f) found each = subst (Normal k o g ((k.one, M) ∷ [])) (append-nil _)
           (step k.one M found.number l r _ [] [] has splits (subst Replaced (sym is) at_terms) done)
         where
@@ -169,22 +168,19 @@ module _ {K : Type 0} (k : Field K) (letters : ℕ) (compare : Compare) (rank : 
               (forms (other_terms f.0))
 
           less : AllWords (λ u. o.Less (l ++ (u ++ r)) M) (parted (led_of f.0)).tail
-          less = subst (λ x. AllWords (λ u. o.Less (l ++ (u ++ r)) M) (parted x).tail) is (tail_less k o g found.number l r M has splits range)
-
-          in_range : (L : Word) → below L M ≡ true → o.Range L
-          in_range L e = over_range letters compare rank laws L (below_from_test letters compare L M e).left
+          less = subst (λ x. AllWords (λ u. o.Less (l ++ (u ++ r)) M) (parted x).tail) is (tail_less k o g l r has splits range)
 
           at_terms : Replaced (led_of f.0)
           at_terms = subst
               (λ p. Normal k o g
               (with_words (λ u. l ++ (u ++ r)) (lifted k (k.minus (k.times k.one (k.part (unsigned_abs f.0.leading)))) (parted (led_of f.0)).tail)) (forms p))
-              (sym (other_terms-parted letters compare f.0 (rule_at-all (IsRule letters compare) rules found.number f.0 found.numbered are)))
-              (lower_normal M form (λ L e. each L e (in_range L e)) (unsigned_abs f.0.leading) l r (parted (led_of f.0)).tail less)
+              (sym (other_terms-parted (rule_at-all (IsRule letters compare) rules found.number f.0 found.numbered are)))
+              (lower_normal M form (λ L e. each L e (over_range letters compare rank laws L (below_from_test letters compare L M e).left))
+              (unsigned_abs f.0.leading) l r (parted (led_of f.0)).tail less)
 
   pub normal_form_is : (all : (w : Word) → IsGrounded below w) (p : Form K) → Each o.Range p
       → Normal k o g p (rational_normal_form (numbers_of k) below rules all p)
   normal_form_is all [] range = done
-  normal_form_is all (t ∷ p) range = normal-append k o g ((t.0, t.1) ∷ []) _ p _
+  normal_form_is all (t ∷ p) range = normal-append k o g
       (subst (λ c. Normal k o g ((c, t.1) ∷ []) (scaled k t.0 (word_form (numbers_of k) below rules t.1 (all t.1)))) (times_one k t.0)
-      (normal_scaled k o g t.0 ((k.one, t.1) ∷ []) _ (word_normal t.1 (all t.1) range.0)))
-      (normal_form_is all p range.1)
+      (normal_scaled k o g t.0 (word_normal (all t.1) range.0))) (normal_form_is all p range.1)

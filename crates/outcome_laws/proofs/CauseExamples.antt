@@ -30,10 +30,7 @@ two_pairs : (problem : Problem) (at : Place) (least : Option (List ℕ)) → Pai
 two_pairs problem at least means = absurd (omega (arith, means.budget_is))
 
 in_a_round : (problem : Problem) (least : Option (List ℕ)) → PairsAreSpent problem one_pair (place.Round 1) least 1 → ⊥
-in_a_round problem least means = clash means.place_is
-  where
-    clash : place.Round 1 ≡ place.Run → ⊥
-    clash e = cc
+in_a_round problem least means = cc (means.place_is)
 
 -- The steps are those of the budget.
 other_steps : (problem : Problem) (number : ℕ) (at : Place) → StepsAreSpent problem one_pair number at 99 → ⊥
@@ -62,17 +59,11 @@ out_of_range fits = absurd (omega (arith, fits))
 even : (c : ℤ) → large ≡ c *ℤ pos 2 → ⊥
 even c same = absurd (omega (arith, ints, same))
 
-product_no_sum : (a b c d : ℤ) → sum_of a b ≡ product_of c d → ⊥
-product_no_sum a b c d same = clash (ap (λ (o : Overflow). o.product) same)
-  where
-    clash : false ≡ true → ⊥
-    clash e = cc
-
 no_sum : IsOfStep start (pos 2) large rule around (sum_of large (pos 2)) → ⊥
-no_sum (of_multiplier same) = product_no_sum large (pos 2) (pos 1) (pos 2) same
-no_sum (of_rest t listed same) = product_no_sum large (pos 2) t.0 (pos 2) same
-no_sum (of_taken row listed same) = product_no_sum large (pos 2) row.coef (pos 2) same
-no_sum (of_rule t listed same) = product_no_sum large (pos 2) large t.0 same
+no_sum (of_multiplier same) = cc (ap (λ (o : Overflow). o.product) same)
+no_sum (of_rest t listed same) = cc (ap (λ (o : Overflow). o.product) same)
+no_sum (of_taken row listed same) = cc (ap (λ (o : Overflow). o.product) same)
+no_sum (of_rule t listed same) = cc (ap (λ (o : Overflow). o.product) same)
 no_sum (of_difference w same) = even (coefficient_of start.rest w) (ap (λ (o : Overflow). o.left) same)
 
 -- By no rules nothing is taken away: neither rows that cancel one another nor 200,001 rows with the coefficient 0 are the record of a claim.

@@ -31,31 +31,19 @@ use Rattle.outcome_laws.proofs.Listed.{failing}
 -- a fault, or none, and then what comes
 pub unless_stops : {A F : Type 0} (first : Option F) (r : Result A F) (e : F) → unless first r ≡ Err e → (first ≡ Some e) ⊎ ((first ≡ None) × (r ≡ Err e))
 unless_stops None r e ends = inr (refl, ends)
-unless_stops {A} {F} (Some d) r e ends = inl (same ends)
-  where
-    same : ◌≡◌ {A = Result A F} (Err d) (Err e) → ◌≡◌ {A = Option F} (Some d) (Some e)
-    same k = cc
+unless_stops {A} {F} (Some d) r e ends = inl (cc)
 
 -- an operation that overflows, as a fault
 pub operation_stops : {F : Type 0} (as_fault : Overflow → F) (os : List Overflow) (e : F) → option_map as_fault (first_overflow os) ≡ Some e → (o : Overflow) × (e ≡ as_fault o) × (first_overflow os ≡ Some o)
 operation_stops {F} as_fault os e ends = go (first_overflow os) refl ends
   where
-    none : ◌≡◌ {A = Option F} None (Some e) → ⊥
-    none k = cc
-
-    same : (d : F) → ◌≡◌ {A = Option F} (Some d) (Some e) → e ≡ d
-    same d k = cc
-
     go : (first : Option Overflow) → first_overflow os ≡ first → option_map as_fault first ≡ Some e → (o : Overflow) × (e ≡ as_fault o) × (first_overflow os ≡ Some o)
-    go None is k = absurd (none k)
-    go (Some o) is k = (o, same (as_fault o) k, is)
+    go None is k = absurd (cc)
+    go (Some o) is k = (o, (cc), is)
 
 -- rows with a long word
 long_row : (rows : List CertRow) → has_long_word rows ≡ true → Any (λ r. (word_limit < length r.left) ⊎ (word_limit < length r.right)) rows
-long_row [] e = absurd (clash e)
-  where
-    clash : false ≡ true → ⊥
-    clash k = cc
+long_row [] e = absurd (cc)
 long_row (r ∷ rows) e = go (nat_lt word_limit (length r.left)) refl (nat_lt word_limit (length r.right)) refl e (long_row rows)
   where
     go : (left : Bool) → nat_lt word_limit (length r.left) ≡ left → (right : Bool) → nat_lt word_limit (length r.right) ≡ right → ((left || right) || has_long_word rows) ≡ true
@@ -72,18 +60,12 @@ pub data LimitPassed (rows : List CertRow) (e : ExpandFault) : Type 0 where
 limit_passed : (rows : List CertRow) (e : ExpandFault) → limit_fault rows ≡ Some e → LimitPassed rows e
 limit_passed rows e ends = go (has_long_word rows) refl (nat_lt row_limit (length rows)) refl (nat_lt letter_limit (letter_count rows)) refl ends
   where
-    same : (d : ExpandFault) → ◌≡◌ {A = Option ExpandFault} (Some d) (Some e) → e ≡ d
-    same d k = cc
-
-    none : ◌≡◌ {A = Option ExpandFault} None (Some e) → ⊥
-    none k = cc
-
     go : (a : Bool) → has_long_word rows ≡ a → (b : Bool) → nat_lt row_limit (length rows) ≡ b → (c : Bool) → nat_lt letter_limit (letter_count rows) ≡ c
         → cond a (Some expand.Size) (cond b (Some (expand.Rows false)) (cond c (Some (expand.Rows true)) None)) ≡ Some e → LimitPassed rows e
-    go true is b of c at k = long (same expand.Size k) (long_row rows is)
-    go false is true of c at k = many false (same (expand.Rows false) k) (grind (arith, nat_tests))
-    go false is false of true at k = many true (same (expand.Rows true) k) (grind (arith, nat_tests))
-    go false is false of false at k = absurd (none k)
+    go true is b of c at k = long (cc) (long_row rows is)
+    go false is true of c at k = many false (cc) (grind (arith, nat_tests))
+    go false is false of true at k = many true (cc) (grind (arith, nat_tests))
+    go false is false of false at k = absurd (cc)
 
 -- What stops an expansion.
 pub data ExpansionStops (made : List Made) (target : Made) (e : ExpandFault) : Type 0 where
@@ -101,12 +83,9 @@ which_part : {A : Type 0} (os : List Overflow) (limit : Option ExpandFault) (lat
     → unless (overflow_in os) (unless limit (unless (overflow_in later) (Ok x))) ≡ Err e → Part os limit later e
 which_part {A} os limit later x e ends = first (unless_stops (overflow_in os) (unless limit (unless (overflow_in later) (Ok x))) e ends)
   where
-    no_fault : ◌≡◌ {A = Result A ExpandFault} (Ok x) (Err e) → ⊥
-    no_fault k = cc
-
     third : (overflow_in later ≡ Some e) ⊎ ((overflow_in later ≡ None) × (◌≡◌ {A = Result A ExpandFault} (Ok x) (Err e))) → Part os limit later e
     third (inl at) = let one = operation_stops expand.Overflow later e at in in_later one.0 one.1 one.2
-    third (inr both) = absurd (no_fault both.1)
+    third (inr both) = absurd (cc (both.1))
 
     second : (limit ≡ Some e) ⊎ ((limit ≡ None) × (unless (overflow_in later) (Ok x) ≡ Err e)) → Part os limit later e
     second (inl at) = in_limit at
@@ -178,23 +157,14 @@ module _ (claim : ℕ) (made : List Made) (target : Made) where
   abbrev all : List Lemma
   all = lemmas_and_goal made target
 
-  no_fault : (c : LemmaCertificate) (e : GatherFault) → ◌≡◌ {A = Result LemmaCertificate GatherFault} (Ok c) (Err e) → ⊥
-  no_fault c e k = cc
-
-  same : (d e : GatherFault) → ◌≡◌ {A = Option GatherFault} (Some d) (Some e) → e ≡ d
-  same d e k = cc
-
-  none : (e : GatherFault) → ◌≡◌ {A = Option GatherFault} None (Some e) → ⊥
-  none e k = cc
-
   limit_stops : (e : GatherFault) → lemmas.limit_fault all ≡ Some e → GatheringStops made target e
   limit_stops e ends = go (nat_lt row_limit (row_count all)) refl (nat_lt letter_limit (lemmas.letter_count all)) refl ends
     where
       go : (b : Bool) → nat_lt row_limit (row_count all) ≡ b → (c : Bool) → nat_lt letter_limit (lemmas.letter_count all) ≡ c
           → cond b (Some (gather.Rows false)) (cond c (Some (gather.Rows true)) None) ≡ Some e → GatheringStops made target e
-      go true is c at k = too_many_lemma_rows false (same (gather.Rows false) e k) (of_lemmas (grind (arith, nat_tests)))
-      go false is true at k = too_many_lemma_rows true (same (gather.Rows true) e k) (of_lemmas (grind (arith, nat_tests)))
-      go false is false at k = absurd (none e k)
+      go true is c at k = too_many_lemma_rows false (cc) (of_lemmas (grind (arith, nat_tests)))
+      go false is true at k = too_many_lemma_rows true (cc) (of_lemmas (grind (arith, nat_tests)))
+      go false is false at k = absurd (cc)
 
   scale_stops : (e : GatherFault) → scale_fault (map (λ l. l.scale) all) ≡ Some e → GatheringStops made target e
   scale_stops e ends =
@@ -207,7 +177,7 @@ module _ (claim : ℕ) (made : List Made) (target : Made) where
     where
       second : (c : LemmaCertificate) → (scale_fault (map (λ l. l.scale) all) ≡ Some e) ⊎ ((scale_fault (map (λ l. l.scale) all) ≡ None) × (◌≡◌ {A = Result LemmaCertificate GatherFault} (Ok c) (Err e))) → GatheringStops made target e
       second c (inl at) = scale_stops e at
-      second c (inr both) = absurd (no_fault c e both.1)
+      second c (inr both) = absurd (cc (both.1))
 
       first : (c : LemmaCertificate) → (lemmas.limit_fault all ≡ Some e) ⊎ ((lemmas.limit_fault all ≡ None) × (unless (scale_fault (map (λ l. l.scale) all)) (Ok c) ≡ Err e)) → GatheringStops made target e
       first c (inl at) = limit_stops e at

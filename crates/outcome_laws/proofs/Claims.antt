@@ -19,7 +19,6 @@ use Rattle.cofactor_trace.specs.declared.halt.Cause.{Cause}
 use Rattle.cofactor_trace.specs.declared.halt.Cause.TheVariants as cause
 use Rattle.cofactor_trace.specs.declared.halt.Place.{Place}
 use Rattle.cofactor_trace.specs.declared.halt.Place.TheVariants as place
-use Rattle.cofactor_trace.specs.declared.halt.Halt.{Halt}
 use Rattle.cofactor_trace.specs.Needed.{expansion_of}
 use Rattle.cofactor_trace.specs.Lemmas.{gathered_of}
 use Rattle.cofactor_trace.specs.Faults as expanding
@@ -69,14 +68,8 @@ proved format.Lemmas number at made claim = gathers at (gathered_of number made 
 
 -- round 0 closes no run
 not_closed : (treated : List Ambiguity) (r : Result Recorded ReduceFault) → Ends 0 None treated r closed → ⊥
-not_closed treated (Ok r) is = unlike (record { rules = r.rules; made = r.made; treated = treated }) is
-  where
-    unlike : (s : RunState) → closed ≡ went s → ⊥
-    unlike s e = cc
-not_closed treated (Err e) given = unlike (record { cause = given.reason; place = place.Round 0; least = None }) given.stops
-  where
-    unlike : (h : Halt) → closed ≡ stopped h → ⊥
-    unlike h k = cc
+not_closed treated (Ok r) is = cc
+not_closed treated (Err e) given = cc (given.stops)
 
 module _ (setting : Setting) (claim : List Term) where
   open_run : (n : ℕ) (s : RunState) → IsOpen setting claim n s → IsRunState setting n s

@@ -4,7 +4,7 @@ use Rattle.std.specs.List.{All, AllPairs, Contains}
 use Rattle.std.proofs.lemmas.Cmp.{tied_itself}
 use Rattle.std.proofs.lemmas.List.Elements.{All-append, All-map, All-take, All-weaker, All-contains_itself}
 use Rattle.std.proofs.lemmas.List.Kept.{AllPairs-cons}
-use Rattle.std.specs.declared.cmp.Ordering.TheVariants.{Less, Equal}
+use Rattle.std.specs.declared.cmp.Ordering.TheVariants.{Less}
 use Rattle.word_orders.specs.Admissible.{Compare, IsAdmissible}
 use Rattle.rule_reduce.specs.declared.rule.Rule.{Rule}
 use Rattle.ambiguities.specs.declared.ambiguity.Ambiguity.{Ambiguity}
@@ -34,12 +34,6 @@ module _ {X : Type 0} (R : X → X → Type 0) where
       (pairs_append xs ys (pairs_rest x xs left) right (λ z y at other. across z y (suc at.0, omega (arith, at.1), at.2) other))
 
 module _ (letters : ℕ) (compare : Compare) (rank : List ℕ → List ℕ) (laws : IsAdmissible letters compare rank) where
-  never_below : (u : List ℕ) → compare u u ≡ Less → ⊥
-  never_below u less = clash (sym (tied_itself laws.total u) ∙ less)
-    where
-      clash : Equal ≡ Less → ⊥
-      clash e = cc
-
   not_before_itself : (a : Ambiguity) → IsBefore a a → ⊥
   not_before_itself a (inl less) = omega (arith, less)
   not_before_itself a (inr (_, inl less)) = omega (arith, less)
@@ -54,7 +48,7 @@ module _ (letters : ℕ) (compare : Compare) (rank : List ℕ → List ℕ) (law
       words = one ∙ ap (overlap_word_of rules) same ∙ sym other
 
       go : IsWaitingBefore compare v w → ⊥
-      go (inl less) = never_below w.word (subst (λ u. compare u w.word ≡ Less) words less)
+      go (inl less) = cc (sym (tied_itself laws.total w.word) ∙ (subst (λ u. compare u w.word ≡ Less) words less))
       go (inr (_, later)) = not_before_itself w.which (subst (λ a. IsBefore a w.which) same later)
 
   -- of a list of such, each before all later ones

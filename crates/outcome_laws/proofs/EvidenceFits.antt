@@ -16,7 +16,6 @@ use Rattle.traced_rows.specs.declared.evidence.Evidence.{Evidence}
 use Rattle.traced_rows.specs.declared.evidence.Evidence.TheVariants as evidence
 use Rattle.traced_rows.specs.declared.evidence.Format.{Format}
 use Rattle.traced_rows.specs.declared.evidence.Format.TheVariants as format
-use Rattle.cofactor_trace.specs.declared.halt.Halt.{Halt}
 use Rattle.cofactor_trace.specs.Laws.{NamesUpTo}
 use Rattle.cofactor_trace.specs.Needed.{IsRecord, expansion_of}
 use Rattle.cofactor_trace.specs.Lemmas.{gathered_of}
@@ -169,19 +168,13 @@ module _ (problem : Problem) (budget : Budget) (number : ℕ) where
   same_evidence : (d e : Evidence) → outcome.Derived d ≡ outcome.Derived e → d ≡ e
   same_evidence d e same = cc
 
-  not_closed : (e : Evidence) (rest : Poly) → outcome.Derived e ≡ outcome.Closed rest → ⊥
-  not_closed e rest same = cc
-
-  not_halted : (e : Evidence) (h : Halt) → outcome.Derived e ≡ outcome.Halted h → ⊥
-  not_halted e h same = cc
-
   within : (form : Format) (e : Evidence) → Way setting_in form number claim (outcome.Derived e) → IsWithinLimits problem number e
   within form e (no_terms is) = subst (IsWithinLimits problem number) (sym (same_evidence e _ is)) (zero_within form)
   within form e (expanded by c ends is) = subst (IsWithinLimits problem number) (sym (same_evidence e _ is)) (expanded_within by c ends)
   within form e (gathered by c ends is) = subst (IsWithinLimits problem number) (sym (same_evidence e _ is)) (gathered_within by c ends)
-  within form e (left_over rounds s run rest left is) = absurd (not_closed e rest is)
-  within form e (given_up halt none is) = absurd (not_halted e halt is)
-  within form e (with_run rounds s halt run round is) = absurd (not_halted e halt is)
+  within form e (left_over rounds s run rest left is) = absurd (cc)
+  within form e (given_up halt none is) = absurd (cc)
+  within form e (with_run rounds s halt run round is) = absurd (cc)
 
 -- the law
 pub evidence_fits : EvidenceFits

@@ -29,7 +29,8 @@ use Rattle.cofactor_trace.specs.Ranges.{IsRanged}
 use Rattle.cofactor_trace.proofs.Divisors.{quotient_positive, product_positive, content-first, content-positive, common_multiple-positive}
 use Rattle.cofactor_trace.proofs.GatheredParts.{parts, each_part, lemma_record_each}
 use Rattle.cofactor_trace.proofs.Passes.{each_with}
-use Rattle.outcome_laws.proofs.Results.{same_ok, fits_first, none_append}
+use Rattle.outcome_laws.proofs.Results.{fits_first, none_append}
+use Rattle.outcome_laws.proofs.RunsKept.{same_value}
 use Rattle.outcome_laws.proofs.EvidenceWords.{needed_each}
 
 -- a quotient is no larger
@@ -101,7 +102,7 @@ module _ (known : Known) (each_positive : (o : Origin) → pos 0 <ℤ (known o).
       let coefs = map (λ (r : CertRow). r.coef) (gathered rows) in
       let g = content_of d (gathered rows) in
       let g_in : pos 0 <ℤ g = content-positive d coefs d_in in
-      subst IsRanged (same_ok (primitive d (gathered rows)) c third.1)
+      subst IsRanged (same_value (primitive d (gathered rows)) c third.1)
       (record {
         positive = quotient_positive d g d_in g_in (content-first d coefs);
         denominator_in = quotient_in_range d g g_in d_fits;

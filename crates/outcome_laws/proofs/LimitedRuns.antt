@@ -85,10 +85,7 @@ named_of_rows generators count m each k r inside = (each k r inside).up_to
 factor_fits : (k x : ℤ) → x ≢ pos 0 → IsCoefficient (k *ℤ x) → IsCoefficient k
 factor_fits k x nonzero fits =
     let larger : unsigned_abs k ≤ unsigned_abs k * unsigned_abs x = le-mul_of_pos_right (unsigned_abs k) (abs_positive x nonzero) in
-    below (unsigned_abs k) (unsigned_abs k * unsigned_abs x) (2 ^ 127) larger (subst (λ n. n < 2 ^ 127) (unsigned_abs-mul k x) fits)
-  where
-    below : (a b limit : ℕ) → a ≤ b → b < limit → a < limit
-    below a b limit less fits = omega (arith, less, fits)
+    (omega (arith, larger, (subst (λ n. n < 2 ^ 127) (unsigned_abs-mul k x) fits)))
 
 scale_fits : (compare : Compare) (rest : Rest) (g : Rule) (m : Made) → IsMadeFrom compare rest g m → Fits rest.polynomial → IsCoefficient m.scale
 scale_fits compare rest g m made fits =
@@ -99,12 +96,9 @@ scale_fits compare rest g m made fits =
     unsigned true fits = omega (arith, ints, fits)
     unsigned false fits = fits
 
-    none_some : {f : Rule} → ◌≡◌ {A = Option Rule} None (Some f) → ⊥
-    none_some same = cc
-
     go : (k : ℤ) (terms : List Term) → option_map (λ (t : Term). record { leading = t.0; lead = t.1; poly = g.poly }) (leading_term compare terms) ≡ Some g
         → All (λ t. t.0 ≢ pos 0) terms → All (λ t. IsCoefficient t.0) (poly_multiple k terms) → IsCoefficient k
-    go k [] leading nonzero each = absurd (none_some leading)
+    go k [] leading nonzero each = absurd (cc)
     go k (t ∷ terms) leading nonzero each = factor_fits k t.0 (All-head (λ (u : Term). u.0 ≢ pos 0) t terms nonzero) (All-head (λ (u : Term). IsCoefficient u.0) (k *ℤ t.0, t.1) (poly_multiple k terms) each)
 
 -- short words, and numbers that are coefficients
@@ -166,17 +160,11 @@ module _ (letters : ℕ) (setting : Setting) (generators : All (HasWords letters
     where
       none_at : ◌≡◌ {A = Option Made} None (Some m) → ⊥
       none_at same = cc
-  record_at place (x ∷ made) each zero m at = subst (λ n. IsRecord n m) (plus_zero place) (subst (IsRecord place) (same_some x m at) each.0.is_record)
+  record_at place (x ∷ made) each zero m at = subst (λ n. IsRecord n m) (omega arith) (subst (IsRecord place) (same_some x m at) each.0.is_record)
     where
-      plus_zero : (n : ℕ) → n ≡ n + 0
-      plus_zero n = omega arith
-
       same_some : (x y : Made) → ◌≡◌ {A = Option Made} (Some x) (Some y) → x ≡ y
       same_some x y same = cc
-  record_at place (x ∷ made) each (suc k) m at = subst (λ n. IsRecord n m) (plus_suc place k) (record_at (suc place) made each.1 k m at)
-    where
-      plus_suc : (n k : ℕ) → suc n + k ≡ n + suc k
-      plus_suc n k = omega arith
+  record_at place (x ∷ made) each (suc k) m at = subst (λ n. IsRecord n m) (omega arith) (record_at (suc place) made each.1 k m at)
 
   each_record : (Q : Made → Type 0) → ((place : ℕ) (m : Made) → IsLimitedMade count_of place m → Q m) → (place : ℕ) (made : List Made) → AreLimited place made → All Q made
   each_record Q tells place [] each = All-nil Q
@@ -196,7 +184,7 @@ module _ (letters : ℕ) (setting : Setting) (generators : All (HasWords letters
   records_limited rounds s is =
       let held = states_held letters setting (AreFittingWords letters) (IsLimitedRow count_of) (IsLimitedMade count_of) limits_kept rounds s is in
       record {
-        are_records = record { at = λ place m at. subst (λ n. IsRecord n m) (zero_plus place) (record_at 0 s.made held.made place m at) };
+        are_records = record { at = λ place m at. subst (λ n. IsRecord n m) (omega arith) (record_at 0 s.made held.made place m at) };
         positive = each_record (λ m. pos 0 <ℤ m.scale) (λ place m one. one.is_record.positive) 0 s.made held.made;
         short = each_record (λ m. All IsShortRow m.rows) (λ place m one. one.short) 0 s.made held.made;
         named = each_record (NamesUpTo count_of) (λ place m one. one.named) 0 s.made held.made;
@@ -204,9 +192,6 @@ module _ (letters : ℕ) (setting : Setting) (generators : All (HasWords letters
         one_each = held.one_each;
         rules = held.rules;
       }
-    where
-      zero_plus : (n : ℕ) → 0 + n ≡ n
-      zero_plus n = omega arith
 
 -- the numbers of the generators
 numbers_between : (a n low high : ℕ) → low ≤ a → a + n ≤ suc high → All (λ k. (low ≤ k) × (k ≤ high)) (range_with_len a n)

@@ -1,5 +1,5 @@
 -- The rules of each state of the run of a problem are made one after another, and its records are theirs.
-use Rattle.std.proofs.Common.{◌≡◌, ◌≤◌, ℕ, zero, suc, Bool, true, false, List, [], ◌∷◌, ◌++◌, map, length, take, nat_le, Option, Some, None, Result, Ok, Err, refl, sym, ap, subst, arith, append-nil}
+use Rattle.std.proofs.Common.{◌≡◌, ◌≤◌, ℕ, zero, suc, Bool, true, false, List, [], ◌∷◌, ◌++◌, map, length, take, nat_le, Some, None, Result, Ok, Err, refl, sym, ap, subst, arith, append-nil}
 use Rattle.std.specs.List.{All, AllByRecursion}
 use Rattle.std.proofs.lemmas.List.{length-map}
 use Rattle.std.proofs.lemmas.List.Elements.{All-head, All-tail}
@@ -10,7 +10,6 @@ use Rattle.word_orders.specs.Specified.{asked_cmp}
 use Rattle.word_orders.proofs.AskedOrders.{asked_rank}
 use Rattle.nc_polynomial.specs.Shape.{IsShaped}
 use Rattle.quiver.specs.Declarations.{letter_count, quiver_of}
-use Rattle.cofactor_trace.specs.declared.halt.Halt.{Halt}
 use Rattle.traced_rows.specs.declared.Row.{Row}
 use Rattle.rule_reduce.specs.declared.rule.Rule.{Rule}
 use Rattle.rule_reduce.specs.declared.state.State.{State}
@@ -18,18 +17,17 @@ use Rattle.rule_reduce.specs.declared.fault.ReduceFault.{ReduceFault}
 use Rattle.rule_reduce.specs.NormalForms.{normal_form_of}
 use Rattle.ambiguities.specs.declared.ambiguity.Ambiguity.{Ambiguity}
 use Rattle.ambiguities.specs.Ambiguities.{IsAmbiguity}
-use Rattle.ambiguities.specs.SPolynomials.{s_rows_of}
 use Rattle.ambiguities.proofs.Balance.{s_polynomials_balance}
 use Rattle.adjoint_rules.specs.declared.problem.Problem.{Problem}
 use Rattle.adjoint_rules.specs.Problem.{polynomials}
 use Rattle.confluence.proofs.ShapeLaws.{normal_forms_are_shaped, s_polynomials_are_shaped}
-use Rattle.rule_making.specs.Making.{Recorded, Rest, rest_with, Adds}
+use Rattle.rule_making.specs.Making.{Recorded, rest_with, Adds}
 use Rattle.traced_completion.specs.declared.budget.Budget.{Budget}
 use Rattle.ambiguities.specs.declared.waiting.Waiting.{Waiting}
 use Rattle.traced_completion.specs.Results.{each_in_turn}
 use Rattle.traced_completion.specs.Works.{First, first_of, generator_rows, generator_work, second_rows, second_rest, second_reduction, second_work, InTurn, InTwoPasses}
 use Rattle.traced_completion.specs.Pending.{AreAllPending, ambiguities_of}
-use Rattle.traced_completion.specs.PlainRun.{Setting, RunState, went, closed, stopped, recorded, taken_count, IsTreated, TreatsFirst, TreatsPending, IsRound, IsRunState, setting_of}
+use Rattle.traced_completion.specs.PlainRun.{Setting, RunState, went, recorded, taken_count, IsTreated, TreatsFirst, TreatsPending, IsRound, IsRunState, setting_of}
 use Rattle.outcome_laws.specs.ReductionSteps.{unreduced, Leaves}
 use Rattle.outcome_laws.specs.Causes.{IsFirstReduction, rows_less, from_generator, from_ambiguity, AreMade, no_rule, one_more}
 use Rattle.outcome_laws.proofs.LaterRounds.{second_value, BeginsWith, begins_with}
@@ -115,22 +113,19 @@ module _ (problem : Problem) (budget : Budget) where
     second_grows : (a : Ambiguity) → IsAmbiguity start a → (f : First) → first_of compare budget.steps start a ≡ Ok f → Grows compare MadeFrom (second_work compare budget.steps f)
     second_grows a is f first_ends before after rest ends adds held = (begins_with start compare rest before after held.0 adds, by_rest f.reduced.rest refl ends)
       where
-        unchanged : ◌≡◌ {A = Option Rest} None rest → Made after
-        unchanged none = subst Made (sym (subst (λ o. Adds compare o before after) (sym none) adds)) held.1
-
-        rows_are : (s : State) → second_rows f s ≡ rows_less (rows_less (s_rows_of start a) (reduced_of f.reduced)) (reduced_of s)
-        rows_are s = ap (λ (rows : List Row). rows_less (rows_less rows (reduced_of f.reduced)) (reduced_of s)) (first_is_of a f first_ends).rows_are
-
         go : (s : State) → normal_form_of compare before.rules f.reduced.rest budget.steps ≡ Ok s → Added s.rest (second_rows f s) before after → Made after
         go s went_to (nothing same) = subst Made (sym same) held.1
         go s went_to (a_rule g m made appended) =
             subst Made (sym appended)
             (one_more before.rules before.made s.rest (second_rows f s) g m held.1
             (from_ambiguity (reduced_of f.reduced) (reduced_of s) (first_reduction a is f first_ends before.rules held.0)
-            (normal_form_leaves letters compare rank before.rules f.reduced.rest budget.steps s (order_laws problem budget) (rest_shaped a f (first_is_of a f first_ends)) went_to) refl (rows_are s)) made)
+            (normal_form_leaves letters compare rank before.rules f.reduced.rest budget.steps s (order_laws problem budget)
+            (rest_shaped a f (first_is_of a f first_ends)) went_to) refl
+            (ap (λ (rows : List Row). rows_less (rows_less rows (reduced_of f.reduced)) (reduced_of s))
+            (first_is_of a f first_ends).rows_are)) made)
 
         by_rest : (p : List Term) → f.reduced.rest ≡ p → second_reduction compare budget.steps f before.rules p ≡ Ok rest → Made after
-        by_rest [] none k = unchanged (same_value None rest k)
+        by_rest [] none k = subst Made (sym (subst (λ o. Adds compare o before after) (sym (same_value None rest k)) adds)) held.1
         by_rest (t ∷ p) some k =
             let one = went_on (normal_form_of compare before.rules (t ∷ p) budget.steps) (λ s. second_rest f s s.rest) rest k in
             let s = one.value in
@@ -169,12 +164,6 @@ module _ (problem : Problem) (budget : Budget) where
   later_made : (n : ℕ) (before s : RunState) → IsRound setting (suc n) before (went s) → Made (recorded before) → Made (recorded s)
   later_made n before s round held = go round.pending round.all_pending round.treats
     where
-      not_closed : went s ≡ closed → ⊥
-      not_closed e = cc
-
-      not_stopped : {h : Halt} → went s ≡ stopped h → ⊥
-      not_stopped e = cc
-
       treated : (least : List ℕ) (taken : List Ambiguity) → All (IsAmbiguity before.rules) taken → IsTreated setting (suc n) before least taken (went s) → Made (recorded s)
       treated least taken are done =
           let end = ended (suc n) (Some least) (before.treated ++ taken) done.result s done.ends in
@@ -183,13 +172,13 @@ module _ (problem : Problem) (budget : Budget) where
           (subst (InTwoPasses compare budget.steps (each_in_turn (first_of compare budget.steps before.rules) taken) (recorded before)) end.given done.passes))
 
       by_pairs : (w : Waiting) (ws : List Waiting) → AreAllPending compare before.rules before.treated (w ∷ ws) → (b : Bool) → TreatsFirst setting (suc n) before w.word (w ∷ ws) b (went s) → Made (recorded s)
-      by_pairs w ws all true treats = absurd (not_stopped treats)
+      by_pairs w ws all true treats = absurd (cc)
       by_pairs w ws all false treats =
           let count = taken_count budget before (w ∷ ws) in
           treated w.word (ambiguities_of (take count (w ∷ ws))) (taken_are compare before.rules before.treated (w ∷ ws) count all) treats
 
       go : (ws : List Waiting) → AreAllPending compare before.rules before.treated ws → TreatsPending setting (suc n) before ws (went s) → Made (recorded s)
-      go [] all treats = absurd (not_closed treats)
+      go [] all treats = absurd (cc)
       go (w ∷ ws) all treats = by_pairs w ws all (nat_le budget.pairs (length before.treated)) treats
 
   pub states_made : (n : ℕ) (s : RunState) → IsRunState setting n s → AreMade problem budget s.rules s.made

@@ -1,5 +1,5 @@
 -- Each outcome means what it says.
-use Rattle.std.proofs.Common.{◌≡◌, ℕ, suc, pos, List, [], ◌∷◌, Option, Some, None, Result, Ok, Err, refl, sym, subst, arith}
+use Rattle.std.proofs.Common.{◌≡◌, ℕ, suc, pos, List, [], ◌∷◌, None, Result, Ok, Err, refl, sym, subst, arith}
 use Rattle.std.proofs.lemmas.Int.{ints}
 use Rattle.std.proofs.lemmas.List.Elements.{All-replicate}
 use Rattle.std.proofs.lemmas.Nat.Gcd.{dvd_refl}
@@ -40,13 +40,6 @@ use Rattle.outcome_laws.proofs.RoundCauses.{stop_says}
 use Rattle.outcome_laws.proofs.ClaimCauses.{claim_named, claim_stop_means, expansion_means, gathering_means}
 use Rattle.outcome_laws.proofs.Derivations.{follows, expansion_adds_up, gathering_adds_up, gathering_names}
 
--- a halt that names no word and is not in the making of a certificate says nothing
-no_word : (word : List ℕ) → ◌≡◌ {A = Option (List ℕ)} None (Some word) → ⊥
-no_word word e = cc
-
-not_certificate : (n round : ℕ) → place.Claim n ≡ place.Certificate round → ⊥
-not_certificate n round e = cc
-
 -- the certificate with lemmas of a claim without terms
 abbrev zero_goal : Lemma
 zero_goal = record { scale = pos 1; rows = [] }
@@ -82,7 +75,7 @@ module _ (problem : Problem) (budget : Budget) (number : ℕ) where
       halted_means : (reason : Cause) → CauseMeans problem budget number (place.Certificate round) None reason → HaltMeans problem budget number (record { cause = reason; place = place.Certificate round; least = None })
       halted_means reason says = record {
         cause_means = says;
-        not_below = λ word least. absurd (no_word word least);
+        not_below = λ word least. absurd (cc);
         inside = λ n is. follows problem budget number rounds s run left ends none;
       }
 
@@ -114,8 +107,8 @@ module _ (problem : Problem) (budget : Budget) (number : ℕ) where
     done_by form (Ok left) ends o done = done_with form left ends left.rest refl o done
     done_by form (Err e) ends o halted = subst Means (sym halted.halts) (record {
       cause_means = claim_stop_means problem budget number rounds s run round is_claim e halted.reason halted.reason_of ends;
-      not_below = λ word least. absurd (no_word word least);
-      inside = λ n is. absurd (not_certificate round n is);
+      not_below = λ word least. absurd (cc);
+      inside = λ n is. absurd (cc);
     })
 
   gets_means : (form : Format) (rounds : ℕ) (s : RunState) (o : Outcome) → GetsOutcome (setting_of problem budget) form number (claim_at problem number) rounds s o → Means o

@@ -60,27 +60,15 @@ not_went h s e = cc
 pub not_closed : (h : Halt) → stopped h ≡ closed → ⊥
 not_closed h e = cc
 
-no_word : (word : List ℕ) → ◌≡◌ {A = Option (List ℕ)} None (Some word) → ⊥
-no_word word e = cc
-
-same_word : (u v : List ℕ) → ◌≡◌ {A = Option (List ℕ)} (Some u) (Some v) → u ≡ v
-same_word u v e = cc
-
 -- a place in a run, and none in the work on a claim or on its certificate
 pub record IsInRun (at : Place) : Type 0 where
   pub no_certificate : (round : ℕ) → at ≡ place.Certificate round → ⊥
 
 round_in_run : (at : Place) (number : ℕ) → at ≡ place.Round number → IsInRun at
-round_in_run at number is = record { no_certificate = λ round e. clash round (sym is ∙ e) }
-  where
-    clash : (round : ℕ) → place.Round number ≡ place.Certificate round → ⊥
-    clash round e = cc
+round_in_run at number is = record { no_certificate = λ round e. (cc (sym is ∙ e)) }
 
 run_in_run : (at : Place) → at ≡ place.Run → IsInRun at
-run_in_run at is = record { no_certificate = λ round e. clash round (sym is ∙ e) }
-  where
-    clash : (round : ℕ) → place.Run ≡ place.Certificate round → ⊥
-    clash round e = cc
+run_in_run at is = record { no_certificate = λ round e. (cc (sym is ∙ e)) }
 
 -- how a round that stopped was given up
 record IsStop (number : ℕ) (least : Option (List ℕ)) (h : Halt) : Type 0 where
@@ -113,7 +101,7 @@ module _ (letters : ℕ) (rank : List ℕ → List ℕ) (setting : Setting) (law
       below : (w : Waiting) (ws : List Waiting) → AreAllPending setting.compare s.rules s.treated (w ∷ ws) → h.least ≡ Some w.word → IsInRun h.place → StopsBelow letters setting.compare s h
       below w ws all least in_run = record {
         none_below = λ word is.
-            subst (NothingPendingBelow letters setting.compare s.rules s.treated) (same_word w.word word (sym least ∙ is))
+            subst (NothingPendingBelow letters setting.compare s.rules s.treated) (cc (sym least ∙ is))
             (first_is_least_pending letters setting.compare rank s.rules s.treated w ws laws all);
         in_run = in_run;
       }
@@ -134,15 +122,9 @@ module _ (letters : ℕ) (rank : List ℕ → List ℕ) (setting : Setting) (law
 zero_goes_on : (setting : Setting) (s : RunState) → IsRound setting 0 s closed → ⊥
 zero_goes_on setting s round = go round.result round.ends
   where
-    wrong_went : (t : RunState) → closed ≡ went t → ⊥
-    wrong_went t e = cc
-
-    wrong_stop : (h : Halt) → closed ≡ stopped h → ⊥
-    wrong_stop h e = cc
-
     go : (r : Result Recorded ReduceFault) → Ends 0 None s.treated r closed → ⊥
-    go (Ok r) ends = wrong_went _ ends
-    go (Err e) ends = wrong_stop _ ends.stops
+    go (Ok r) ends = cc
+    go (Err e) ends = cc (ends.stops)
 
 -- the run of a problem
 module _ (problem : Problem) (budget : Budget) where
@@ -204,7 +186,7 @@ module _ (problem : Problem) (budget : Budget) where
     pub stop_means : (n : ℕ) (s : RunState) (h : Halt) → IsOpen setting claim n s → IsRound setting n s (stopped h) → StopMeans h
     stop_means zero s h opened round =
         let stop = zero_stops letters rank setting order_laws s h round in
-        record { not_below = λ word least comes. no_word word (sym stop.none ∙ least); in_run = stop.in_run }
+        record { not_below = λ word least comes. (cc (sym stop.none ∙ least)); in_run = stop.in_run }
     stop_means (suc n) s h opened round =
         let stop = later_stops letters rank setting order_laws s h n round in
         record { not_below = λ word least comes. open_not_below n s opened word (stop.none_below word least) comes; in_run = stop.in_run }

@@ -1,7 +1,6 @@
 -- The letters of outcomes and of last rules are letters of the quiver.
-use Rattle.std.proofs.Common.{◌≡◌, ◌<◌, ℕ, List, get_or, true, nat_lt, Option, Some, None, Ok, refl, sym, subst, arith}
+use Rattle.std.proofs.Common.{◌≡◌, ◌<◌, ℕ, List, get_or, Option, Some, None, Ok, refl, sym, subst, arith}
 use Rattle.std.specs.List.{All}
-use Rattle.std.proofs.lemmas.Bool.{and_parts}
 use Rattle.std.proofs.lemmas.Bool.Decides.{nat_tests}
 use Rattle.std.proofs.lemmas.List.Elements.{All-nil, All-append, All-map, All-pop, All-weaker}
 use Rattle.definitions.specs.Poly.{Term}
@@ -64,10 +63,7 @@ module _ (problem : Problem) (budget : Budget) where
 
   -- claims
   letter_below : (a : ℕ) → IsInPlay ds problem.parts.starred (numbers problem.parts.marked) a → a < letters_in
-  letter_below a in_play = below (and_parts (nat_lt a letters_in) _ in_play).0
-    where
-      below : nat_lt a letters_in ≡ true → a < letters_in
-      below test = grind (arith, nat_tests)
+  letter_below a in_play = grind (arith, nat_tests)
 
   poly_over : (p : Poly) → HasLettersInPlay ds problem.parts.starred (numbers problem.parts.marked) p → AreOver letters_in p.terms
   poly_over p each =

@@ -7,14 +7,13 @@ use Rattle.traced_rows.specs.declared.Row.{Row}
 use Rattle.traced_rows.specs.declared.Made.{Made}
 use Rattle.cofactor_trace.specs.declared.halt.Halt.{Halt}
 use Rattle.rule_reduce.specs.declared.fault.ReduceFault.{ReduceFault}
-use Rattle.rule_reduce.specs.RuleLists.{IsRule}
 use Rattle.ambiguities.specs.declared.ambiguity.Ambiguity.{Ambiguity}
 use Rattle.ambiguities.proofs.Bounds.{over_overlap_word}
 use Rattle.ambiguities.proofs.Words.{AreWords, words_over, normal_words, s_words}
 use Rattle.ambiguities.proofs.OverLetters.{IsOverRow, reduced_over, s_rows_over}
 use Rattle.ambiguities.specs.declared.waiting.Waiting.{Waiting}
 use Rattle.rule_making.specs.Making.{Recorded}
-use Rattle.traced_completion.specs.Pending.{IsPending, ambiguities_of}
+use Rattle.traced_completion.specs.Pending.{ambiguities_of}
 use Rattle.traced_completion.specs.RunLaws.{HasWords}
 use Rattle.traced_completion.specs.PlainRun.{Setting, RunState, went, closed, stopped, Ends, taken_count, TreatsFirst, TreatsPending, IsRound, IsRunState}
 use Rattle.traced_completion.proofs.RunStates.{states_rules}
@@ -78,9 +77,6 @@ module _ (letters : ℕ) (setting : Setting) (generators : All (HasWords letters
       ended number o treated (Ok r) ends = absurd (not_went ends)
       ended number o treated (Err e) ends = ap (λ (h : Halt). h.least) (same_halt _ ends.stops)
 
-      pending_over : (w : Waiting) → IsPending s.rules s.treated w → All (IsRule letters setting.compare) s.rules → IsOver letters w.word
-      pending_over w is are = subst (IsOver letters) (sym is.overlap) (over_overlap_word letters setting.compare s.rules w.which are is.is)
-
       later : (number : ℕ) (pending : List Waiting) → All (λ w. IsOver letters w.word) pending → TreatsPending setting number s pending (stopped halt) → IsOver letters word
       later number [] each treats = absurd (not_closed treats)
       later number (w ∷ ws) each treats = on (nat_le setting.budget.pairs (length s.treated)) treats
@@ -96,4 +92,6 @@ module _ (letters : ℕ) (setting : Setting) (generators : All (HasWords letters
       go zero before stops = absurd (not_some (sym (ended 0 None s.treated stops.result stops.ends) ∙ least))
       go (suc n) before stops =
           let are = states_rules letters setting (suc n) s generators before in
-          later (suc n) stops.pending (pending-all (λ (w : Waiting). IsOver letters w.word) setting.compare s.rules s.treated stops.pending stops.all_pending (λ w one. pending_over w one are)) stops.treats
+          later (suc n) stops.pending (pending-all (λ (w : Waiting). IsOver letters w.word) setting.compare s.rules s.treated stops.pending
+          stops.all_pending (λ w one. (subst (IsOver letters) (sym one.overlap)
+          (over_overlap_word letters setting.compare s.rules w.which are one.is)))) stops.treats

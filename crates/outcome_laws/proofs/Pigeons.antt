@@ -16,15 +16,9 @@ no_member {A} x m = at_length [] m refl
 pub member_which : {A : Type 0} (x y : A) (ys : List A) → Member x (y ∷ ys) → (x ≡ y) ⊎ Member x ys
 member_which {A} x y ys m = at_list (y ∷ ys) m refl
   where
-    head_is : (zs : List A) → x ∷ zs ≡ y ∷ ys → x ≡ y
-    head_is zs e = cc
-
-    tail_is : (z : A) (zs : List A) → z ∷ zs ≡ y ∷ ys → zs ≡ ys
-    tail_is z zs e = cc
-
     at_list : (zs : List A) → Member x zs → zs ≡ y ∷ ys → (x ≡ y) ⊎ Member x ys
-    at_list _ (here zs) e = inl (head_is zs e)
-    at_list _ (there z zs k) e = inr (subst (λ w. Member x w) (tail_is z zs e) k)
+    at_list _ (here zs) e = inl (cc)
+    at_list _ (there z zs k) e = inr (subst (λ w. Member x w) (cc) k)
 
 module _ {A : Type 0} where
   pub member_from_contains : (xs : List A) (x : A) → Contains xs x → Member x xs

@@ -8,7 +8,6 @@ use Rattle.coef_int.specs.Range.{IsCoefficient}
 use Rattle.coef_int.specs.Operations.{product_of, first_overflow}
 use Rattle.definitions.specs.Poly.{Term}
 use Rattle.nc_polynomial.specs.declared.fault.PolyFault.{PolyFault}
-use Rattle.nc_polynomial.specs.declared.fault.PolyFault.TheVariants as fault
 use Rattle.nc_polynomial.specs.Terms.{multiplied, multiplications, negated, shifted, products, sums}
 use Rattle.nc_polynomial.specs.Faults.{unless_overflow, sized}
 use Rattle.nc_polynomial.proofs.Shapes.{in_range-added}
@@ -17,12 +16,10 @@ use Rattle.word_orders.specs.Admissible.{Compare}
 use Rattle.rule_reduce.specs.declared.rule.Rule.{Rule}
 use Rattle.rule_reduce.specs.declared.state.State.{State}
 use Rattle.rule_reduce.specs.declared.state.Choice.{Choice}
-use Rattle.rule_reduce.specs.declared.fault.ReduceFault.{ReduceFault}
-use Rattle.rule_reduce.specs.declared.fault.ReduceFault.TheVariants as halt
 use Rattle.rule_reduce.specs.RuleLists.{rule_at, entries_of}
 use Rattle.rule_reduce.specs.Choices.{choice_of}
 use Rattle.rule_reduce.specs.Steps.{Move, move_row, multiplied_row, row_operations, state_operations, less_operations, moved, move_operations, if_sized, move_result, move_of, step_by, step_result}
-use Rattle.rule_reduce.specs.NormalForms.{halt_of, then_next, at_limit, one_step, reduction, start_of, normal_form_of}
+use Rattle.rule_reduce.specs.NormalForms.{then_next, at_limit, one_step, reduction, start_of, normal_form_of}
 use Rattle.rule_reduce.proofs.Chosen.{found}
 use Rattle.rule_reduce.proofs.Runs.{move_result-value}
 use Rattle.outcome_laws.proofs.Results.{fits_first, none_append}
@@ -39,10 +36,7 @@ quotient_in_range (negsuc a) d h =
 -- what a result that is no fault was made of did not overflow
 none_of : {A : Type 0} (o : Option Overflow) (r : Result A PolyFault) (v : A) → unless_overflow o r ≡ Ok v → o ≡ None
 none_of None r v ends = refl
-none_of {A} (Some x) r v ends = absurd (clash ends)
-  where
-    clash : ◌≡◌ {A = Result A PolyFault} (Err (fault.Overflow x)) (Ok v) → ⊥
-    clash k = cc
+none_of {A} (Some x) r v ends = absurd (cc)
 
 -- rows
 abbrev pub HasNumber : Row → Type 0
@@ -87,48 +81,30 @@ module _ (compare : Compare) (rules : List Rule) where
   step_ranged : (c : Choice) (s t : State) → choice_of compare (entries_of rules) s.rest ≡ Some c → step_result rules c s ≡ Ok t → IsRanged s → IsRanged t
   step_ranged c s t chosen ends ranged = go (rule_at rules c.number) ends
     where
-      same : (x y : State) → ◌≡◌ {A = Result State PolyFault} (Ok x) (Ok y) → x ≡ y
-      same x y e = cc
-
       coefficient : IsCoefficient c.coefficient
       coefficient = All-contains (λ (t : Term). IsCoefficient t.0) s.rest (c.coefficient, c.word) ranged.rest (found compare rules s.rest c chosen).term
 
       go : (o : Option Rule) → step_by o c s ≡ Ok t → IsRanged t
-      go None e = subst IsRanged (same s t e) ranged
+      go None e = subst IsRanged (cc) ranged
       go (Some g) e = move_ranged (move_of c g) s t (quotient_in_range c.coefficient _ coefficient) e
 
   reduction_ranged : (limit n : ℕ) (s t : State) → reduction limit compare rules n s ≡ Ok t → IsRanged s → IsRanged t
   reduction_ranged limit zero s t ends ranged = go (choice_of compare (entries_of rules) s.rest) ends
     where
-      same : (x y : State) → ◌≡◌ {A = Result State ReduceFault} (Ok x) (Ok y) → x ≡ y
-      same x y e = cc
-
-      clash : (e : ReduceFault) → ◌≡◌ {A = Result State ReduceFault} (Err e) (Ok t) → ⊥
-      clash e k = cc
-
       go : (o : Option Choice) → at_limit limit o s ≡ Ok t → IsRanged t
-      go None e = subst IsRanged (same s t e) ranged
-      go (Some c) e = absurd (clash (halt.Steps limit) e)
+      go None e = subst IsRanged (cc) ranged
+      go (Some c) e = absurd (cc)
   reduction_ranged limit (suc n) s t ends ranged = go (choice_of compare (entries_of rules) s.rest) refl ends (reduction_ranged limit n)
     where
-      same : (x y : State) → ◌≡◌ {A = Result State ReduceFault} (Ok x) (Ok y) → x ≡ y
-      same x y e = cc
-
-      clash : (e : ReduceFault) → ◌≡◌ {A = Result State ReduceFault} (Err e) (Ok t) → ⊥
-      clash e k = cc
-
       go : (o : Option Choice) → choice_of compare (entries_of rules) s.rest ≡ o → one_step rules o s (reduction limit compare rules n) ≡ Ok t
           → ((u v : State) → reduction limit compare rules n u ≡ Ok v → IsRanged u → IsRanged v) → IsRanged t
-      go None chosen e later = subst IsRanged (same s t e) ranged
+      go None chosen e later = subst IsRanged (cc) ranged
       go (Some c) chosen e later = stepped (step_result rules c s) refl e
         where
           stepped : (r : Result State PolyFault) → step_result rules c s ≡ r → then_next r (reduction limit compare rules n) ≡ Ok t → IsRanged t
           stepped (Ok u) went k = later u t k (step_ranged c s u chosen went ranged)
-          stepped (Err x) went k = absurd (clash (halt_of x) k)
+          stepped (Err x) went k = absurd (cc)
 
   -- the polynomial that is reduced has its coefficients in range
   pub normal_forms_are_ranged : (p : List Term) (steps : ℕ) (s : State) → All (λ t. IsCoefficient t.0) p → normal_form_of compare rules p steps ≡ Ok s → IsRanged s
-  normal_forms_are_ranged p steps s ranged ends = reduction_ranged steps steps (start_of p) s ends (record { multiplier = one; rest = ranged; rows = All-nil HasNumber })
-    where
-      one : IsCoefficient (pos 1)
-      one = omega arith
+  normal_forms_are_ranged p steps s ranged ends = reduction_ranged steps steps (start_of p) s ends (record { multiplier = omega arith; rest = ranged; rows = All-nil HasNumber })

@@ -15,7 +15,6 @@ use Rattle.definitions.specs.Combination.{generator_at}
 use Rattle.word_orders.specs.Admissible.{Compare}
 use Rattle.nc_polynomial.specs.Content.{IsContent}
 use Rattle.nc_polynomial.specs.Shape.{IsShaped}
-use Rattle.nc_polynomial.specs.declared.fault.PolyFault.{PolyFault}
 use Rattle.nc_polynomial.proofs.Divisors.{abs_positive, content-zero}
 use Rattle.traced_rows.specs.declared.Origin.TheVariants as origin
 use Rattle.traced_rows.specs.declared.Row.{Row}
@@ -26,7 +25,7 @@ use Rattle.rule_reduce.specs.declared.state.State.{State}
 use Rattle.rule_reduce.specs.declared.fault.ReduceFault.{ReduceFault}
 use Rattle.rule_reduce.specs.declared.fault.ReduceFault.TheVariants as fault
 use Rattle.rule_reduce.specs.Steps.{multiplied_row, row_operations}
-use Rattle.rule_reduce.specs.NormalForms.{halt_of, normal_form_of}
+use Rattle.rule_reduce.specs.NormalForms.{normal_form_of}
 use Rattle.ambiguities.specs.declared.ambiguity.Ambiguity.{Ambiguity}
 use Rattle.ambiguities.specs.SPolynomials.{s_rows_of, s_polynomial_of}
 use Rattle.confluence.proofs.ShapeLaws.{normal_forms_are_shaped, s_polynomials_are_shaped}
@@ -35,7 +34,8 @@ use Rattle.rule_making.specs.Making.{Recorded, Rest, rest_with, negated_row, neg
 use Rattle.traced_completion.specs.Pending.{ambiguities_of}
 use Rattle.traced_completion.specs.Results.{and_then, halted, unless_overflow, each_in_turn}
 use Rattle.traced_completion.specs.Works.{Work, generator_rows, generator_work, First, first_of, first_rows, second_rows, rows_operations, second_rest, second_reduction, second_work, Goes, InTurn, InTwoPasses}
-use Rattle.traced_completion.specs.PlainRun.{Setting, RunState, went, closed, stopped, recorded, Ends, taken_count, IsTreated, TreatsFirst, TreatsPending, IsRound, IsRunState}
+use Rattle.traced_completion.specs.PlainRun.{Setting, RunState, went, stopped, recorded, Ends, taken_count, IsTreated, TreatsFirst, TreatsPending, IsRound, IsRunState}
+use Rattle.outcome_laws.proofs.LaterRounds.{halted_value}
 use Rattle.outcome_laws.proofs.RunsKept.{no_value, same_value, went_on}
 use Rattle.outcome_laws.proofs.RangedReductions.{HasNumber, AreInRange, rows_times, normal_forms_are_ranged}
 use Rattle.outcome_laws.proofs.Results.{none_append}
@@ -82,20 +82,13 @@ AreMadeInRange made = All IsMadeInRange made
 pub made_at : (made : List Made) (place : ℕ) (m : Made) → AreMadeInRange made → slice_get made place ≡ Some m → IsMadeInRange m
 made_at made place m each is = subst IsMadeInRange (get_or_from_slice_get made place m m is) (each place m (slice_get_within made place m is))
 
--- works
-same_rest : (x y : Rest) → ◌≡◌ {A = Option Rest} (Some x) (Some y) → x ≡ y
-same_rest x y is = cc
-
-no_rest : (x : Rest) → ◌≡◌ {A = Option Rest} None (Some x) → ⊥
-no_rest x is = cc
-
 -- what it leaves of anything is good
 abbrev KeepsGood : Work → Type 0
 KeepsGood work = (rules : List Rule) (rest : Rest) → work rules ≡ Ok (Some rest) → IsGood rest
 
 rest_good : (p : List Term) (rows : List Row) (rest : Rest) → rest_with p rows ≡ Some rest → IsShaped p → AreInRange rows → IsGood rest
-rest_good [] rows rest is shaped each = absurd (no_rest rest is)
-rest_good (t ∷ p) rows rest is shaped each = subst IsGood (same_rest (record { polynomial = t ∷ p; rows = rows }) rest is) (record { shaped = shaped; rows = each })
+rest_good [] rows rest is shaped each = absurd (cc)
+rest_good (t ∷ p) rows rest is shaped each = subst IsGood (cc) (record { shaped = shaped; rows = each })
 
 module _ (compare : Compare) (steps : ℕ) where
   generator_good : (generators : List (List Term)) (number : ℕ) → IsShaped (generator_at generators number) → KeepsGood (generator_work compare steps generators number)
@@ -109,7 +102,7 @@ module _ (compare : Compare) (steps : ℕ) where
 
   -- the products of its rows were tested
   second_left : (f : First) (s : State) (p : List Term) (rest : Rest) → IsShaped p → AreInRange s.rows → second_rest f s p ≡ Ok (Some rest) → IsGood rest
-  second_left f s [] rest shaped each ends = absurd (no_rest rest (same_value None (Some rest) ends))
+  second_left f s [] rest shaped each ends = absurd (cc (same_value None (Some rest) ends))
   second_left f s (t ∷ p) rest shaped each ends = go (first_overflow (rows_operations f s)) refl ends
     where
       go : (o : Option Overflow) → first_overflow (rows_operations f s) ≡ o → unless_overflow o (rest_with (t ∷ p) (second_rows f s)) ≡ Ok (Some rest) → IsGood rest
@@ -123,7 +116,7 @@ module _ (compare : Compare) (steps : ℕ) where
   second_good f shaped rules rest ends = on f.reduced.rest shaped ends
     where
       on : (p : List Term) → IsShaped p → second_reduction compare steps f rules p ≡ Ok (Some rest) → IsGood rest
-      on [] is k = absurd (no_rest rest (same_value None (Some rest) k))
+      on [] is k = absurd (cc (same_value None (Some rest) k))
       on (t ∷ p) is k =
           let went = went_on (normal_form_of compare rules (t ∷ p) steps) (λ s. second_rest f s s.rest) (Some rest) k in
           let ranged = normal_forms_are_ranged compare rules (t ∷ p) steps went.value is.in_range went.given in
@@ -134,12 +127,8 @@ module _ (compare : Compare) (steps : ℕ) where
   first_shaped rules a f ends =
       let one = went_on (halted (s_polynomial_of rules a)) (λ p. and_then (normal_form_of compare rules p steps) (λ s. Ok (record { rows = s_rows_of rules a; reduced = s }))) f ends in
       let two = went_on (normal_form_of compare rules one.value steps) (λ s. Ok (record { rows = s_rows_of rules a; reduced = s })) f one.rest in
-      let shaped = normal_forms_are_shaped compare rules one.value steps two.value (s_polynomials_are_shaped rules a one.value (whole (s_polynomial_of rules a) one.value one.given)) two.given in
+      let shaped = normal_forms_are_shaped compare rules one.value steps two.value (s_polynomials_are_shaped rules a one.value (halted_value (s_polynomial_of rules a) one.value one.given)) two.given in
       subst (λ (g : First). IsShaped g.reduced.rest) (same_value (record { rows = s_rows_of rules a; reduced = two.value }) f two.rest) shaped
-    where
-      whole : (r : Result (List Term) PolyFault) (p : List Term) → halted r ≡ Ok p → r ≡ Ok p
-      whole (Ok q) p is = ap Ok (same_value q p is)
-      whole (Err e) p is = absurd (no_value (halt_of e) p is)
 
   firsts_shaped : (rules : List Rule) (taken : List Ambiguity) (fs : List First) → each_in_turn (first_of compare steps rules) taken ≡ Ok fs → AllByRecursion (λ f. IsShaped f.reduced.rest) fs
   firsts_shaped rules [] fs ends = subst (AllByRecursion (λ (f : First). IsShaped f.reduced.rest)) (same_value [] fs ends) tt
@@ -208,18 +197,12 @@ module _ (setting : Setting) (shaped : (n : ℕ) → IsShaped (generator_at sett
   later_in_range : (n : ℕ) (before s : RunState) → IsRound setting (suc n) before (went s) → AreMadeInRange before.made → AreMadeInRange s.made
   later_in_range n before s round each = go round.pending round.treats
     where
-      not_closed : went s ≡ closed → ⊥
-      not_closed e = cc
-
-      not_stopped : {h : Halt} → went s ≡ stopped h → ⊥
-      not_stopped e = cc
-
       by_pairs : (w : Waiting) (ws : List Waiting) (b : Bool) → TreatsFirst setting (suc n) before w.word (w ∷ ws) b (went s) → AreMadeInRange s.made
-      by_pairs w ws true treats = absurd (not_stopped treats)
+      by_pairs w ws true treats = absurd (cc)
       by_pairs w ws false treats = treated_in_range (suc n) before s w.word (ambiguities_of (take (taken_count setting.budget before (w ∷ ws)) (w ∷ ws))) treats each
 
       go : (ws : List Waiting) → TreatsPending setting (suc n) before ws (went s) → AreMadeInRange s.made
-      go [] treats = absurd (not_closed treats)
+      go [] treats = absurd (cc)
       go (w ∷ ws) treats = by_pairs w ws (nat_le setting.budget.pairs (length before.treated)) treats
 
   pub runs_in_range : (n : ℕ) (s : RunState) → IsRunState setting n s → AreMadeInRange s.made

@@ -21,17 +21,16 @@ use Rattle.traced_rows.specs.declared.Row.{Row}
 use Rattle.rule_reduce.specs.declared.rule.Rule.{Rule}
 use Rattle.rule_reduce.specs.declared.state.State.{State}
 use Rattle.rule_reduce.specs.declared.state.Choice.{Choice}
-use Rattle.rule_reduce.specs.declared.fault.ReduceFault.{ReduceFault}
-use Rattle.rule_reduce.specs.declared.fault.ReduceFault.TheVariants as halt
 use Rattle.rule_reduce.specs.RuleLists.{IsRule, rule_at, entries_of}
 use Rattle.rule_reduce.specs.Choices.{choice_of}
 use Rattle.rule_reduce.specs.Steps.{Move, move_row, multiplied_row, row_operations, state_operations, less_operations, moved, move_operations, if_sized, move_result, move_of, step_by, step_result}
-use Rattle.rule_reduce.specs.NormalForms.{halt_of, then_next, at_limit, one_step, reduction, start_of, normal_form_of}
+use Rattle.rule_reduce.specs.NormalForms.{then_next, at_limit, one_step, reduction, start_of, normal_form_of}
 use Rattle.rule_reduce.proofs.Chosen.{found}
 use Rattle.rule_reduce.proofs.Numbers.{rule_at-all}
 use Rattle.rule_reduce.proofs.Runs.{move_result-value}
 use Rattle.nc_polynomial.specs.Limits.{word_limit, term_limit}
-use Rattle.outcome_laws.proofs.Results.{same_ok, fits_first, none_append}
+use Rattle.outcome_laws.proofs.Results.{fits_first, none_append}
+use Rattle.outcome_laws.proofs.RunsKept.{same_value}
 use Rattle.outcome_laws.proofs.EvidenceRanges.{quotient_in_range}
 
 -- no word has more letters than the limit, and the integers are coefficients
@@ -43,14 +42,11 @@ none_long : (p : List Term) → has_long_word p ≡ false → All (λ t. length 
 none_long [] none = All-nil (λ (t : Term). length t.1 ≤ word_limit)
 none_long (t ∷ p) none =
     let both = or_false (nat_lt word_limit (length t.1)) (has_long_word p) none in
-    All-cons (λ (u : Term). length u.1 ≤ word_limit) t p (at_most (length t.1) both.0) (none_long p both.1)
+    All-cons (λ (u : Term). length u.1 ≤ word_limit) t p (grind (arith, nat_tests)) (none_long p both.1)
   where
     or_false : (a b : Bool) → a || b ≡ false → (a ≡ false) × (b ≡ false)
     or_false true b e = absurd (cc)
     or_false false b e = (refl, e)
-
-    at_most : (n : ℕ) → nat_lt word_limit n ≡ false → n ≤ word_limit
-    at_most n e = grind (arith, nat_tests)
 
 pub sized_short : (p v : List Term) → sized p ≡ Ok v → All (λ t. length t.1 ≤ word_limit) p
 sized_short p v ends = go (has_long_word p) refl (nat_lt term_limit (length p)) ends
@@ -91,29 +87,26 @@ step_fits m s t ends = go (first_overflow (move_operations m s)) refl ends
 -- what is kept by each step without a fault is kept by the whole reduction
 module _ (P : State → Type 0) (compare : Compare) (rules : List Rule)
     (keeps : (c : Choice) (g : Rule) (s : State) → choice_of compare (entries_of rules) s.rest ≡ Some c → rule_at rules c.number ≡ Some g → StepFits (move_of c g) s → P s → P (moved (move_of c g) s)) where
-  halts : (t : State) (e : ReduceFault) → ◌≡◌ {A = Result State ReduceFault} (Err e) (Ok t) → ⊥
-  halts t e same = cc
-
   pub fitting_reduction : (limit n : ℕ) (s t : State) → reduction limit compare rules n s ≡ Ok t → P s → P t
   fitting_reduction limit zero s t is before = go (choice_of compare (entries_of rules) s.rest) is
     where
       go : (o : Option Choice) → at_limit limit o s ≡ Ok t → P t
-      go None k = subst P (same_ok s t k) before
-      go (Some c) k = absurd (halts t (halt.Steps limit) k)
+      go None k = subst P (same_value s t k) before
+      go (Some c) k = absurd (cc)
   fitting_reduction limit (suc n) s t is before = go (choice_of compare (entries_of rules) s.rest) refl is (fitting_reduction limit n)
     where
       go : (o : Option Choice) → choice_of compare (entries_of rules) s.rest ≡ o → one_step rules o s (reduction limit compare rules n) ≡ Ok t
           → ((u v : State) → reduction limit compare rules n u ≡ Ok v → P u → P v) → P t
-      go None none k more = subst P (same_ok s t k) before
+      go None none k more = subst P (same_value s t k) before
       go (Some c) chosen k more = stepped (rule_at rules c.number) refl (step_result rules c s) refl k
         where
           stepped : (g : Option Rule) → rule_at rules c.number ≡ g → (r : Result State PolyFault) → step_result rules c s ≡ r → then_next r (reduction limit compare rules n) ≡ Ok t → P t
-          stepped None has (Ok u) went j = more u t j (subst P (same_ok s u (sym (ap (λ o. step_by o c s) has) ∙ went)) before)
+          stepped None has (Ok u) went j = more u t j (subst P (same_value s u (sym (ap (λ o. step_by o c s) has) ∙ went)) before)
           stepped (Some g) has (Ok u) went j =
               let by : move_result (move_of c g) s ≡ Ok u = sym (ap (λ o. step_by o c s) has) ∙ went in
               more u t j (subst P (move_result-value (move_of c g) s u by) (keeps c g s chosen has (step_fits (move_of c g) s u by) before))
-          stepped None has (Err e) went j = absurd (halts t (halt_of e) j)
-          stepped (Some g) has (Err e) went j = absurd (halts t (halt_of e) j)
+          stepped None has (Err e) went j = absurd (cc)
+          stepped (Some g) has (Err e) went j = absurd (cc)
 
 -- a coefficient, and words of no more letters than the limit
 pub record IsShortRow (r : Row) : Type 0 where

@@ -28,10 +28,7 @@ use Rattle.outcome_laws.proofs.StepMade.{reduced_of, next_step, step_made, of_st
 
 -- a polynomial that is too large
 long_word : (p : List Term) → has_long_word p ≡ true → IsTooLarge true p
-long_word [] e = absurd (clash e)
-  where
-    clash : false ≡ true → ⊥
-    clash k = cc
+long_word [] e = absurd (cc)
 long_word (t ∷ p) e = go (nat_lt word_limit (length t.1)) refl e (long_word p)
   where
     go : (b : Bool) → nat_lt word_limit (length t.1) ≡ b → (b || has_long_word p) ≡ true → (has_long_word p ≡ true → IsTooLarge true p) → IsTooLarge true (t ∷ p)
@@ -41,17 +38,11 @@ long_word (t ∷ p) e = go (nat_lt word_limit (length t.1)) refl e (long_word p)
 pub too_large : (p : List Term) (e : PolyFault) → sized p ≡ Err e → (letters : Bool) × (e ≡ size_fault letters) × IsTooLarge letters p
 too_large p e ends = go (has_long_word p) refl (nat_lt term_limit (length p)) refl ends
   where
-    same : (d : PolyFault) → ◌≡◌ {A = Result (List Term) PolyFault} (Err d) (Err e) → e ≡ d
-    same d k = cc
-
-    none : ◌≡◌ {A = Result (List Term) PolyFault} (Ok p) (Err e) → ⊥
-    none k = cc
-
     go : (long : Bool) → has_long_word p ≡ long → (many : Bool) → nat_lt term_limit (length p) ≡ many → cond long (Err (size_fault true)) (cond many (Err (size_fault false)) (Ok p)) ≡ Err e
         → (letters : Bool) × (e ≡ size_fault letters) × IsTooLarge letters p
-    go true is many of k = (true, same (size_fault true) k, long_word p is)
-    go false is true of k = (false, same (size_fault false) k, grind (arith, nat_tests))
-    go false is false of k = absurd (none k)
+    go true is many of k = (true, (cc), long_word p is)
+    go false is true of k = (false, (cc), grind (arith, nat_tests))
+    go false is false of k = absurd (cc)
 
 -- Why a move of a state stops: one of its operations is no coefficient, or what it leaves is too large, and none of them is.
 pub data MoveStops (m : Move) (s : State) (e : PolyFault) : Type 0 where
@@ -61,19 +52,13 @@ pub data MoveStops (m : Move) (s : State) (e : PolyFault) : Type 0 where
 move_stops : (m : Move) (s : State) (e : PolyFault) → move_result m s ≡ Err e → MoveStops m s e
 move_stops m s e ends = go (first_overflow (move_operations m s)) refl ends
   where
-    same : (d : PolyFault) → ◌≡◌ {A = Result State PolyFault} (Err d) (Err e) → e ≡ d
-    same d k = cc
-
-    none : (t : State) → ◌≡◌ {A = Result State PolyFault} (Ok t) (Err e) → ⊥
-    none t k = cc
-
     size : first_overflow (move_operations m s) ≡ None → (r : Result (List Term) PolyFault) → sized (moved m s).rest ≡ r → if_sized r (moved m s) ≡ Err e → MoveStops m s e
-    size fits (Ok p) is k = absurd (none (moved m s) k)
-    size fits (Err d) is k = let large = too_large (moved m s).rest d is in too_long large.0 (same d k ∙ large.1) fits large.2
+    size fits (Ok p) is k = absurd (cc)
+    size fits (Err d) is k = let large = too_large (moved m s).rest d is in too_long large.0 ((cc) ∙ large.1) fits large.2
 
     go : (o : Option Overflow) → first_overflow (move_operations m s) ≡ o → unless_overflow o (if_sized (sized (moved m s).rest) (moved m s)) ≡ Err e → MoveStops m s e
     go None is k = size is (sized (moved m s).rest) refl k
-    go (Some o) is k = overflows o (same (fault.Overflow o) k) is
+    go (Some o) is k = overflows o (cc) is
 
 -- Why a reduction of at most this many steps stops.
 pub data Stops (compare : Compare) (rules : List Rule) (limit steps : ℕ) (start : Reduced) (e : ReduceFault) : Type 0 where
@@ -99,12 +84,6 @@ module _ (letters : ℕ) (compare : Compare) (rank : List ℕ → List ℕ) (law
   one_earlier n s t e step (size which is gets) =
       size which is
       (record { earlier = suc gets.earlier; few = omega (arith, gets.few); now = gets.now; goes = record { after = t; step = step; later = gets.goes }; large = gets.large })
-
-  no_fault : (s : State) (e : ReduceFault) → ◌≡◌ {A = Result State ReduceFault} (Ok s) (Err e) → ⊥
-  no_fault s e k = cc
-
-  same_fault : (d e : ReduceFault) → ◌≡◌ {A = Result State ReduceFault} (Err d) (Err e) → e ≡ d
-  same_fault d e k = cc
 
   -- the step that is chosen
   module _ (s : State) (shaped : IsShaped s.rest) (c : Choice) (chosen : choice_of compare (entries_of rules) s.rest ≡ Some c) (g : Rule) (numbered : rule_at rules c.number ≡ Some g) where
@@ -164,27 +143,23 @@ module _ (letters : ℕ) (compare : Compare) (rank : List ℕ → List ℕ) (law
       one_earlier n (reduced_of s) (reduced_of t) h step.0 (later t step.1 k)
   by_result n s shaped c chosen h later (Err e) ends k =
       let is = is_choice s shaped c chosen in
-      stops_at s shaped c chosen is.rule is.numbered n e h (same_fault (halt_of e) h k) (move_stops (move_of c is.rule) s e (sym (ap (λ o. step_by o c s) is.numbered) ∙ ends))
+      stops_at s shaped c chosen is.rule is.numbered n e h (cc) (move_stops (move_of c is.rule) s e (sym (ap (λ o. step_by o c s) is.numbered) ∙ ends))
 
   stopped : (n : ℕ) (s : State) (e : ReduceFault) → IsShaped s.rest → reduction limit compare rules n s ≡ Err e → Stops compare rules limit n (reduced_of s) e
   stopped zero s e shaped ends = go (choice_of compare (entries_of rules) s.rest) refl ends
     where
       go : (o : Option Choice) → choice_of compare (entries_of rules) s.rest ≡ o → at_limit limit o s ≡ Err e → Stops compare rules limit 0 (reduced_of s) e
-      go None none k = absurd (no_fault s e k)
+      go None none k = absurd (cc)
       go (Some c) chosen k =
           let is = is_choice s shaped c chosen in
-          steps_spent (same_fault (halt.Steps limit) e k) (record { now = reduced_of s; goes = refl; next = next_step compare rules s shaped c is is.rule is.numbered })
+          steps_spent (cc) (record { now = reduced_of s; goes = refl; next = next_step compare rules s shaped c is is.rule is.numbered })
   stopped (suc n) s e shaped ends = go (choice_of compare (entries_of rules) s.rest) refl ends (λ t. stopped n t e)
     where
       go : (o : Option Choice) → choice_of compare (entries_of rules) s.rest ≡ o → one_step rules o s (reduction limit compare rules n) ≡ Err e
           → ((t : State) → IsShaped t.rest → reduction limit compare rules n t ≡ Err e → Stops compare rules limit n (reduced_of t) e)
           → Stops compare rules limit (suc n) (reduced_of s) e
-      go None none k later = absurd (no_fault s e k)
+      go None none k later = absurd (cc)
       go (Some c) chosen k later = by_result n s shaped c chosen e later (step_result rules c s) refl k
-
-  -- what is left where it doesn't stop
-  no_value : (e : ReduceFault) (t : State) → ◌≡◌ {A = Result State ReduceFault} (Err e) (Ok t) → ⊥
-  no_value e t k = cc
 
   same_value : (s t : State) → ◌≡◌ {A = Result State ReduceFault} (Ok s) (Ok t) → s ≡ t
   same_value s t k = cc
@@ -199,7 +174,7 @@ module _ (letters : ℕ) (compare : Compare) (rank : List ℕ → List ℕ) (law
     where
       go : (o : Option Choice) → choice_of compare (entries_of rules) s.rest ≡ o → at_limit limit o s ≡ Ok t → Leaves compare rules 0 (reduced_of s) (reduced_of t)
       go None none k = ended s t none k 0
-      go (Some c) chosen k = absurd (no_value (halt.Steps limit) t k)
+      go (Some c) chosen k = absurd (cc)
   finished (suc n) s t shaped ends = go (choice_of compare (entries_of rules) s.rest) refl ends (λ u. finished n u t)
     where
       go : (o : Option Choice) → choice_of compare (entries_of rules) s.rest ≡ o → one_step rules o s (reduction limit compare rules n) ≡ Ok t
@@ -209,7 +184,7 @@ module _ (letters : ℕ) (compare : Compare) (rank : List ℕ → List ℕ) (law
       go (Some c) chosen k later = by_step (step_result rules c s) refl k
         where
           by_step : (r : Result State PolyFault) → step_result rules c s ≡ r → then_next r (reduction limit compare rules n) ≡ Ok t → Leaves compare rules (suc n) (reduced_of s) (reduced_of t)
-          by_step (Err e) made j = absurd (no_value (halt_of e) t j)
+          by_step (Err e) made j = absurd (cc)
           by_step (Ok u) made j =
               let is = is_choice s shaped c chosen in
               let step = went s shaped c chosen is.rule is.numbered u (sym (ap (λ o. step_by o c s) is.numbered) ∙ made) in

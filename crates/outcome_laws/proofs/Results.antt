@@ -1,5 +1,5 @@
 -- Results that are values, and operations of which none overflows.
-use Rattle.std.proofs.Common.{◌≡◌, ℕ, zero, suc, List, [], ◌∷◌, ◌++◌, Bool, true, false, cond, Some, None, Result, Ok, Err, refl, ◌∙◌, arith}
+use Rattle.std.proofs.Common.{◌≡◌, ℕ, zero, suc, List, [], ◌∷◌, ◌++◌, Bool, true, false, cond, Some, None, refl, ◌∙◌, arith}
 use Rattle.std.specs.List.{All}
 use Rattle.std.proofs.lemmas.List.Elements.{All-head, All-tail}
 use Rattle.std.proofs.lemmas.Bool.Decides.{nat_tests}
@@ -9,13 +9,6 @@ use Rattle.coef_int.specs.declared.Overflow.{Overflow}
 use Rattle.coef_int.specs.Range.{IsCoefficient, is_coefficient}
 use Rattle.coef_int.specs.Operations.{exact_value, first_overflow}
 use Rattle.nc_polynomial.proofs.Chains.{first-fits}
-
-module _ {A E : Type 0} where
-  pub same_ok : (x y : A) → ◌≡◌ {A = Result A E} (Ok x) (Ok y) → x ≡ y
-  same_ok x y same = cc
-
-  pub no_error : (x : A) (e : E) → ◌≡◌ {A = Result A E} (Err e) (Ok x) → ⊥
-  no_error x e same = cc
 
 -- what holds of each generator and of zero holds of the generator with any number
 pub generator_all : (P : List Term → Type 0) (ps : List (List Term)) → All P ps → P [] → (number : ℕ) → P (generator_at ps number)

@@ -176,13 +176,10 @@ module _ (problem : Problem) (budget : Budget) where
           → InTwoPasses compare budget.steps (each_in_turn (first_of compare budget.steps s.rules) taken) (recorded s) (Err e) → Means (place.Round (suc n)) c
       treated_means taken are e c why passes = go (each_in_turn (first_of compare budget.steps s.rules) taken) refl passes
         where
-          same : (d : ReduceFault) → ◌≡◌ {A = Result Recorded ReduceFault} (Err e) (Err d) → d ≡ e
-          same d k = cc
-
           go : (r : Result (List First) ReduceFault) → each_in_turn (first_of compare budget.steps s.rules) taken ≡ r → InTwoPasses compare budget.steps r (recorded s) (Err e) → Means (place.Round (suc n)) c
           go (Err d) ends two =
               first_means e c why
-              (first_fails (quiver_of problem.parts.quiver) any_letter letters compare rank (order_laws problem budget) generators (generators_are problem) budget.steps s.rules taken e are (ends ∙ ap Err (same d two)))
+              (first_fails (quiver_of problem.parts.quiver) any_letter letters compare rank (order_laws problem budget) generators (generators_are problem) budget.steps s.rules taken e are (ends ∙ ap Err (cc)))
           go (Ok firsts) ends two =
               let now = state_now (suc n) s run in
               let firsts_are =

@@ -27,13 +27,6 @@ use Rattle.outcome_laws.proofs.RunsKept.{no_value, same_value, went_on, KeptNow,
 use Rattle.outcome_laws.proofs.MadeRules.{Grows}
 use Rattle.outcome_laws.proofs.LaterRounds.{halted_value, BeginsWith, begins_with, ambiguities_in_turn}
 
--- results
-fault_is : {A : Type 0} (d e : ReduceFault) → ◌≡◌ {A = Result A ReduceFault} (Err d) (Err e) → d ≡ e
-fault_is d e k = cc
-
-value_or : {A : Type 0} (x : A) (e : ReduceFault) → ◌≡◌ {A = Result A ReduceFault} (Ok x) (Err e) → ⊥
-value_or x e k = cc
-
 -- the first result has the fault, or the next one
 pub data Failed {A B : Type 0} (r : Result A ReduceFault) (next : A → Result B ReduceFault) (e : ReduceFault) : Type 0 where
   at_first : r ≡ Err e → Failed r next e
@@ -41,16 +34,16 @@ pub data Failed {A B : Type 0} (r : Result A ReduceFault) (next : A → Result B
 
 pub failed : {A B : Type 0} (r : Result A ReduceFault) (next : A → Result B ReduceFault) (e : ReduceFault) → and_then r next ≡ Err e → Failed r next e
 failed (Ok x) next e is = later x refl is
-failed {A} {B} (Err d) next e is = at_first (ap Err (fault_is {A = B} d e is))
+failed {A} {B} (Err d) next e is = at_first (ap Err (cc))
 
 -- what ends well after it has no fault
 failed_first : {A B : Type 0} (r : Result A ReduceFault) (f : A → B) (e : ReduceFault) → and_then r (λ x. Ok (f x)) ≡ Err e → r ≡ Err e
-failed_first (Ok x) f e is = absurd (value_or (f x) e is)
-failed_first {A} {B} (Err d) f e is = ap Err (fault_is {A = B} d e is)
+failed_first (Ok x) f e is = absurd (cc)
+failed_first {A} {B} (Err d) f e is = ap Err (cc)
 
 halted_fault : (r : Result (List Term) PolyFault) (e : ReduceFault) → halted r ≡ Err e → (d : PolyFault) × (r ≡ Err d) × (e ≡ halt_of d)
-halted_fault (Ok p) e is = absurd (value_or p e is)
-halted_fault (Err d) e is = (d, refl, sym (fault_is {A = List Term} (halt_of d) e is))
+halted_fault (Ok p) e is = absurd (cc)
+halted_fault (Err d) e is = (d, refl, sym (cc))
 
 -- the first fault of several
 pub record OneFails {A B : Type 0} (Is : A → Type 0) (f : A → Result B ReduceFault) (e : ReduceFault) : Type 0 where
@@ -59,7 +52,7 @@ pub record OneFails {A B : Type 0} (Is : A → Type 0) (f : A → Result B Reduc
   pub fails : f item ≡ Err e
 
 one_fails : {A B : Type 0} (Is : A → Type 0) (f : A → Result B ReduceFault) (xs : List A) (e : ReduceFault) → All Is xs → each_in_turn f xs ≡ Err e → OneFails Is f e
-one_fails {B} Is f [] e each is = absurd (value_or {A = List B} [] e is)
+one_fails {B} Is f [] e each is = absurd (cc)
 one_fails {B} Is f (x ∷ xs) e each is = go (failed (f x) (λ y. and_then (each_in_turn f xs) (λ ys. Ok (y ∷ ys))) e is) (one_fails Is f xs e (All-tail Is x xs each))
   where
     go : Failed (f x) (λ y. and_then (each_in_turn f xs) (λ ys. Ok (y ∷ ys))) e → (each_in_turn f xs ≡ Err e → OneFails Is f e) → OneFails Is f e
@@ -108,7 +101,7 @@ module _ (q : Quiver) (play : ℕ → Bool) (letters : ℕ) (compare : Compare) 
         least = (All-head (λ k. (1 ≤ k) × (k ≤ length generators)) n numbers in_range).0;
         most = (All-head (λ k. (1 ≤ k) × (k ≤ length generators)) n numbers in_range).1;
         fails = failed_first (normal_form_of compare before.rules (generator_at generators n) steps) (λ s. rest_with s.rest (generator_rows n s.multiplier s.rows)) e
-            (ends ∙ ap Err (sym (fault_is {A = Recorded} e d on)));
+            (ends ∙ ap Err (sym (cc)));
       }
       go (Ok rest) ends on further =
           further on.between
@@ -206,7 +199,7 @@ module _ (q : Quiver) (play : ℕ → Bool) (letters : ℕ) (compare : Compare) 
           is = are.0.0;
           first = f;
           first_is = are.0.1;
-          fails = ends ∙ ap Err (sym (fault_is {A = Recorded} e d on));
+          fails = ends ∙ ap Err (sym (cc));
         }
         go (Ok rest) ends on further =
             further on.between (begins_with start compare rest before on.between front on.added)
@@ -222,12 +215,12 @@ module _ (q : Quiver) (play : ℕ → Bool) (letters : ℕ) (compare : Compare) 
     in_products : (s : State) (o : Overflow) → normal_form_of compare rules f.reduced.rest steps ≡ Ok s → e ≡ fault.Overflow o → first_overflow (rows_operations f s) ≡ Some o → SecondStops f rules e
 
   rest_fails : (f : First) (rules : List Rule) (s : State) (p : List Term) (e : ReduceFault) → normal_form_of compare rules f.reduced.rest steps ≡ Ok s → second_rest f s p ≡ Err e → SecondStops f rules e
-  rest_fails f rules s [] e went is = absurd (value_or {A = Option Rest} None e is)
+  rest_fails f rules s [] e went is = absurd (cc)
   rest_fails f rules s (t ∷ p) e went is = go (first_overflow (rows_operations f s)) refl is
     where
       go : (o : Option Overflow) → first_overflow (rows_operations f s) ≡ o → unless_overflow o (rest_with (t ∷ p) (second_rows f s)) ≡ Err e → SecondStops f rules e
-      go None none k = absurd (value_or {A = Option Rest} (rest_with (t ∷ p) (second_rows f s)) e k)
-      go (Some o) first k = in_products s o went (sym (fault_is {A = Option Rest} (fault.Overflow o) e k)) first
+      go None none k = absurd (cc)
+      go (Some o) first k = in_products s o went (sym (cc)) first
 
   pub second_stops : (f : First) (rules : List Rule) (e : ReduceFault) → second_work compare steps f rules ≡ Err e → SecondStops f rules e
   second_stops f rules e ends = go f.reduced.rest refl ends
@@ -237,7 +230,7 @@ module _ (q : Quiver) (play : ℕ → Bool) (letters : ℕ) (compare : Compare) 
       by_part (later s went fails) = rest_fails f rules s s.rest e went fails
 
       go : (p : List Term) → f.reduced.rest ≡ p → second_reduction compare steps f rules p ≡ Err e → SecondStops f rules e
-      go [] none k = absurd (value_or {A = Option Rest} None e k)
+      go [] none k = absurd (cc)
       go (t ∷ p) some k =
           by_part (failed (normal_form_of compare rules f.reduced.rest steps) (λ s. second_rest f s s.rest) e
           (subst (λ v. and_then (normal_form_of compare rules v steps) (λ s. second_rest f s s.rest) ≡ Err e) (sym some) k))

@@ -32,14 +32,9 @@ use Rattle.traced_completion.specs.Pending.{AreAllPending, ambiguities_of}
 use Rattle.traced_completion.specs.RunLaws.{HasWords}
 use Rattle.traced_completion.specs.PlainRun.{Setting, RunState, went, closed, stopped, recorded, Ends, taken_count, IsTreated, TreatsFirst, TreatsPending, IsRoundZero, IsLaterRound, IsRunState}
 use Rattle.traced_completion.proofs.RunRules.{made_is_rule}
-use Rattle.outcome_laws.proofs.Results.{same_ok, no_error, generator_all, fits_first, none_append}
+use Rattle.outcome_laws.proofs.Results.{generator_all, fits_first, none_append}
+use Rattle.outcome_laws.proofs.RunsKept.{same_value, went_on}
 use Rattle.outcome_laws.proofs.WholeRuns.{taken_are}
-
-some_is : (x y : Rest) → ◌≡◌ {A = Option Rest} (Some x) (Some y) → x ≡ y
-some_is x y same = cc
-
-none_some : (x : Rest) → ◌≡◌ {A = Option Rest} None (Some x) → ⊥
-none_some x same = cc
 
 -- the words of generators, by their numbers
 pub generator_words : (letters : ℕ) (ps : List (List Term)) → All (HasWords letters) ps → (number : ℕ) → AreWords letters (generator_at ps number)
@@ -100,8 +95,8 @@ module _ (letters : ℕ) (setting : Setting) (IsPoly : List Term → Type 0) (Is
     some : 1 ≤ length rest.rows
 
   rest_holds : (count : ℕ) (p : List Term) (rows : List Row) (rest : Rest) → rest_with p rows ≡ Some rest → IsPoly p → Rows count rows → 1 ≤ length rows → Holds count rest
-  rest_holds count [] rows rest same is each some = absurd (none_some rest same)
-  rest_holds count (t ∷ p) rows rest same is each some = subst (Holds count) (some_is _ rest same) (record { polynomial = is; rows = each; some = some })
+  rest_holds count [] rows rest same is each some = absurd (cc)
+  rest_holds count (t ∷ p) rows rest same is each some = subst (Holds count) (cc) (record { polynomial = is; rows = each; some = some })
 
   abbrev KeepsRows : ℕ → Work → Type 0
   KeepsRows count work = (rules : List Rule) → count ≤ length rules → AreRules rules → (rest : Rest) → work rules ≡ Ok (Some rest) → Holds (length rules) rest
@@ -111,11 +106,11 @@ module _ (letters : ℕ) (setting : Setting) (IsPoly : List Term → Type 0) (Is
     where
       go : (r : Result State ReduceFault) → normal_form_of setting.compare rules (generator_at setting.generators number) setting.budget.steps ≡ r
           → and_then r (λ s. Ok (rest_with s.rest (generator_rows number s.multiplier s.rows))) ≡ Ok (Some rest) → Holds (length rules) rest
-      go (Err e) ends k = absurd (no_error (Some rest) e k)
+      go (Err e) ends k = absurd (cc)
       go (Ok s) ends k =
           let after = kept.reduced rules (generator_at setting.generators number) s are is.polynomial ends in
           let row = kept.more 0 (length rules) (record { coef = s.multiplier; left = []; from = origin.Generator number; right = [] }) (omega arith) (is.row rules s are ends) in
-          rest_holds (length rules) s.rest (generator_rows number s.multiplier s.rows) rest (same_ok _ (Some rest) k) after.0
+          rest_holds (length rules) s.rest (generator_rows number s.multiplier s.rows) rest (same_value _ (Some rest) k) after.0
           (All-cons (IsRow (length rules)) (record { coef = s.multiplier; left = []; from = origin.Generator number; right = [] }) (negated_rows s.rows) row (rows_negated (length rules) s.rows after.1)) (omega arith)
 
   -- a first reduction
@@ -129,29 +124,26 @@ module _ (letters : ℕ) (setting : Setting) (IsPoly : List Term → Type 0) (Is
   first_more few many f most has = record { rows = rows_more few many most f.rows has.rows; some = has.some; rest = has.rest; taken = rows_more few many most f.reduced.rows has.taken }
 
   second_left : (count : ℕ) (f : First) (s : State) (p : List Term) (rest : Rest) → second_rest f s p ≡ Ok (Some rest) → HoldsFirst count f → IsPoly p → Rows count s.rows → Holds count rest
-  second_left count f s [] rest same first is taken = absurd (none_some rest (same_ok None (Some rest) same))
+  second_left count f s [] rest same first is taken = absurd (cc (same_value None (Some rest) same))
   second_left count f s (t ∷ p) rest same first is taken = go (first_overflow (rows_operations f s)) refl same
     where
       go : (o : Option Overflow) → first_overflow (rows_operations f s) ≡ o → unless_overflow o (rest_with (t ∷ p) (second_rows f s)) ≡ Ok (Some rest) → Holds count rest
       go None none k =
           let fits = none_append (row_operations f.rows f.reduced.multiplier) (row_operations (first_rows f) s.multiplier) none in
           let before = rows_less count f.rows f.reduced.multiplier f.reduced.rows fits.0 first.rows first.taken in
-          rest_holds count (t ∷ p) (second_rows f s) rest (same_ok _ (Some rest) k) is (rows_less count (first_rows f) s.multiplier s.rows fits.1 before taken)
+          rest_holds count (t ∷ p) (second_rows f s) rest (same_value _ (Some rest) k) is (rows_less count (first_rows f) s.multiplier s.rows fits.1 before taken)
           (some_less (first_rows f) s.multiplier s.rows (some_less f.rows f.reduced.multiplier f.reduced.rows first.some))
-      go (Some o) none k = absurd (no_error (Some rest) _ k)
+      go (Some o) none k = absurd (cc)
 
   second_keeps : (count : ℕ) (f : First) → HoldsFirst count f → KeepsRows count (second_work setting.compare setting.budget.steps f)
   second_keeps count f first rules least are rest same = on f.reduced.rest first.rest same
     where
       on : (p : List Term) → IsPoly p → second_reduction setting.compare setting.budget.steps f rules p ≡ Ok (Some rest) → Holds (length rules) rest
-      on [] is k = absurd (none_some rest (same_ok None (Some rest) k))
-      on (t ∷ p) is k = go (normal_form_of setting.compare rules (t ∷ p) setting.budget.steps) refl k
-        where
-          go : (r : Result State ReduceFault) → normal_form_of setting.compare rules (t ∷ p) setting.budget.steps ≡ r → and_then r (λ s. second_rest f s s.rest) ≡ Ok (Some rest) → Holds (length rules) rest
-          go (Err e) ends m = absurd (no_error (Some rest) e m)
-          go (Ok s) ends m =
-              let after = kept.reduced rules (t ∷ p) s are is ends in
-              second_left (length rules) f s s.rest rest m (first_more count (length rules) f least first) after.0 after.1
+      on [] is k = absurd (cc (same_value None (Some rest) k))
+      on (t ∷ p) is k =
+          let went = went_on (normal_form_of setting.compare rules (t ∷ p) setting.budget.steps) (λ s. second_rest f s s.rest) (Some rest) k in
+          let after = kept.reduced rules (t ∷ p) went.value are is went.given in
+          second_left (length rules) f went.value went.value.rest rest went.rest (first_more count (length rules) f least first) after.0 after.1
 
   -- the first reductions
   module _ (rules : List Rule) (are : AreRules rules) where
@@ -163,28 +155,25 @@ module _ (letters : ℕ) (setting : Setting) (IsPoly : List Term → Type 0) (Is
       where
         after : (p : List Term) → s_polynomial_of rules a ≡ Ok p → (r : Result State ReduceFault) → normal_form_of setting.compare rules p setting.budget.steps ≡ r
             → and_then r (λ s. Ok (record { rows = s_rows_of rules a; reduced = s })) ≡ Ok f → HoldsFirst (length rules) f
-        after p made (Err e) ends k = absurd (no_error f e k)
+        after p made (Err e) ends k = absurd (cc)
         after p made (Ok s) ends k =
             let one = kept.ambiguous rules a p are is made in
             let reduced = kept.reduced rules p s are one.0 ends in
-            subst (HoldsFirst (length rules)) (same_ok _ f k) (record { rows = one.1; some = omega arith; rest = reduced.0; taken = reduced.1 })
+            subst (HoldsFirst (length rules)) (same_value _ f k) (record { rows = one.1; some = omega arith; rest = reduced.0; taken = reduced.1 })
 
         go : (r : Result (List Term) PolyFault) → s_polynomial_of rules a ≡ r
             → and_then (halted r) (λ p. and_then (normal_form_of setting.compare rules p setting.budget.steps) (λ s. Ok (record { rows = s_rows_of rules a; reduced = s }))) ≡ Ok f → HoldsFirst (length rules) f
-        go (Err e) made k = absurd (no_error f _ k)
+        go (Err e) made k = absurd (cc)
         go (Ok p) made k = after p made (normal_form_of setting.compare rules p setting.budget.steps) refl k
 
     firsts_hold : (taken : List Ambiguity) (fs : List First) → All (IsAmbiguity rules) taken → each_in_turn first_reduction taken ≡ Ok fs → All (HoldsFirst (length rules)) fs
-    firsts_hold [] fs each same = subst (All (HoldsFirst (length rules))) (same_ok [] fs same) (All-nil (HoldsFirst (length rules)))
-    firsts_hold (a ∷ taken) fs each same = go (first_reduction a) (each_in_turn first_reduction taken) refl refl (λ gs have. firsts_hold taken gs (All-tail (IsAmbiguity rules) a taken each) have) same
-      where
-        go : (r : Result First ReduceFault) (q : Result (List First) ReduceFault) → first_reduction a ≡ r → each_in_turn first_reduction taken ≡ q
-            → ((gs : List First) → each_in_turn first_reduction taken ≡ Ok gs → All (HoldsFirst (length rules)) gs)
-            → and_then r (λ f. and_then q (λ gs. Ok (f ∷ gs))) ≡ Ok fs → All (HoldsFirst (length rules)) fs
-        go (Err e) q one others rest k = absurd (no_error fs e k)
-        go (Ok f) (Err e) one others rest k = absurd (no_error fs e k)
-        go (Ok f) (Ok gs) one others rest k = subst (All (HoldsFirst (length rules))) (same_ok (f ∷ gs) fs k)
-            (All-cons (HoldsFirst (length rules)) f gs (first_holds a f (All-head (IsAmbiguity rules) a taken each) one) (rest gs others))
+    firsts_hold [] fs each same = subst (All (HoldsFirst (length rules))) (same_value [] fs same) (All-nil (HoldsFirst (length rules)))
+    firsts_hold (a ∷ taken) fs each same =
+        let one = went_on (first_reduction a) (λ f. and_then (each_in_turn first_reduction taken) (λ gs. Ok (f ∷ gs))) fs same in
+        let others = went_on (each_in_turn first_reduction taken) (λ gs. Ok (one.value ∷ gs)) fs one.rest in
+        subst (All (HoldsFirst (length rules))) (same_value (one.value ∷ others.value) fs others.rest)
+        (All-cons (HoldsFirst (length rules)) one.value others.value (first_holds a one.value (All-head (IsAmbiguity rules) a taken each) one.given)
+        (firsts_hold taken others.value (All-tail (IsAmbiguity rules) a taken each) others.given))
 
   -- the first of them has this many rules before it
   abbrev pub MadeFrom : ℕ → List Made → Type 0
@@ -192,14 +181,8 @@ module _ (letters : ℕ) (setting : Setting) (IsPoly : List Term → Type 0) (Is
   MadeFrom place (m ∷ made) = IsMade place m × MadeFrom (suc place) made
 
   made_push : (place : ℕ) (made : List Made) (m : Made) → MadeFrom place made → IsMade (place + length made) m → MadeFrom place (made ++ m ∷ [])
-  made_push place [] m each last = (subst (λ n. IsMade n m) (plus_zero place) last, tt)
-    where
-      plus_zero : (n : ℕ) → n + 0 ≡ n
-      plus_zero n = omega arith
-  made_push place (x ∷ made) m each last = (each.0, made_push (suc place) made m each.1 (subst (λ n. IsMade n m) (plus_suc place (length made)) last))
-    where
-      plus_suc : (n k : ℕ) → n + suc k ≡ suc n + k
-      plus_suc n k = omega arith
+  made_push place [] m each last = (subst (λ n. IsMade n m) (omega arith) last, tt)
+  made_push place (x ∷ made) m each last = (each.0, made_push (suc place) made m each.1 (subst (λ n. IsMade n m) (omega arith) last))
 
   -- rules with their records
   pub record Held (r : Recorded) : Type 0 where
@@ -220,19 +203,16 @@ module _ (letters : ℕ) (setting : Setting) (IsPoly : List Term → Type 0) (Is
         rules = All-push (IsRule letters setting.compare) before.rules more.rule held.rules
             (made_is_rule letters setting.compare rest more.rule more.made more.made_from (kept.words rest.polynomial is.polynomial));
         one_each = omega (arith, length-append before.rules (more.rule ∷ []), length-append before.made (more.made ∷ []), held.one_each);
-        made = made_push 0 before.made more.made held.made (subst (λ n. IsMade n more.made) (counted (length before.made) (length before.rules) held.one_each) made);
+        made = made_push 0 before.made more.made held.made (subst (λ n. IsMade n more.made) (omega arith) made);
       })
     where
-      counted : (m n : ℕ) → m ≡ n → n ≡ 0 + m
-      counted m n same = omega arith
-
       made_rows : (negative : Bool) → Holds (length before.rules) rest
           → Rows (length before.rules) (cond negative (negated_rows rest.rows) rest.rows) × (1 ≤ length (cond negative (negated_rows rest.rows) rest.rows))
       made_rows true is = (rows_negated (length before.rules) rest.rows is.rows, omega (arith, length-map rest.rows negated_row, is.some))
       made_rows false is = (is.rows, is.some)
 
   turns_held : (count : ℕ) (works : List Work) (before t : Recorded) → InTurn setting.compare works before (Ok t) → count ≤ length before.rules → Held before → All (KeepsRows count) works → Held t
-  turns_held count [] before t turn least held each = subst Held (sym (same_ok t before turn)) held
+  turns_held count [] before t turn least held each = subst Held (sym (same_value t before turn)) held
   turns_held count (work ∷ works) before t turn least held each = go (work before.rules) refl (λ s next many now. turns_held count works s t next many now (All-tail (KeepsRows count) work works each)) turn
     where
       longer : (rest : Option Rest) (after : Recorded) → Adds setting.compare rest before after → count ≤ length after.rules
@@ -242,7 +222,7 @@ module _ (letters : ℕ) (setting : Setting) (IsPoly : List Term → Type 0) (Is
       go : (r : Result (Option Rest) ReduceFault) → work before.rules ≡ r
           → ((s : Recorded) → InTurn setting.compare works s (Ok t) → count ≤ length s.rules → Held s → Held t)
           → Goes setting.compare r before (λ s. InTurn setting.compare works s (Ok t)) (Ok t) → Held t
-      go (Err e) has rest k = absurd (no_error t e (sym k))
+      go (Err e) has rest k = absurd (cc)
       go (Ok o) has rest k =
           rest k.between k.next (longer o k.between k.added)
           (adds_held o before k.between k.added held (λ r same. All-head (KeepsRows count) work works each before.rules least held.rules r (has ∙ ap Ok same)))
@@ -260,7 +240,7 @@ module _ (letters : ℕ) (setting : Setting) (IsPoly : List Term → Type 0) (Is
   passes_held before t taken each held passes = go (each_in_turn (first_of setting.compare setting.budget.steps before.rules) taken) refl passes
     where
       go : (r : Result (List First) ReduceFault) → each_in_turn (first_of setting.compare setting.budget.steps before.rules) taken ≡ r → InTwoPasses setting.compare setting.budget.steps r before (Ok t) → Held t
-      go (Err e) has k = absurd (no_error t e (sym k))
+      go (Err e) has k = absurd (cc)
       go (Ok fs) has k =
           turns_held (length before.rules) (map (second_work setting.compare setting.budget.steps) fs) before t k (omega arith) held
           (second_works (length before.rules) fs (firsts_hold before.rules held.rules taken fs each has))

@@ -93,9 +93,6 @@ module _ (rules : List Rule) (a : Ambiguity) (is : IsAmbiguity rules a) where
       last : (p : List Term) → coefficient_of (p ++ []) w ≡ coefficient_of p w
       last p = coefficient_of-append p [] w ∙ +ℤ_idr (coefficient_of p w)
 
-  same : (d e : PolyFault) → ◌≡◌ {A = Result (List Term) PolyFault} (Err d) (Err e) → e ≡ d
-  same d e k = cc
-
   no_fault : (p : List Term) (e : PolyFault) → ◌≡◌ {A = Result (List Term) PolyFault} (Ok p) (Err e) → ⊥
   no_fault p e k = cc
 
@@ -111,7 +108,7 @@ module _ (rules : List Rule) (a : Ambiguity) (is : IsAmbiguity rules a) where
           (sum_shaped one.coef (row_words rules one) two.coef (row_words rules two) one_shaped two_shaped none) (record { at = whole_sum }) large.2
       go (Some o) first k =
           let fail = failing (products one.coef (row_words rules one) ++ (products two.coef (row_words rules two) ++ sums (scaled one.coef (row_words rules one)) (scaled two.coef (row_words rules two)))) o first in
-          sum_overflows o (same (fault.Overflow o) e k) fail.fails (sum_operation one.coef (row_words rules one) two.coef (row_words rules two) one_shaped two_shaped o fail.listed)
+          sum_overflows o (cc) fail.fails (sum_operation one.coef (row_words rules one) two.coef (row_words rules two) one_shaped two_shaped o fail.listed)
 
   row_stops : (row : Row) → Contains (s_rows_of rules a) row → (e : PolyFault) → row_multiple rules row ≡ Err e → SPolynomialStops rules a e
   row_stops row listed e ends = let large = too_large (row_words rules row) e ends in multiple_passes large.0 row large.1 listed large.2

@@ -14,12 +14,9 @@ use Rattle.outcome_laws.proofs.Pigeons.{Member, here, member_from_contains, memb
 pub same_or_not : (u v : Word) → (u ≡ v) ⊎ (u ≢ v)
 same_or_not u v = go (word_eq u v) refl
   where
-    clash : true ≡ false → ⊥
-    clash e = cc
-
     go : (b : Bool) → word_eq u v ≡ b → (u ≡ v) ⊎ (u ≢ v)
     go true is = inl (word_eq-true u v is)
-    go false is = inr (λ same. clash (sym (subst (λ w. word_eq u w ≡ true) same (word_eq-same u)) ∙ is))
+    go false is = inr (λ same. (cc (sym (subst (λ w. word_eq u w ≡ true) same (word_eq-same u)) ∙ is)))
 
 -- lists of one length
 length_flat_map : {A B : Type 0} (f : A → List B) (c : ℕ) → ((x : A) → length (f x) ≡ c) → (xs : List A) → length (flat_map f xs) ≡ length xs * c
@@ -54,10 +51,7 @@ module _ (letters : List ℕ) where
   length_words zero = sym (pow-zero (length letters))
   length_words (suc m) =
       length_flat_map (λ a. map (λ w. a ∷ w) (words m)) (length letters ^ m) (λ a. length-map (words m) (λ w. a ∷ w) ∙ length_words m) letters
-      ∙ turned (length letters) (length letters ^ m) ∙ sym (pow-suc (length letters) m)
-    where
-      turned : (a b : ℕ) → a * b ≡ b * a
-      turned a b = omega arith
+      ∙ (omega arith) ∙ sym (pow-suc (length letters) m)
 
   member_words : (w : Word) → AllIn letters w → Member w (words (length w))
   member_words [] h = here []
@@ -74,16 +68,13 @@ module _ (letters : List ℕ) where
   squares m = flat_map (square_of m) (words m)
 
   length_squares : (m : ℕ) → length (squares m) ≡ length letters ^ m * m * m
-  length_squares m = length_flat_map (square_of m) (m * m) length_square (words m) ∙ ap (λ z. z * (m * m)) (length_words m) ∙ regrouped (length letters ^ m) m
+  length_squares m = length_flat_map (square_of m) (m * m) length_square (words m) ∙ ap (λ z. z * (m * m)) (length_words m) ∙ (grind arith)
     where
       length_row : (w : Word) (x : ℕ) → length (row_of m w x) ≡ m
       length_row w x = length-map (below m) (λ y. x ∷ y ∷ w) ∙ length-range_with_len 0 m
 
       length_square : (w : Word) → length (square_of m w) ≡ m * m
       length_square w = length_flat_map (row_of m w) m (length_row w) (below m) ∙ ap (λ z. z * m) (length-range_with_len 0 m)
-
-      regrouped : (a m : ℕ) → a * (m * m) ≡ a * m * m
-      regrouped a m = grind arith
 
   member_squares : (w : Word) (x y : ℕ) → AllIn letters w → x < length w → y < length w → Member (x ∷ y ∷ w) (squares (length w))
   member_squares w x y a hx hy =

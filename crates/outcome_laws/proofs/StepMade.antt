@@ -118,11 +118,8 @@ module _ (compare : Compare) (rules : List Rule) (s : State) (shaped : IsShaped 
   balance w =
       coefficient_of-append (moved move s).rest (poly_multiple move.times (poly_between move.left g.poly.terms move.right)) w
       ∙ ap₂ ◌+ℤ◌ (left_at w) (coefficient_of-multiple move.times (poly_between move.left g.poly.terms move.right) w)
-      ∙ cancelled (coefficient_of s.rest w *ℤ move.by) (move.times *ℤ coefficient_of (poly_between move.left g.poly.terms move.right) w)
+      ∙ (omega (arith, ints))
       ∙ *ℤ_comm (coefficient_of s.rest w) move.by ∙ sym (coefficient_of-multiple move.by s.rest w)
-    where
-      cancelled : (a b : ℤ) → (a +ℤ neg_ℤ b) +ℤ b ≡ a
-      cancelled a b = omega (arith, ints)
 
   module _ (none : first_overflow (move_operations move s) ≡ None) where
     fits : {A : Type 0} (os : List Overflow) (x : A) → first_overflow os ≡ None → checked os x ≡ Ok x

@@ -30,10 +30,7 @@ is_pairs (cause.Rows letters) = false
 is_pairs (cause.Overflow o) = false
 
 not_pairs : (c d : Cause) → is_pairs d ≡ false → c ≡ d → NotPairs c
-not_pairs c d other is spent same = clash (sym other ∙ ap is_pairs (sym is ∙ same))
-  where
-    clash : false ≡ true → ⊥
-    clash e = cc
+not_pairs c d other is spent same = cc (sym other ∙ ap is_pairs (sym is ∙ same))
 
 pub fault_not_pairs : (e : ReduceFault) (c : Cause) → IsCauseOf e c → NotPairs c
 fault_not_pairs (fault.Steps limit) c is = not_pairs c _ refl is

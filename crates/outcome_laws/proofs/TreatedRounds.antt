@@ -1,7 +1,6 @@
 -- What a round that was made whole took.
 use Rattle.std.proofs.Common.{◌≡◌, ◌<◌, ℕ, suc, Bool, true, false, List, [], ◌∷◌, ◌++◌, map, length, take, nat_le, Option, Some, None, Result, Ok, Err, refl, sym, ap, subst, append-nil}
 use Rattle.std.proofs.lemmas.Bool.{leb-false}
-use Rattle.cofactor_trace.specs.declared.halt.Halt.{Halt}
 use Rattle.word_orders.specs.Admissible.{Compare}
 use Rattle.rule_reduce.specs.declared.rule.Rule.{Rule}
 use Rattle.rule_reduce.specs.declared.fault.ReduceFault.{ReduceFault}
@@ -11,7 +10,7 @@ use Rattle.rule_making.specs.Making.{Recorded, Rest}
 use Rattle.traced_completion.specs.Results.{each_in_turn}
 use Rattle.traced_completion.specs.Works.{Work, First, first_of, second_work, Goes, InTurn, InTwoPasses}
 use Rattle.traced_completion.specs.Pending.{AreAllPending, ambiguities_of}
-use Rattle.traced_completion.specs.PlainRun.{Setting, RunState, went, closed, stopped, recorded, taken_count, IsTreated, TreatsFirst, TreatsPending, IsRound}
+use Rattle.traced_completion.specs.PlainRun.{Setting, RunState, went, recorded, taken_count, IsTreated, TreatsFirst, TreatsPending, IsRound}
 use Rattle.outcome_laws.proofs.RunsKept.{no_value, same_value}
 use Rattle.outcome_laws.proofs.LaterRounds.{BeginsWith, begins_with}
 use Rattle.outcome_laws.proofs.WholeRuns.{ended}
@@ -53,15 +52,9 @@ module _ (setting : Setting) (n : ℕ) (s after : RunState) where
   pub took_first : IsRound setting (suc n) s (went after) → TookFirst setting s after
   took_first round = go round.pending round.all_pending round.treats
     where
-      never_closed : went after ≡ closed → ⊥
-      never_closed e = cc
-
-      never_stopped : {h : Halt} → went after ≡ stopped h → ⊥
-      never_stopped e = cc
-
       by_pairs : (w : Waiting) (ws : List Waiting) → AreAllPending setting.compare s.rules s.treated (w ∷ ws) → (b : Bool) → nat_le setting.budget.pairs (length s.treated) ≡ b
           → TreatsFirst setting (suc n) s w.word (w ∷ ws) b (went after) → TookFirst setting s after
-      by_pairs w ws all true spent treats = absurd (never_stopped treats)
+      by_pairs w ws all true spent treats = absurd (cc)
       by_pairs w ws all false left treats =
           let taken = ambiguities_of (take (taken_count setting.budget s (w ∷ ws)) (w ∷ ws)) in
           record {
@@ -74,7 +67,7 @@ module _ (setting : Setting) (n : ℕ) (s after : RunState) where
           }
 
       go : (ws : List Waiting) → AreAllPending setting.compare s.rules s.treated ws → TreatsPending setting (suc n) s ws (went after) → TookFirst setting s after
-      go [] all treats = absurd (never_closed treats)
+      go [] all treats = absurd (cc)
       go (w ∷ ws) all treats = by_pairs w ws all (nat_le setting.budget.pairs (length s.treated)) refl treats
 
 -- round 0 treats none

@@ -2,11 +2,10 @@
 use Rattle.std.proofs.Common.{◌≡◌, inl, inr, ◌≤◌, ℕ, zero, suc, Bool, true, false, List, [], ◌∷◌, ◌++◌, length, map, take, nat_le, Option, Some, None, Result, Ok, Err, Contains, refl, sym, ap, ◌∙◌, subst, arith, append-nil}
 use Rattle.std.specs.List.{All}
 use Rattle.std.proofs.lemmas.Cmp.{tied_itself}
-use Rattle.std.specs.declared.cmp.Ordering.TheVariants.{Less, Equal}
+use Rattle.std.specs.declared.cmp.Ordering.TheVariants.{Less}
 use Rattle.std.proofs.lemmas.List.Elements.{All-nil, All-map, All-take}
 use Rattle.definitions.specs.Quiver.{Quiver}
 use Rattle.word_orders.specs.Admissible.{Compare, IsAdmissible}
-use Rattle.cofactor_trace.specs.declared.halt.Halt.{Halt}
 use Rattle.rule_reduce.specs.declared.rule.Rule.{Rule}
 use Rattle.rule_reduce.specs.declared.fault.ReduceFault.{ReduceFault}
 use Rattle.ambiguities.specs.declared.ambiguity.Ambiguity.{Ambiguity}
@@ -20,15 +19,11 @@ use Rattle.traced_completion.specs.Results.{each_in_turn}
 use Rattle.traced_completion.specs.Works.{generator_work, First, first_of, InTurn, InTwoPasses}
 use Rattle.ambiguities.specs.Order.{IsWaitingBefore}
 use Rattle.traced_completion.specs.Pending.{IsPending, AreAllPending, ambiguities_of}
-use Rattle.traced_completion.specs.PlainRun.{Setting, RunState, went, closed, stopped, start, recorded, Ends, taken_count, IsTreated, TreatsFirst, TreatsPending, IsRound, IsRunState}
+use Rattle.traced_completion.specs.PlainRun.{Setting, RunState, went, closed, start, recorded, Ends, taken_count, IsTreated, TreatsFirst, TreatsPending, IsRound, IsRunState}
 use Rattle.traced_completion.proofs.StoreLemmas.{pending-all}
 use Rattle.outcome_laws.specs.KeptRuns.{IsGenerator, done_after, IsKeptState, RunsAreKept, ClosedIsNothingPending, FirstIsLeastPending}
 use Rattle.outcome_laws.proofs.RunsKept.{no_value, KeptNow, generators_in_turn}
 use Rattle.outcome_laws.proofs.LaterRounds.{ambiguities_in_turn}
-
--- outcomes
-same_state : (s t : RunState) → went s ≡ went t → s ≡ t
-same_state s t e = cc
 
 -- a round that went ended with a state
 pub record IsEnd (treated : List Ambiguity) (result : Result Recorded ReduceFault) (s : RunState) : Type 0 where
@@ -37,11 +32,8 @@ pub record IsEnd (treated : List Ambiguity) (result : Result Recorded ReduceFaul
   pub state : s ≡ record { rules = value.rules; made = value.made; treated = treated }
 
 pub ended : (number : ℕ) (least : Option (List ℕ)) (treated : List Ambiguity) (result : Result Recorded ReduceFault) (s : RunState) → Ends number least treated result (went s) → IsEnd treated result s
-ended number least treated (Ok r) s ends = record { value = r; given = refl; state = same_state s (record { rules = r.rules; made = r.made; treated = treated }) ends }
-ended number least treated (Err e) s given_up = absurd (not_stopped given_up.stops)
-  where
-    not_stopped : {h : Halt} → went s ≡ stopped h → ⊥
-    not_stopped e = cc
+ended number least treated (Ok r) s ends = record { value = r; given = refl; state = (cc) }
+ended number least treated (Err e) s given_up = absurd (cc (given_up.stops))
 
 -- the ambiguities that are taken are ambiguities of the rules
 pub taken_are : (compare : Compare) (rules : List Rule) (treated : List Ambiguity) (pending : List Waiting) (count : ℕ) → AreAllPending compare rules treated pending → All (IsAmbiguity rules) (ambiguities_of (take count pending))
@@ -87,19 +79,13 @@ module _ (q : Quiver) (play : ℕ → Bool) (letters : ℕ) (rank : List ℕ →
   later_round : (n : ℕ) (before s : RunState) (done : List ℕ) → IsKeptAfter done before → IsRound setting (suc n) before (went s) → IsKeptAfter done s
   later_round n before s done now round = go round.pending round.all_pending round.treats
     where
-      not_closed : went s ≡ closed → ⊥
-      not_closed e = cc
-
-      not_stopped : {h : Halt} → went s ≡ stopped h → ⊥
-      not_stopped e = cc
-
       by_pairs : (w : Waiting) (ws : List Waiting) → AreAllPending setting.compare before.rules before.treated (w ∷ ws) → (b : Bool) → TreatsFirst setting (suc n) before w.word (w ∷ ws) b (went s) → IsKeptAfter done s
-      by_pairs w ws pending true treats = absurd (not_stopped treats)
+      by_pairs w ws pending true treats = absurd (cc)
       by_pairs w ws pending false treats =
           treated_round (suc n) before s done w.word (ambiguities_of (take (taken_count setting.budget before (w ∷ ws)) (w ∷ ws))) (taken_are setting.compare before.rules before.treated (w ∷ ws) (taken_count setting.budget before (w ∷ ws)) pending) now treats
 
       go : (ws : List Waiting) → AreAllPending setting.compare before.rules before.treated ws → TreatsPending setting (suc n) before ws (went s) → IsKeptAfter done s
-      go [] pending treats = absurd (not_closed treats)
+      go [] pending treats = absurd (cc)
       go (w ∷ ws) pending treats = by_pairs w ws pending (nat_le setting.budget.pairs (length before.treated)) treats
 
   run : (n : ℕ) (s : RunState) → IsRunState setting n s → IsKeptAfter (done_after setting n) s
@@ -114,26 +100,17 @@ runs_are_kept q play letters rank setting n s laws each in_range is = run q play
 pub closed_is_nothing_pending : ClosedIsNothingPending
 closed_is_nothing_pending setting n s round = go round.pending (λ w is. (round.all_pending.members w).1 is) round.treats
   where
-    not_stopped : {h : Halt} → closed ≡ stopped h → ⊥
-    not_stopped e = cc
-
-    not_went : {t : RunState} → closed ≡ went t → ⊥
-    not_went e = cc
-
     not_ended : (number : ℕ) (least : Option (List ℕ)) (treated : List Ambiguity) (r : Result Recorded ReduceFault) → Ends number least treated r closed → ⊥
-    not_ended number least treated (Ok r) ends = not_went ends
-    not_ended number least treated (Err e) ends = not_stopped ends.stops
+    not_ended number least treated (Ok r) ends = cc
+    not_ended number least treated (Err e) ends = cc (ends.stops)
 
     by_pairs : (w : Waiting) (ws : List Waiting) (b : Bool) → TreatsFirst setting (suc n) s w.word (w ∷ ws) b closed → ⊥
-    by_pairs w ws true treats = not_stopped treats
+    by_pairs w ws true treats = cc
     by_pairs w ws false treats = not_ended (suc n) (Some w.word) (s.treated ++ ambiguities_of (take (taken_count setting.budget s (w ∷ ws)) (w ∷ ws))) treats.result treats.ends
 
     go : (ws : List Waiting) → ((v : Waiting) → IsPending s.rules s.treated v → Contains ws v) → TreatsPending setting (suc n) s ws closed → NothingPending s.rules s.treated
     go (w ∷ ws) pending treats = absurd (by_pairs w ws (nat_le setting.budget.pairs (length s.treated)) treats)
-    go [] pending treats = λ a is untreated. none (pending (record { which = a; word = overlap_word_of s.rules a }) (record { is = is; untreated = untreated; overlap = refl }))
-      where
-        none : {v : Waiting} → Contains [] v → ⊥
-        none at = omega (arith, at.1)
+    go [] pending treats = λ a is untreated. (omega (arith, (pending (record { which = a; word = overlap_word_of s.rules a }) (record { is = is; untreated = untreated; overlap = refl })).1))
 
 pub first_is_least_pending : FirstIsLeastPending
 first_is_least_pending letters compare rank rules treated w ws laws all a is untreated below = go ((all.members waiting).1 (record { is = is; untreated = untreated; overlap = refl }))
@@ -141,16 +118,10 @@ first_is_least_pending letters compare rank rules treated w ws laws all a is unt
     waiting : Waiting
     waiting = record { which = a; word = overlap_word_of rules a }
 
-    not_itself : (u : List ℕ) → compare u u ≡ Less → ⊥
-    not_itself u less = clash (sym (tied_itself laws.total u) ∙ less)
-      where
-        clash : Equal ≡ Less → ⊥
-        clash e = cc
-
     not_above : IsWaitingBefore compare w waiting → ⊥
-    not_above (inl less) = not_itself w.word (laws.total.trans w.word (overlap_word_of rules a) w.word less below.less)
-    not_above (inr (same, later)) = not_itself w.word (subst (λ u. compare u w.word ≡ Less) (sym same) below.less)
+    not_above (inl less) = cc (sym (tied_itself laws.total w.word) ∙ (laws.total.trans w.word (overlap_word_of rules a) w.word less below.less))
+    not_above (inr (same, later)) = cc (sym (tied_itself laws.total w.word) ∙ (subst (λ u. compare u w.word ≡ Less) (sym same) below.less))
 
     go : Contains (w ∷ ws) waiting → ⊥
-    go (zero, inside, here) = not_itself w.word (subst (λ u. compare u w.word ≡ Less) (sym (ap (λ (v : Waiting). v.word) here)) below.less)
+    go (zero, inside, here) = cc (sym (tied_itself laws.total w.word) ∙ (subst (λ u. compare u w.word ≡ Less) (sym (ap (λ (v : Waiting). v.word) here)) below.less))
     go (suc k, inside, here) = not_above (subst (IsWaitingBefore compare w) here (all.ascending 0 (suc k) waiting (omega arith) inside))

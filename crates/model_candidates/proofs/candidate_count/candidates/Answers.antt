@@ -6,4 +6,4 @@ pub count_for-requires-clause-quiver : goal.count_for-requires-clause-quiver
 count_for-requires-clause-quiver c = posed_quiver c.args.problem.now.parts c.args.problem.now.posed
 
 pub count_for-requires-clause-shape : goal.count_for-requires-clause-shape
-count_for-requires-clause-shape c = posed_shape c.args.problem.now _ c.at.result.now c.at.ensures
+count_for-requires-clause-shape c = posed_shape c.args.problem.now _ c.at.ensures

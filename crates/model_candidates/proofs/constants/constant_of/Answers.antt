@@ -32,6 +32,5 @@ returns c =
     let ends = value_ends x c.requires.known.given u v c.requires.source c.requires.target p in
     let all : c.loop-row.row ≡ rows = omega (arith, c.loop-row-test.false, c.loop-row.auto.row-end) in
     let passed = subst (λ n. AreRows m columns (entry_at (value_in x u v p)) n c.loop-row.entries.items) all c.loop-row.invariant in
-    c.new.ensures
-    ∙ rows_of_matrix m rows columns (value_in x u v p) c.loop-row.entries.items ends.arrow (ends.target ∙ sym c.side_at-rows.ensures.value)
+    c.new.ensures ∙ rows_of_matrix ends.arrow (ends.target ∙ sym c.side_at-rows.ensures.value)
     (ends.source ∙ sym c.side_at-columns.ensures.value) passed

@@ -32,14 +32,14 @@ loop-place-preserved-in-Some c =
     let place = c.loop-place.place in
     let t : ℤ × List ℕ = (c.term.result.0, c.term.result.1.now) in
     let path = path_at x c.requires.known.given u v c.requires.source c.requires.target p.terms place t c.term.ensures p.canonical c.requires.typed in
-    let few = few_at known c.requires.known p.terms c.requires.few place t c.term.ensures in
+    let few = few_at known c.requires.known p.terms c.requires.few place c.term.ensures in
     let now = c.loop-place.invariant in
     record {
       size = now.size;
       below = now.below;
       each = λ k inside.
           let within = subst (λ n. k < n) c.side_at-columns.ensures.value inside in
-          let nothing = nothing_there known c.requires.known u v c.requires.source t path c.in-Some.field-0 (sym c.in-Some.ensures) few c.args.row k
+          let nothing = nothing_there known c.requires.known u v c.requires.source t path c.in-Some.field-0 (sym c.in-Some.ensures) few
           c.requires.row within in
           let more = sum_more x c.requires.known.given u v c.requires.source c.requires.target p.terms place t c.term.ensures c.args.row k in
           let same : sum_by (term_entry x u c.args.row k) (take place p.terms) ≡ sum_by (term_entry x u c.args.row k) (take (place + 1) p.terms) =
@@ -54,7 +54,7 @@ word_row-product-requires-clause-leads c =
     let u = c.args.ends.source.0 in
     let v = c.args.ends.target.0 in
     let w = c.term.result.1.now in
-    word_leads x c.requires.known.given u v c.requires.source c.requires.target w c.len.result c.len.ensures.exact
+    word_leads x c.requires.known.given u v c.requires.source c.requires.target w c.len.ensures.exact
     (path_at x c.requires.known.given u v c.requires.source c.requires.target p.terms c.loop-place.place (c.term.result.0, w) c.term.ensures p.canonical
     c.requires.typed)
 
@@ -94,7 +94,7 @@ loop-place-preserved c =
           c.args.coefficients.now c.requires.coefficients in
           let entry_is : get_or product k 0 ≡ entry_at (product_in x u w) i k =
           c.word_row-product.ensures.row k (subst (λ n. k < n) columns_are inside)
-          ∙ ap (λ xs. entry_at (product_in x u xs) i k) (whole_word w c.len.result c.len.ensures.exact) in
+          ∙ ap (λ xs. entry_at (product_in x u xs) i k) (whole_word w c.len.ensures.exact) in
           let term_is : times * get_or product k 0 ≡ term_entry x u i k t = ap₂ ◌*◌ coefficient_is entry_is in
           c.add_multiple.ensures.each k inside
           ∙ add_alike m (get_or c.loop-place.sums k 0) (sum_by (term_entry x u i k) (take place p.terms)) (times * get_or product k 0)
@@ -117,4 +117,4 @@ returns c = λ k inside.
     ∙ ap (λ n. sum_by (term_entry x u i k) (take c.loop-place.place p.terms) % n) c.from-modulus.ensures
     ∙ ap (λ xs. sum_by (term_entry x u i k) xs % m) (take_all c.loop-place.place p.terms all)
     ∙ sym (value_entry x c.requires.known.given u v c.requires.source c.requires.target i k c.requires.row inside p.terms
-    (paths_of x c.requires.known.given u v c.requires.source c.requires.target p.terms p.canonical c.requires.typed))
+    (paths_of x c.requires.known.given u v c.requires.source c.requires.target p.canonical c.requires.typed))

@@ -18,6 +18,35 @@ use Rattle.model_candidates.proofs.Found.{none_weaker, some_weaker}
 use Rattle.model_candidates.proofs.LinearRows.{length-unit_values}
 use Rattle.model_candidates.proofs.PlanSystems.{plan_filled, plan_hold, hold_filled}
 use Rattle.model_candidates.proofs.equations.pivots_of.Goals as goal
+use Rattle.model_candidates.proofs.equations.pivots_of.Goals.{After-as_slice-3}
+
+-- the values, with the zeros that are filled in
+values_are : (c : After-as_slice-3) → c.as_slice-3.result.now
+    ≡ filled c.args.plan.now.solved c.args.drawn.now (unit_values (set_count c.args.plan.now.solved) (set_count c.args.plan.now.solved))
+values_are c = c.as_slice-3.ensures ∙ c.in_ok-values.ensures
+    ∙ ap₂ (λ fs xs. filled fs c.args.drawn.now xs) c.as_slice.ensures
+    (c.as_slice-2.ensures ∙ c.in_ok-zeros.ensures ∙ ap (λ n. unit_values n n) c.requires.plan.unknowns)
+
+-- the equations with these values
+system_same : (c : After-as_slice-3)
+    → system_in c.args.problem.now c.args.shape.now
+    (model_by (quiver_of c.args.problem.now.parts.quiver) c.args.shape.now 0 c.as_slice-3.result.now) c.args.plan.now.unknowns
+    c.args.plan.now.assumptions.equations
+    ≡ system_for c.args.problem.now c.args.shape.now c.args.plan.now.solved c.args.plan.now.assumptions.equations c.args.drawn.now
+system_same c =
+    let problem = c.args.problem.now in
+    let s = c.args.shape.now in
+    let drawn = c.args.drawn.now in
+    let fits = c.requires.plan in
+    let gs = c.args.plan.now.assumptions.equations in
+    let equations_in : List ℕ → List LinearRow = λ xs.
+    flat_map (equations_of problem s (model_by (quiver_of problem.parts.quiver) s 0 xs)) gs in
+    let unknowns_are = fits.unknowns ∙ ap set_count fits.solved in
+    (λ i. record { modulus = s.modulus; unknowns = unknowns_are i; rows = equations_in c.as_slice-3.result.now })
+    ∙ system_is problem s c.requires.shape drawn c.requires.drawn.one_each c.requires.drawn.below gs
+    (recursion_from_All (IsAssumption problem 1) gs fits.assumptions.each)
+    (ap equations_in (values_are c ∙ ap (λ fs. filled fs drawn (unit_values (set_count fs) (set_count fs))) fits.solved))
+    ∙ ap (λ fs. system_for problem s fs gs drawn) (sym fits.solved)
 
 pub filled-requires-clause-one_for_each : goal.filled-requires-clause-one_for_each
 filled-requires-clause-one_for_each c =
@@ -26,87 +55,46 @@ filled-requires-clause-one_for_each c =
 
 pub pivots_at-requires-clause-values : goal.pivots_at-requires-clause-values
 pivots_at-requires-clause-values c =
-    let problem = c.args.problem.now in
-    let s = c.args.shape.now in
-    let plan = c.args.plan.now in
-    let drawn = c.args.drawn.now in
-    let zeros_are = c.as_slice-2.ensures ∙ c.in_ok-zeros.ensures ∙ ap (λ n. unit_values n n) c.requires.plan.unknowns in
-    let values_are : c.as_slice-3.result.now ≡ filled plan.solved drawn (unit_values (set_count plan.solved) (set_count plan.solved)) =
-    c.as_slice-3.ensures ∙ c.in_ok-values.ensures ∙ ap₂ (λ fs xs. filled fs drawn xs) c.as_slice.ensures zeros_are in
-    subst (AreEntryValues problem s) (sym values_are)
-    (plan_filled problem s c.requires.shape plan c.requires.plan drawn c.requires.drawn (set_count plan.solved))
+    subst (AreEntryValues c.args.problem.now c.args.shape.now)
+    (sym (values_are (goal.at.pivots_at-requires-clause-values c).After-as_slice-3))
+    (plan_filled c.args.problem.now c.args.shape.now c.requires.shape c.args.plan.now c.requires.plan c.args.drawn.now c.requires.drawn
+    (set_count c.args.plan.now.solved))
 
 pub returns-clause-none : goal.returns-clause-none
 returns-clause-none c =
+    let before = (goal.at.returns-clause-none c).After-as_slice-3 in
     let problem = c.args.problem.now in
     let s = c.args.shape.now in
     let plan = c.args.plan.now in
-    let drawn = c.args.drawn.now in
-    let fits = c.requires.plan in
-    let gs = plan.assumptions.equations in
-    let zeros_are = c.as_slice-2.ensures ∙ c.in_ok-zeros.ensures ∙ ap (λ n. unit_values n n) fits.unknowns in
-    let values_are = c.as_slice-3.ensures ∙ c.in_ok-values.ensures ∙ ap₂ (λ fs xs. filled fs drawn xs) c.as_slice.ensures zeros_are
-    ∙ ap (λ fs. filled fs drawn (unit_values (set_count fs) (set_count fs))) fits.solved in
-    let equations_in : List ℕ → List LinearRow = λ xs.
-    flat_map (equations_of problem s (model_by (quiver_of problem.parts.quiver) s 0 xs)) gs in
-    let unknowns_are = fits.unknowns ∙ ap set_count fits.solved in
-    let system_same : system_in problem s (model_by (quiver_of problem.parts.quiver) s 0 c.as_slice-3.result.now) plan.unknowns gs
-    ≡ system_for problem s plan.solved gs drawn =
-    (λ i. record { modulus = s.modulus; unknowns = unknowns_are i; rows = equations_in c.as_slice-3.result.now })
-    ∙ system_is problem s c.requires.shape drawn c.requires.drawn.one_each c.requires.drawn.below gs
-    (recursion_from_All (IsAssumption problem 1) gs fits.assumptions.each) (equations_in c.as_slice-3.result.now) (ap equations_in values_are)
-    ∙ ap (λ fs. system_for problem s fs gs drawn) (sym fits.solved) in
     let n = set_count plan.solved in
-    let filled_are : c.as_slice-3.result.now ≡ filled plan.solved drawn (unit_values n n) =
-    values_are ∙ ap (λ fs. filled fs drawn (unit_values (set_count fs) (set_count fs))) (sym fits.solved) in
-    IfOk-weaker c.pivots_at.result _ _ (λ found. none_weaker found _ _ (λ none hold. subst HasNoSolution system_same (none
-    (subst (λ xs. All (IsZeroAtSignature problem (model_by (quiver_of problem.parts.quiver) s 0 xs)) plan.assumptions.conditions) (sym filled_are)
-    (hold_filled problem s c.requires.shape plan c.requires.plan drawn c.requires.drawn (unit_values n n) hold))))) c.pivots_at.ensures.none
+    IfOk-weaker c.pivots_at.result _ _ (λ found. none_weaker found _ _ (λ none hold. subst HasNoSolution (system_same before) (none
+    (subst (λ xs. All (IsZeroAtSignature problem (model_by (quiver_of problem.parts.quiver) s 0 xs)) plan.assumptions.conditions)
+    (sym (values_are before)) (hold_filled problem s c.requires.shape plan c.requires.plan c.args.drawn.now c.requires.drawn
+    (unit_values n n)
+    hold))))) c.pivots_at.ensures.none
 
 pub returns-clause-hold : goal.returns-clause-hold
 returns-clause-hold c =
     let problem = c.args.problem.now in
     let s = c.args.shape.now in
     let plan = c.args.plan.now in
-    let drawn = c.args.drawn.now in
     let n = set_count plan.solved in
-    let zeros_are = c.as_slice-2.ensures ∙ c.in_ok-zeros.ensures ∙ ap (λ k. unit_values k k) c.requires.plan.unknowns in
-    let values_are : c.as_slice-3.result.now ≡ filled plan.solved drawn (unit_values n n) =
-    c.as_slice-3.ensures ∙ c.in_ok-values.ensures ∙ ap₂ (λ fs xs. filled fs drawn xs) c.as_slice.ensures zeros_are in
+    let same = values_are (goal.at.returns-clause-hold c).After-as_slice-3 in
     IfOk-weaker c.pivots_at.result _ _ (λ found. some_weaker found _ _ (λ _ hold.
-    plan_hold problem s c.requires.shape plan c.requires.plan drawn c.requires.drawn (unit_values n n)
-    (subst (λ xs. All (IsZeroAtSignature problem (model_by (quiver_of problem.parts.quiver) s 0 xs)) plan.assumptions.conditions) values_are hold)))
+    plan_hold problem s c.requires.shape plan c.requires.plan c.args.drawn.now c.requires.drawn (unit_values n n)
+    (subst (λ xs. All (IsZeroAtSignature problem (model_by (quiver_of problem.parts.quiver) s 0 xs))
+    plan.assumptions.conditions) same hold)))
     c.pivots_at.ensures.hold
 
 pub returns-clause-pivots : goal.returns-clause-pivots
 returns-clause-pivots c =
-    let problem = c.args.problem.now in
-    let s = c.args.shape.now in
-    let plan = c.args.plan.now in
-    let drawn = c.args.drawn.now in
-    let fits = c.requires.plan in
-    let gs = plan.assumptions.equations in
-    let zeros_are = c.as_slice-2.ensures ∙ c.in_ok-zeros.ensures ∙ ap (λ n. unit_values n n) fits.unknowns in
-    let values_are = c.as_slice-3.ensures ∙ c.in_ok-values.ensures ∙ ap₂ (λ fs xs. filled fs drawn xs) c.as_slice.ensures zeros_are
-    ∙ ap (λ fs. filled fs drawn (unit_values (set_count fs) (set_count fs))) fits.solved in
-    let equations_in : List ℕ → List LinearRow = λ xs.
-    flat_map (equations_of problem s (model_by (quiver_of problem.parts.quiver) s 0 xs)) gs in
-    let unknowns_are = fits.unknowns ∙ ap set_count fits.solved in
-    let system_same : system_in problem s (model_by (quiver_of problem.parts.quiver) s 0 c.as_slice-3.result.now) plan.unknowns gs
-    ≡ system_for problem s plan.solved gs drawn =
-    (λ i. record { modulus = s.modulus; unknowns = unknowns_are i; rows = equations_in c.as_slice-3.result.now })
-    ∙ system_is problem s c.requires.shape drawn c.requires.drawn.one_each c.requires.drawn.below gs
-    (recursion_from_All (IsAssumption problem 1) gs fits.assumptions.each) (equations_in c.as_slice-3.result.now) (ap equations_in values_are)
-    ∙ ap (λ fs. system_for problem s fs gs drawn) (sym fits.solved) in
-    IfOk-weaker c.pivots_at.result _ _ (λ found. some_weaker found _ _ (λ pivots. subst (StandFor pivots) system_same)) c.pivots_at.ensures.pivots
+    let same = system_same (goal.at.returns-clause-pivots c).After-as_slice-3 in
+    IfOk-weaker c.pivots_at.result _ _ (λ found. some_weaker found _ _ (λ pivots. subst (StandFor pivots) same)) c.pivots_at.ensures.pivots
 
 pub pivots_at-requires-clause-zeros : goal.pivots_at-requires-clause-zeros
 pivots_at-requires-clause-zeros c =
     let plan = c.args.plan.now in
-    let drawn = c.args.drawn.now in
-    let zeros_are = c.as_slice-2.ensures ∙ c.in_ok-zeros.ensures ∙ ap (λ n. unit_values n n) c.requires.plan.unknowns in
-    let values_are : c.as_slice-3.result.now ≡ filled plan.solved drawn (unit_values (set_count plan.solved) (set_count plan.solved)) =
-    c.as_slice-3.ensures ∙ c.in_ok-values.ensures ∙ ap₂ (λ fs xs. filled fs drawn xs) c.as_slice.ensures zeros_are in
+    let n = set_count plan.solved in
     subst (λ fs. AreZeros fs c.as_slice-3.result.now) c.requires.plan.solved
-    (subst (AreZeros plan.solved) (sym values_are)
-    (filled_again plan.solved drawn (unit_values (set_count plan.solved) (set_count plan.solved))))
+    (subst (AreZeros plan.solved) (sym (values_are (goal.at.pivots_at-requires-clause-zeros c).After-as_slice-3))
+    (filled_again plan.solved c.args.drawn.now (unit_values n n)))

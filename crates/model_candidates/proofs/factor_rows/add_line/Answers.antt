@@ -48,7 +48,7 @@ loop-other-preserved-then-behind-eq0 c =
       each = λ k inside.
           now.each k inside
           ∙ ap (λ x. (get_or c.args.factors.now k 0 + t.coefficient * x) % c.args.modulus)
-          (place_skipped t c.args.row c.args.column c.args.inner other k none in_width);
+          (place_skipped t c.args.row c.args.column c.args.inner k none in_width);
     }
 
 pub loop-other-preserved : goal.loop-other-preserved

@@ -23,7 +23,7 @@ loop-term-preserved c =
     subst (AreSums m n (take (index + 1) ts) c.args.row c.args.column) (sym list_is) record {
       size = size ∙ now.size;
       below = c.add_products.ensures.below;
-      each = λ k inside. term_added m c.args.row c.args.column k (get_or old k 0) (get_or new k 0) index ts t c.loop-term-test.true
+      each = λ k inside. term_added m c.args.row c.args.column k (get_or old k 0) (get_or new k 0) ts c.loop-term-test.true
           c.term-item.is (each k inside) (now.each k inside);
     }
 
@@ -33,5 +33,5 @@ returns c =
     let ts = c.args.terms.now in
     let f : ℕ → ℕ = terms_factor ts c.args.row c.args.column in
     let all : take c.loop-term.term-index ts ≡ ts = take_all c.loop-term.term-index ts c.loop-term-test.false in
-    residues c.args.modulus c.args.count f c.loop-term.sums.items now.size now.below (λ k inside.
+    residues f now.size now.below (λ k inside.
     now.each k inside ∙ ap (λ xs. terms_factor xs c.args.row c.args.column k % c.args.modulus) all)

@@ -10,7 +10,7 @@ returns-then-selfmade c = λ a.
     let column = c.args.column in
     let kept : nat_le row column ≡ true = subst (λ b. is_kept b row column ≡ true) c.if-selfmade.true c.requires.kept in
     let le : row ≤ column = leb-true row column kept in
-    place_behind a c.args.columns row column (omega (arith, le, c.requires.column_in_range)) le ∙ ap (λ b. place_within a b c.args.columns row column) (sym c.if-selfmade.true)
+    place_behind a c.args.columns (omega (arith, le, c.requires.column_in_range)) le ∙ ap (λ b. place_within a b c.args.columns row column) (sym c.if-selfmade.true)
 
 pub returns-else-selfmade : goal.returns-else-selfmade
 returns-else-selfmade c = λ a.

@@ -10,7 +10,7 @@ returns-then-column-row c =
     let q = quiver_of c.args.quiver.now in
     let a = c.args.letter.0 in
     let self_is : c.eq-selfmade.result ≡ is_self q a = c.eq-selfmade.ensures ∙ ap (λ n. nat_eq n a) c.star_of.ensures.star in
-    c.value_kept.ensures ∙ ap (value_of_entry q c.args.shape.now c.args.values.all.now) (sym (shown_mirrored q a c.args.row c.args.column (sym self_is ∙ c.if-selfmade.true) c.if-column-row.true))
+    c.value_kept.ensures ∙ ap (value_of_entry q c.args.shape.now c.args.values.all.now) (sym (shown_mirrored q a (sym self_is ∙ c.if-selfmade.true) c.if-column-row.true))
 
 pub returns-else-selfmade : goal.returns-else-selfmade
 returns-else-selfmade c =

@@ -25,7 +25,7 @@ letter_values-requires-clause-declared c =
     let a = c.loop-number.number in
     let letter : a < letters q = omega (arith, c.loop-number-test.true, c.letters-number-end.ensures.count, letters-quiver_of problem.parts.quiver) in
     let is : is_solved q problem.parts.solved a ≡ true = search rules in
-    declared_behind q quiver a letter (has_solved_map q quiver a letter problem.parts.solved (solved_declared problem) is).map
+    declared_behind quiver letter (has_solved_map q quiver a letter problem.parts.solved (solved_declared problem) is).map
 
 pub letter_values-requires-clause-quiver : goal.letter_values-requires-clause-quiver
 letter_values-requires-clause-quiver c = posed_quiver c.args.problem.now.parts c.args.problem.now.posed

@@ -20,13 +20,13 @@ pub model_with-requires-clause-quiver : goal.model_with-requires-clause-quiver
 model_with-requires-clause-quiver c = posed_quiver c.args.problem.now.parts c.args.problem.now.posed
 
 pub model_with-requires-clause-shape : goal.model_with-requires-clause-shape
-model_with-requires-clause-shape c = posed_shape c.args.problem.now _ c.at-shape.result.now c.at-shape.ensures
+model_with-requires-clause-shape c = posed_shape c.args.problem.now _ c.at-shape.ensures
 
 pub model_with-requires-clause-one_each : goal.model_with-requires-clause-one_each
 model_with-requires-clause-one_each c =
     let problem = c.args.problem.now in
     let s = c.at-shape.result.now in
-    let numbered = shape_numbered problem c.args.plan.now.number s c.requires.plan.least c.at-shape.ensures in
+    let numbered = shape_numbered problem c.requires.plan.least c.at-shape.ensures in
     (subst (AreEntryValues problem s) (sym c.as_slice.ensures)
     (subst (λ found. IfSome found (AreEntryValues problem s)) c.in-Some.is (c.in_ok-values.ensures.values s numbered))).one_each
 
@@ -34,7 +34,7 @@ pub model_with-requires-clause-below : goal.model_with-requires-clause-below
 model_with-requires-clause-below c =
     let problem = c.args.problem.now in
     let s = c.at-shape.result.now in
-    let numbered = shape_numbered problem c.args.plan.now.number s c.requires.plan.least c.at-shape.ensures in
+    let numbered = shape_numbered problem c.requires.plan.least c.at-shape.ensures in
     (subst (AreEntryValues problem s) (sym c.as_slice.ensures)
     (subst (λ found. IfSome found (AreEntryValues problem s)) c.in-Some.is (c.in_ok-values.ensures.values s numbered))).below
 
@@ -44,7 +44,7 @@ returns c =
     let q = quiver_of problem.parts.quiver in
     let number = c.args.plan.now.number in
     let s = c.at-shape.result.now in
-    let numbered = shape_numbered problem number s c.requires.plan.least c.at-shape.ensures in
+    let numbered = shape_numbered problem c.requires.plan.least c.at-shape.ensures in
     let made : c.in_ok-model_with.field-0 ≡ model_by q s 0 c.in-Some.values =
     c.in_ok-model_with.ensures ∙ ap (model_by q s 0) c.as_slice.ensures in
     let is = subst (λ found. IsCandidate problem number s c.args.seed c.args.k (option_map (model_by q s 0) found)) c.in-Some.is
@@ -52,6 +52,5 @@ returns c =
     record {
       candidate = λ t other.
           subst (λ x. IsCandidate problem number x c.args.seed c.args.k (Some c.in_ok-model_with.field-0))
-          (one_shape problem number s t c.at-shape.ensures other)
-          (subst (λ m. IsCandidate problem number s c.args.seed c.args.k (Some m)) (sym made) is);
+          (one_shape c.at-shape.ensures other) (subst (λ m. IsCandidate problem number s c.args.seed c.args.k (Some m)) (sym made) is);
     }

@@ -19,15 +19,13 @@ use Rattle.model_candidates.proofs.plan.assumptions_asked.Goals.{then-is_asked+i
 pub is_asked-requires-clause-quiver : goal.is_asked-requires-clause-quiver
 is_asked-requires-clause-quiver c = posed_quiver c.args.problem.now.parts c.args.problem.now.posed
 
-letters_of : (problem : Problem) (k : ℕ) (p : Poly) → slice_get problem.parts.assumptions k ≡ Some p
+letters_of : (problem : Problem) (k : ℕ) {p : Poly} → slice_get problem.parts.assumptions k ≡ Some p
     → All (λ t. All (λ letter. letter < letter_count problem.parts.quiver) t.1) p.terms
-letters_of problem k p here =
-    subst (λ n. All (λ t. All (λ letter. letter < n) t.1) p.terms) (letters-quiver_of problem.parts.quiver)
-    (letters_within (quiver_of problem.parts.quiver) p (signed_at problem k p here))
+letters_of problem k {p} here = subst (λ n. All (λ t. All (λ letter. letter < n) t.1) p.terms) (letters-quiver_of problem.parts.quiver)
+    (letters_within p (signed_at problem k here))
 
 pub is_asked-requires-clause-letters : goal.is_asked-requires-clause-letters
-is_asked-requires-clause-letters c =
-    letters_of c.args.problem.now c.loop-place.place c.assumption-item.result
+is_asked-requires-clause-letters c = letters_of c.args.problem.now c.loop-place.place
     (item_at c.as_slice-assumption-items.result.now c.args.problem.now.parts.assumptions c.loop-place.place c.assumption-item.result
     c.as_slice-assumption-items.ensures c.loop-place-test.true c.assumption-item.is)
 
@@ -54,12 +52,10 @@ loop-place-preserved c =
           let pushed : c.if-is_asked.found ≡ c.loop-place.found ++ g ∷ [] = search rules in
           record {
             each = all_push (IsAssumption problem (cond c.args.known 0 1)) c.loop-place.found c.if-is_asked.found g c.loop-place.invariant.each
-                (is_assumption problem c.args.known k p sig here w.at-sig.ensures asked) pushed;
-            all = λ m zero.
-                kept_more (IsZeroIn problem m) keep problem.parts.assumptions k p here
+                (is_assumption problem c.args.known k here w.at-sig.ensures asked) pushed;
+            all = λ m zero. kept_more (IsZeroIn problem m) keep problem.parts.assumptions k here
                 (c.loop-place.invariant.all m (all_front (IsZeroAtSignature problem m) c.if-is_asked.found c.loop-place.found g
-                pushed zero))
-                (λ again. zero_everywhere problem m k p sig here w.at-sig.ensures
+                pushed zero)) (λ again. zero_everywhere problem m k here w.at-sig.ensures
                 (last_in (IsZeroAtSignature problem m) c.if-is_asked.found c.loop-place.found g pushed zero));
           }
       | else-is_asked w ↦
@@ -67,7 +63,7 @@ loop-place-preserved c =
           let other : keep p ≡ false = search rules in
           record {
             each = subst (All (IsAssumption problem (cond c.args.known 0 1))) (sym kept) c.loop-place.invariant.each;
-            all = λ m zero. kept_more (IsZeroIn problem m) keep problem.parts.assumptions k p here
+            all = λ m zero. kept_more (IsZeroIn problem m) keep problem.parts.assumptions k here
                 (c.loop-place.invariant.all m (subst (All (IsZeroAtSignature problem m)) kept zero))
                 (λ asked. absurd (true≢false (sym asked ∙ other)));
           }

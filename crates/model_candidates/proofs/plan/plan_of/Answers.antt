@@ -12,19 +12,19 @@ pub entry_count-entries-requires-clause-quiver : goal.entry_count-entries-requir
 entry_count-entries-requires-clause-quiver c = posed_quiver c.args.problem.now.parts c.args.problem.now.posed
 
 pub entry_count-entries-requires-clause-shape : goal.entry_count-entries-requires-clause-shape
-entry_count-entries-requires-clause-shape c = posed_shape c.args.problem.now _ c.at-form.result.now c.at-form.ensures
+entry_count-entries-requires-clause-shape c = posed_shape c.args.problem.now _ c.at-form.ensures
 
 pub solved_flags-requires-clause-quiver : goal.solved_flags-requires-clause-quiver
 solved_flags-requires-clause-quiver c = posed_quiver c.args.problem.now.parts c.args.problem.now.posed
 
 pub solved_flags-requires-clause-shape : goal.solved_flags-requires-clause-shape
-solved_flags-requires-clause-shape c = posed_shape c.args.problem.now _ c.at-form.result.now c.at-form.ensures
+solved_flags-requires-clause-shape c = posed_shape c.args.problem.now _ c.at-form.ensures
 
 pub numbers_of_letters-requires-clause-shape : goal.numbers_of_letters-requires-clause-shape
-numbers_of_letters-requires-clause-shape c = posed_shape c.args.problem.now _ c.at-form.result.now c.at-form.ensures
+numbers_of_letters-requires-clause-shape c = posed_shape c.args.problem.now _ c.at-form.ensures
 
 pub tables_of-requires : goal.tables_of-requires
-tables_of-requires c = posed_shape c.args.problem.now _ c.at-form.result.now c.at-form.ensures
+tables_of-requires c = posed_shape c.args.problem.now _ c.at-form.ensures
 
 pub returns-clause-plan : goal.returns-clause-plan
 returns-clause-plan c =
@@ -44,7 +44,7 @@ returns-clause-plan c =
     record {
       least = c.requires.least;
       most = c.requires.most;
-      fits = λ s numbered. subst (λ t. FitsShape problem t plan) (one_shape problem c.args.shape form s c.at-form.ensures numbered) record {
+      fits = λ s numbered. subst (λ t. FitsShape problem t plan) (one_shape c.at-form.ensures numbered) record {
         entries = c.entry_count-entries.ensures.count;
         exhaustive = c.is_exhaustive.ensures ∙ ap (λ n. nat_le (form.modulus ^ n) exhaustive_limit) c.entry_count-entries.ensures.count;
         solved = c.in_ok-solved.ensures ∙ ap (solved_flags q form) c.as_slice.ensures;

@@ -35,9 +35,9 @@ returns-in-Some c =
     let letter_is : c.letter.result.0 ≡ get_or w place 0 = search rules in
     let below : get_or w place 0 < letters q =
     subst (λ n. get_or w place 0 < n) (sym (letters-quiver_of parts.quiver)) (All-get_or (λ a. a < letter_count parts.quiver) w place 0 inside c.requires.over) in
-    let here = solved_where_numbered q k.given.shape.now parts.solved k.numbers.now (get_or w place 0) c.from.result c.index-known-from.result
-    c.requires.known.numbers (c.from.ensures ∙ letter_is) below _ c.in-Some.is in
-    sym (first_place (is_solved q parts.solved) w place inside c.loop-place.invariant here)
+    let here = solved_where_numbered q k.given.shape.now parts.solved c.index-known-from.result
+    c.requires.known.numbers (c.from.ensures ∙ letter_is) below c.in-Some.is in
+    sym (first_place (is_solved q parts.solved) w inside c.loop-place.invariant here)
 
 pub loop-place-preserved : goal.loop-place-preserved
 loop-place-preserved c = λ k below. go k below (cases_lt k c.loop-place.place)
@@ -57,7 +57,7 @@ loop-place-preserved c = λ k below. go k below (cases_lt k c.loop-place.place)
         subst (λ n. get_or w c.loop-place.place 0 < n) (sym (letters-quiver_of parts.quiver))
         (All-get_or (λ a. a < letter_count parts.quiver) w c.loop-place.place 0 inside c.requires.over) in
         let none : get_or known.numbers.now c.from.result c.index-known-from.result ≡ None = search rules in
-        let here = unsolved_where_none q known.given.shape.now parts.solved known.numbers.now (get_or w c.loop-place.place 0) c.from.result
+        let here = unsolved_where_none q known.given.shape.now parts.solved
         c.index-known-from.result c.requires.known.numbers (c.from.ensures ∙ letter_is) within none in
         subst (λ n. is_solved q parts.solved (get_or w n 0) ≡ false) same here
 

@@ -25,7 +25,7 @@ at-requires c =
     let problem = c.args.problem.now in
     let plan = c.args.plan.now in
     let s = c.at-shape.result.now in
-    let fits = c.requires.plan.fits s (shape_numbered problem plan.number s c.requires.plan.least c.at-shape.ensures) in
+    let fits = c.requires.plan.fits s (shape_numbered problem c.requires.plan.least c.at-shape.ensures) in
     let long = ap length fits.tables.assumptions ∙ length-map problem.parts.assumptions (λ p. residues s.modulus p.terms) in
     omega (arith, long, c.loop-place-test.true, c.len-place-end.ensures)
 
@@ -34,9 +34,9 @@ is_zero-requires-clause-given c =
     let problem = c.args.problem.now in
     let plan = c.args.plan.now in
     let s = c.at-shape.result.now in
-    let numbered = shape_numbered problem plan.number s c.requires.plan.least c.at-shape.ensures in
+    let numbered = shape_numbered problem c.requires.plan.least c.at-shape.ensures in
     record {
-      shape = posed_shape problem _ s c.at-shape.ensures;
+      shape = posed_shape problem _ c.at-shape.ensures;
       tables = c.as_slice-tables.ensures ∙ (c.requires.plan.fits s numbered).tables.letters;
       values = c.requires.values s numbered;
     }
@@ -62,9 +62,8 @@ is_zero-requires-clause-coefficients c =
     let problem = c.args.problem.now in
     let plan = c.args.plan.now in
     let s = c.at-shape.result.now in
-    let fits = c.requires.plan.fits s (shape_numbered problem plan.number s c.requires.plan.least c.at-shape.ensures) in
-    c.as_slice-coefficients.ensures
-    ∙ residues_at s.modulus problem.parts.assumptions plan.tables.assumptions c.loop-place.place c.at-assumption.result.now c.at.result.now
+    let fits = c.requires.plan.fits s (shape_numbered problem c.requires.plan.least c.at-shape.ensures) in
+    c.as_slice-coefficients.ensures ∙ residues_at s.modulus problem.parts.assumptions c.loop-place.place
     fits.tables.assumptions c.at-assumption.ensures c.at.ensures
 
 pub loop-place-init : goal.loop-place-init
@@ -80,9 +79,9 @@ loop-place-preserved-then-is_passed c =
     let p = c.at-assumption.result.now in
     let m = model_by q s 0 c.args.values.now in
     let both = and_parts c.args.known (has_few q parts.solved 1 p.terms) (sym c.is_passed.ensures ∙ c.if-is_passed.true) in
-    let linear = c.requires.linear s (shape_numbered problem c.args.plan.now.number s c.requires.plan.least c.at-shape.ensures) both.0 in
+    let linear = c.requires.linear s (shape_numbered problem c.requires.plan.least c.at-shape.ensures) both.0 in
     one_more (IsZeroIn problem m) parts.assumptions c.loop-place.place p c.at-assumption.ensures c.loop-place.invariant
-    (zero_linear problem m parts.assumptions (has_few q parts.solved 1) c.loop-place.place p c.at-assumption.ensures both.1 linear)
+    (zero_linear problem m parts.assumptions (has_few q parts.solved 1) c.loop-place.place c.at-assumption.ensures both.1 linear)
 
 pub returns-then-not-is_zero : goal.returns-then-not-is_zero
 returns-then-not-is_zero c = λ t numbered. (
@@ -99,9 +98,9 @@ returns-then-not-is_zero c = λ t numbered. (
       c.at-assumption.ensures c.at-sig.ensures in
       let ends = all_at (HasObjects parts.quiver) parts.sigs c.loop-place.place sig problem.posed.assumption_ends c.at-sig.ensures in
       let here = subst (λ x. AllByRecursion (IsZeroIn problem (model_by q x 0 c.args.values.now)) (assumptions_of problem))
-      (sym (one_shape problem c.args.plan.now.number s t c.at-shape.ensures numbered)) all in
-      absurd (true≢false (sym (c.is_zero.ensures.1 ((zero_tells problem m p sig typed ends).1
-      (zero_at problem m parts.assumptions c.loop-place.place p here c.at-assumption.ensures))) ∙ c.if-not-is_zero.true)),
+      (sym (one_shape c.at-shape.ensures numbered)) all in
+      absurd (true≢false (sym (c.is_zero.ensures.1 ((zero_tells problem m p typed ends).1
+      (zero_at problem m parts.assumptions c.loop-place.place here c.at-assumption.ensures))) ∙ c.if-not-is_zero.true)),
 )
 
 pub loop-place-preserved : goal.loop-place-preserved
@@ -116,7 +115,7 @@ loop-place-preserved c =
     c.at-assumption.ensures c.at-sig.ensures in
     let ends = all_at (HasObjects parts.quiver) parts.sigs c.loop-place.place sig problem.posed.assumption_ends c.at-sig.ensures in
     one_more (IsZeroIn problem m) parts.assumptions c.loop-place.place p c.at-assumption.ensures c.loop-place.invariant
-    ((zero_tells problem m p sig typed ends).0 (c.is_zero.ensures.0 c.if-not-is_zero.false))
+    ((zero_tells problem m p typed ends).0 (c.is_zero.ensures.0 c.if-not-is_zero.false))
 
 pub returns : goal.returns
 returns c = λ t numbered. (
@@ -128,7 +127,7 @@ returns c = λ t numbered. (
       let count = length-map ps (λ p. p.terms) in
       let all : length (assumptions_of problem) ≤ c.loop-place.place = omega (arith, count, c.loop-place-test.false, c.len-place-end.ensures) in
       subst (λ x. AllByRecursion (IsZeroIn problem (model_by q x 0 c.args.values.now)) (assumptions_of problem))
-      (one_shape problem c.args.plan.now.number s t c.at-shape.ensures numbered)
+      (one_shape c.at-shape.ensures numbered)
       (subst (AllByRecursion (IsZeroIn problem (model_by q s 0 c.args.values.now))) (take_all c.loop-place.place (assumptions_of problem) all)
       c.loop-place.invariant),
   λ zero. refl,

@@ -22,7 +22,7 @@ at-requires c =
     let problem = c.args.problem.now in
     let plan = c.args.plan.now in
     let s = c.at-shape.result.now in
-    let fits = c.requires.plan.fits s (shape_numbered problem plan.number s c.requires.plan.least c.at-shape.ensures) in
+    let fits = c.requires.plan.fits s (shape_numbered problem c.requires.plan.least c.at-shape.ensures) in
     let long = ap length fits.tables.claims ∙ length-map problem.parts.claims (λ p. residues s.modulus p.terms) in
     omega (arith, long, c.requires.claim.least, c.requires.claim.most)
 
@@ -31,9 +31,9 @@ is_zero-requires-clause-given c =
     let problem = c.args.problem.now in
     let plan = c.args.plan.now in
     let s = c.at-shape.result.now in
-    let numbered = shape_numbered problem plan.number s c.requires.plan.least c.at-shape.ensures in
+    let numbered = shape_numbered problem c.requires.plan.least c.at-shape.ensures in
     record {
-      shape = posed_shape problem _ s c.at-shape.ensures;
+      shape = posed_shape problem _ c.at-shape.ensures;
       tables = c.as_slice-tables.ensures ∙ (c.requires.plan.fits s numbered).tables.letters;
       values = c.requires.values s numbered;
     }
@@ -59,9 +59,8 @@ is_zero-requires-clause-coefficients c =
     let problem = c.args.problem.now in
     let plan = c.args.plan.now in
     let s = c.at-shape.result.now in
-    let fits = c.requires.plan.fits s (shape_numbered problem plan.number s c.requires.plan.least c.at-shape.ensures) in
-    c.as_slice-coefficients.ensures
-    ∙ residues_at s.modulus problem.parts.claims plan.tables.claims (c.args.claim - 1) c.at-poly.result.now c.at.result.now fits.tables.claims
+    let fits = c.requires.plan.fits s (shape_numbered problem c.requires.plan.least c.at-shape.ensures) in
+    c.as_slice-coefficients.ensures ∙ residues_at s.modulus problem.parts.claims (c.args.claim - 1) fits.tables.claims
     c.at-poly.ensures c.at.ensures
 
 pub returns : goal.returns
@@ -76,9 +75,9 @@ returns c = λ t numbered.
     let typed = zip_at (IsTypedOf parts.quiver) parts.claims parts.claim_sigs (c.args.claim - 1) p sig problem.posed.claims_typed c.at-poly.ensures
     c.at-sig.ensures in
     let ends = all_at (HasObjects parts.quiver) parts.claim_sigs (c.args.claim - 1) sig problem.posed.claim_ends c.at-sig.ensures in
-    let tells = zero_tells problem m p sig typed ends in
+    let tells = zero_tells problem m p typed ends in
     let is = generator_at-number parts.claims c.args.claim p c.requires.claim.least c.at-poly.ensures in
-    let same = one_shape problem c.args.plan.now.number s t c.at-shape.ensures numbered in (
+    let same = one_shape c.at-shape.ensures numbered in (
       λ true. subst (λ x. IsZeroIn problem (model_by q x 0 c.args.values.now) (claim_polynomial problem c.args.claim)) same
           (subst (IsZeroIn problem m) (sym is) (tells.0 (c.is_zero.ensures.0 true))),
       λ zero. c.is_zero.ensures.1 (tells.1 (subst (IsZeroIn problem m) is

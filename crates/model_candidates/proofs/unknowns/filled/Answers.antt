@@ -7,20 +7,19 @@ use Rattle.model_candidates.proofs.unknowns.filled.Goals as goal
 use Rattle.model_candidates.proofs.unknowns.filled.Goals.{then-solved-place, else-solved-place}
 
 -- the next value is there
-next_within : (flags : List Bool) (place next count : ℕ) → count ≡ set_count flags → next ≡ before flags place → place < length flags → get_or flags place false ≡ true → next < count
-next_within flags place next count one_each is inside set = omega (arith, before_within flags place inside set, one_each, is)
+next_within : (flags : List Bool) {place next count : ℕ} → count ≡ set_count flags → next ≡ before flags place → place < length flags → get_or flags place false ≡ true → next < count
+next_within flags {place} one_each is inside set = omega (arith, before_within flags place inside set, one_each, is)
 
 pub offset_bounds-values-next : goal.offset_bounds-values-next
 offset_bounds-values-next c =
-    search (rules, next_within c.args.solved.now c.loop-place.place c.loop-place.next (length c.args.values.now) c.requires.one_for_each c.loop-place.invariant.1 c.loop-place-test.true (search rules))
+    search (rules, next_within c.args.solved.now c.requires.one_for_each c.loop-place.invariant.1 c.loop-place-test.true (search rules))
 
 pub bounds-values-next : goal.bounds-values-next
-bounds-values-next c =
-    next_within c.args.solved.now c.loop-place.place c.loop-place.next (length c.args.values.now) c.requires.one_for_each c.loop-place.invariant.1 c.loop-place-test.true (search rules)
+bounds-values-next c = next_within c.args.solved.now c.requires.one_for_each c.loop-place.invariant.1 c.loop-place-test.true (search rules)
 
 pub overflow_add-next : goal.overflow_add-next
 overflow_add-next c =
-    search (rules, next_within c.args.solved.now c.loop-place.place c.loop-place.next (length c.args.values.now) c.requires.one_for_each c.loop-place.invariant.1 c.loop-place-test.true (search rules))
+    search (rules, next_within c.args.solved.now c.requires.one_for_each c.loop-place.invariant.1 c.loop-place-test.true (search rules))
 
 pub loop-place-preserved : goal.loop-place-preserved
 loop-place-preserved c =
@@ -45,7 +44,7 @@ loop-place-preserved c =
           let next : c.if-solved-place.next ≡ c.loop-place.next + 1 = search rules in (
             pushed ∙ ap (λ xs. xs ++ c.if-solved-place.value ∷ []) c.loop-place.invariant.0
                 ∙ ap (λ x. take place all ++ x ∷ []) (taken ∙ value) ∙ sym (take_more all place 0 inside),
-            omega (arith, next, c.loop-place.invariant.1, before_more flags place true c.loop-place-test.true set),
+            omega (arith, next, c.loop-place.invariant.1, before_more flags true c.loop-place-test.true set),
           )
       | else-solved-place w ↦
           let unset : get_or flags place false ≡ false = search rules in
@@ -54,7 +53,7 @@ loop-place-preserved c =
           let next : c.if-solved-place.next ≡ c.loop-place.next = search rules in (
             pushed ∙ ap (λ xs. xs ++ c.if-solved-place.value ∷ []) c.loop-place.invariant.0 ∙ ap (λ x. take place all ++ x ∷ []) (taken ∙ value)
                 ∙ sym (take_more all place 0 inside),
-            omega (arith, next, c.loop-place.invariant.1, before_more flags place false c.loop-place-test.true unset),
+            omega (arith, next, c.loop-place.invariant.1, before_more flags false c.loop-place-test.true unset),
           )
     ]
 

@@ -21,7 +21,7 @@ loop-place-preserved c =
             before_within
                 flags place c.loop-place-test.true set,
           ) in
-          let more : before flags place + 1 ≡ before flags (place + 1) = sym (before_more flags place true c.loop-place-test.true set) in
+          let more : before flags place + 1 ≡ before flags (place + 1) = sym (before_more flags true c.loop-place-test.true set) in
           pushed
           ∙ ap (λ xs. xs ++ get_or values place 0 ∷ []) c.loop-place.invariant
           ∙ ap (λ x. take (before flags place) chosen ++ x ∷ [])
@@ -30,8 +30,7 @@ loop-place-preserved c =
           ∙ ap (λ n. take n chosen) more
       | else-solved-place w ↦
           let unset : get_or flags place false ≡ false = search rules in
-          let same : before flags place ≡ before flags (place + 1) = omega
-          (arith, before_more flags place false c.loop-place-test.true unset) in
+          let same : before flags place ≡ before flags (place + 1) = omega (arith, before_more flags false c.loop-place-test.true unset) in
           let kept : c.if-solved-place.chosen ≡ c.loop-place.chosen = search rules in
           kept ∙ c.loop-place.invariant ∙ ap (λ n. take n chosen) same
     ]

@@ -27,5 +27,4 @@ pub loop-flag-preserved : goal.loop-flag-preserved
 loop-flag-preserved c =
     let flag : Bool = get_or c.args.solved.now c.loop-flag.flag-index false in
     let one : c.from-count.result ≡ cond flag 1 0 = search rules in
-    ap₂ ◌+◌ c.loop-flag.invariant (one ∙ count_of flag)
-    ∙ sym (before_more c.args.solved.now c.loop-flag.flag-index flag c.loop-flag-test.true refl)
+    ap₂ ◌+◌ c.loop-flag.invariant (one ∙ count_of flag) ∙ sym (before_more c.args.solved.now flag c.loop-flag-test.true refl)

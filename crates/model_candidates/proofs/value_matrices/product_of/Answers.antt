@@ -27,9 +27,8 @@ returns c =
     let w = drop c.args.from (take c.args.to c.args.word.now) in
     let rows = c.side_at-rows.result in
     let columns = c.side_at-columns.result in
-    let ends = product_ends x c.requires.given u v w c.requires.source c.requires.leads in
+    let ends = product_ends x c.requires.given v w c.requires.source c.requires.leads in
     let all : c.loop-row.row ≡ rows = omega (arith, c.loop-row-test.false, c.loop-row.auto.row-end) in
     let passed = subst (λ n. AreRows m columns (entry_at (product_in x u w)) n c.loop-row.entries.items) all c.loop-row.invariant in
-    c.new.ensures
-    ∙ rows_of_matrix m rows columns (product_in x u w) c.loop-row.entries.items ends.arrow (ends.target ∙ sym c.side_at-rows.ensures.value)
+    c.new.ensures ∙ rows_of_matrix ends.arrow (ends.target ∙ sym c.side_at-rows.ensures.value)
     (ends.source ∙ sym c.side_at-columns.ensures.value) passed

@@ -14,8 +14,7 @@ returns-then-not-is_row_zero c = (
       let within : c.loop-row.row < side_in x.shape.now c.args.ends.target.0 =
       subst (λ n. c.loop-row.row < n) c.side_at-row-end.ensures.value c.loop-row-test.true in
       absurd (true≢false (sym (c.is_row_zero.ensures.1 (λ k inside.
-      entry_of_zero x c.requires.given c.args.ends.source.0 c.args.ends.target.0 c.requires.source c.requires.target c.args.poly.now.terms zero
-      c.loop-row.row k within inside)) ∙ c.if-not-is_row_zero.true)),
+      entry_of_zero x c.requires.given c.args.ends.source.0 c.args.ends.target.0 c.requires.source c.requires.target c.args.poly.now.terms zero within inside)) ∙ c.if-not-is_row_zero.true)),
 )
 
 pub loop-row-preserved : goal.loop-row-preserved

@@ -15,7 +15,7 @@ word_row-product-requires-clause-leads c =
     let u = c.args.ends.source.0 in
     let v = c.args.ends.target.0 in
     let w = c.term.result.1.now in
-    word_leads x c.requires.given u v c.requires.source c.requires.target w c.len.result c.len.ensures.exact
+    word_leads x c.requires.given u v c.requires.source c.requires.target w c.len.ensures.exact
     (path_at x c.requires.given u v c.requires.source c.requires.target p.terms c.loop-place.place (c.term.result.0, w) c.term.ensures p.canonical
     c.requires.typed)
 
@@ -55,7 +55,7 @@ loop-place-preserved c =
           c.args.coefficients.now c.requires.coefficients in
           let entry_is : get_or product k 0 ≡ entry_at (product_in x u w) i k =
           c.word_row-product.ensures.row k (subst (λ n. k < n) columns_are inside)
-          ∙ ap (λ xs. entry_at (product_in x u xs) i k) (whole_word w c.len.result c.len.ensures.exact) in
+          ∙ ap (λ xs. entry_at (product_in x u xs) i k) (whole_word w c.len.ensures.exact) in
           let term_is : times * get_or product k 0 ≡ term_entry x u i k t = ap₂ ◌*◌ coefficient_is entry_is in
           c.add_multiple.ensures.each k inside
           ∙ add_alike m (get_or c.loop-place.sums k 0) (sum_by (term_entry x u i k) (take place p.terms)) (times * get_or product k 0)
@@ -78,4 +78,4 @@ returns c = λ k inside.
     ∙ ap (λ n. sum_by (term_entry x u i k) (take c.loop-place.place p.terms) % n) c.from-modulus.ensures
     ∙ ap (λ xs. sum_by (term_entry x u i k) xs % m) (take_all c.loop-place.place p.terms all)
     ∙ sym (value_entry x c.requires.given u v c.requires.source c.requires.target i k c.requires.row inside p.terms
-    (paths_of x c.requires.given u v c.requires.source c.requires.target p.terms p.canonical c.requires.typed))
+    (paths_of x c.requires.given u v c.requires.source c.requires.target p.canonical c.requires.typed))

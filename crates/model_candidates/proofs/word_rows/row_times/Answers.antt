@@ -13,17 +13,17 @@ pub bounds-given-from : goal.bounds-given-from
 bounds-given-from c =
     let x = c.args.given.now in
     let a = c.args.letter.0 in
-    tables_long x c.requires.given a (letter_inside x c.requires.given a c.requires.letter) c.from.result c.from.ensures
+    tables_long x c.requires.given (letter_inside x c.requires.given c.requires.letter) c.from.ensures
 
 pub table_product-requires-clause-table : goal.table_product-requires-clause-table
 table_product-requires-clause-table c =
     let x = c.args.given.now in
     let a = c.args.letter.0 in
     let found = get_or x.tables.now c.from.result c.index-given-from.result in
-    let letter = letter_inside x c.requires.given a c.requires.letter in
+    let letter = letter_inside x c.requires.given c.requires.letter in
     let read : found ≡ letter_table (quiver_in x) x.shape.now a =
-    table_there (quiver_in x) x.shape.now x.tables.now a c.from.result c.index-given-from.result c.requires.given.tables c.from.ensures letter in
-    (fits_letter x c.requires.given a letter found read c.in-Some.table c.in-Some.is).table
+    table_there (quiver_in x) x.shape.now c.index-given-from.result c.requires.given.tables c.from.ensures letter in
+    (fits_letter x c.requires.given a letter found read c.in-Some.is).table
 
 pub returns-in-Some-clause-each : goal.returns-in-Some-clause-each
 returns-in-Some-clause-each c = λ k inside.
@@ -32,11 +32,11 @@ returns-in-Some-clause-each c = λ k inside.
     let row = c.args.row.now in
     let m = x.shape.now.modulus in
     let found = get_or x.tables.now c.from.result c.index-given-from.result in
-    let letter = letter_inside x c.requires.given a c.requires.letter in
+    let letter = letter_inside x c.requires.given c.requires.letter in
     let read : found ≡ letter_table (quiver_in x) x.shape.now a =
-    table_there (quiver_in x) x.shape.now x.tables.now a c.from.result c.index-given-from.result c.requires.given.tables c.from.ensures letter in
+    table_there (quiver_in x) x.shape.now c.index-given-from.result c.requires.given.tables c.from.ensures letter in
     let t = c.in-Some.table in
-    let fits = fits_letter x c.requires.given a letter found read t c.in-Some.is in
+    let fits = fits_letter x c.requires.given a letter found read c.in-Some.is in
     let in_columns : k < t.columns = subst (λ n. k < n) (sym fits.columns) inside in
     c.table_product.ensures.each k in_columns
     ∙ ap (λ y. y % m) (total_same t.rows (λ j. get_or row j 0 * value_in_table x.values.now t j k)
@@ -51,11 +51,11 @@ returns-in-None-clause-each c = λ k inside.
     let m = x.shape.now.modulus in
     let side = side_in x.shape.now in
     let found = get_or x.tables.now c.from.result c.index-given-from.result in
-    let letter = letter_inside x c.requires.given a c.requires.letter in
+    let letter = letter_inside x c.requires.given c.requires.letter in
     let read : found ≡ letter_table (quiver_in x) x.shape.now a =
-    table_there (quiver_in x) x.shape.now x.tables.now a c.from.result c.index-given-from.result c.requires.given.tables c.from.ensures letter in
+    table_there (quiver_in x) x.shape.now c.index-given-from.result c.requires.given.tables c.from.ensures letter in
     let unit = is_unit x c.requires.given a letter found read c.in-None.is in
     let within : k < side a = subst (λ v. k < side v) unit.source_is inside in
-    sym (row_times_identity m (side a) row k within (entry_below x c.requires.given row k c.requires.below))
+    sym (row_times_identity row within (entry_below x c.requires.given row k c.requires.below))
     ∙ ap (λ y. total (side a) (λ j. get_or row j 0 * entry_at y j k) % m) (sym unit.matrix)
     ∙ ap (λ v. total (side v) (λ j. get_or row j 0 * entry_at (matrix_in x a) j k) % m) (sym unit.target_is)

@@ -10,7 +10,7 @@ use Rattle.model_candidates.proofs.word_rows.word_row.Goals as goal
 pub returns-then-from-to-clause-row : goal.returns-then-from-to-clause-row
 returns-then-from-to-clause-row c =
     let x = c.args.given.now in
-    unit_is_row x c.requires.given c.args.ends.source.0 c.args.ends.target.0 c.args.row c.args.word.now c.args.from c.args.to c.unit_row.result
+    unit_is_row x c.requires.given c.args.ends.source.0 c.args.ends.target.0 c.args.word.now c.unit_row.result
     c.requires.in_range c.if-from-to.true c.requires.leads c.requires.row c.unit_row.ensures.each
 
 pub letter_row-product-requires-clause-letter : goal.letter_row-product-requires-clause-letter
@@ -19,9 +19,8 @@ letter_row-product-requires-clause-letter c =
     let w = c.args.word.now in
     let before : c.args.from < c.args.to = omega (arith, c.requires.order, c.if-from-to.false) in
     let letter_is : get_or w c.args.from 0 ≡ c.letter.result.0 = search rules in
-    letter_counted x c.requires.given c.letter.result.0 (subst (λ a. a < letters (quiver_in x)) letter_is
-    (step_at x c.requires.given c.args.ends.source.0 c.args.ends.target.0 c.args.row w c.args.from c.args.to c.requires.source c.requires.in_range
-    c.args.from c.args.ends.target.0 before c.requires.leads).letter)
+    letter_counted x c.requires.given (subst (λ a. a < letters (quiver_in x)) letter_is
+    (step_at x c.requires.given c.args.ends.source.0 c.args.ends.target.0 c.args.row w c.args.from c.args.to c.requires.source c.requires.in_range c.args.ends.target.0 before c.requires.leads).letter)
 
 pub letter_row-product-requires-clause-row : goal.letter_row-product-requires-clause-row
 letter_row-product-requires-clause-row c =
@@ -30,7 +29,7 @@ letter_row-product-requires-clause-row c =
     let before : c.args.from < c.args.to = omega (arith, c.requires.order, c.if-from-to.false) in
     let letter_is : get_or w c.args.from 0 ≡ c.letter.result.0 = search rules in
     let first = step_at x c.requires.given c.args.ends.source.0 c.args.ends.target.0 c.args.row w c.args.from c.args.to c.requires.source
-    c.requires.in_range c.args.from c.args.ends.target.0 before c.requires.leads in
+    c.requires.in_range c.args.ends.target.0 before c.requires.leads in
     subst (λ a. c.args.row < side_in x.shape.now (target (quiver_in x) a)) letter_is
     (subst (λ v. c.args.row < side_in x.shape.now v) (sym first.target) c.requires.row)
 
@@ -41,7 +40,7 @@ loop-place-init c =
     let before : c.args.from < c.args.to = omega (arith, c.requires.order, c.if-from-to.false) in
     let letter_is : get_or w c.args.from 0 ≡ c.letter.result.0 = search rules in
     so_far_first x c.requires.given c.args.ends.source.0 c.args.ends.target.0 c.args.row w c.args.from c.args.to c.requires.source
-    c.requires.in_range c.letter_row-product.result before c.requires.leads c.requires.row
+    c.requires.in_range before c.requires.leads c.requires.row
     (subst (λ a. IsRow (matrix_in x a) c.args.row (side_in x.shape.now (source (quiver_in x) a)) c.letter_row-product.result) (sym letter_is)
     c.letter_row-product.ensures.row) c.letter_row-product.ensures.below
 
@@ -51,9 +50,8 @@ row_times-product-requires-clause-letter c =
     let w = c.args.word.now in
     let place = c.loop-place.place in
     let letter_is : get_or w place 0 ≡ c.letter-in-loop-place.result.0 = search rules in
-    letter_counted x c.requires.given c.letter-in-loop-place.result.0 (subst (λ a. a < letters (quiver_in x)) letter_is
-    (step_at x c.requires.given c.args.ends.source.0 c.args.ends.target.0 c.args.row w c.args.from c.args.to c.requires.source c.requires.in_range
-    place c.loop-place.invariant.middle c.loop-place-test.true c.loop-place.invariant.path).letter)
+    letter_counted x c.requires.given (subst (λ a. a < letters (quiver_in x)) letter_is
+    (step_at x c.requires.given c.args.ends.source.0 c.args.ends.target.0 c.args.row w c.args.from c.args.to c.requires.source c.requires.in_range c.loop-place.invariant.middle c.loop-place-test.true c.loop-place.invariant.path).letter)
 
 pub loop-place-preserved : goal.loop-place-preserved
 loop-place-preserved c =
@@ -65,7 +63,7 @@ loop-place-preserved c =
     let next = c.row_times-product.result in
     let letter_is : get_or w place 0 ≡ c.letter-in-loop-place.result.0 = search rules in
     so_far_next x c.requires.given c.args.ends.source.0 c.args.ends.target.0 c.args.row w c.args.from c.args.to c.requires.source
-    c.requires.in_range place row next c.loop-place-test.true c.loop-place.invariant
+    c.requires.in_range c.loop-place-test.true c.loop-place.invariant
     (subst (λ a. (k : ℕ) → k < side (source (quiver_in x) a) → get_or next k 0
     ≡ total (side (target (quiver_in x) a)) (λ j. get_or row j 0 * entry_at (matrix_in x a) j k) % x.shape.now.modulus) (sym letter_is)
     c.row_times-product.ensures.each) c.row_times-product.ensures.below
@@ -77,5 +75,5 @@ returns-clause-row c =
     let all : c.loop-place.place ≡ c.args.to =
     omega (arith, c.requires.order, c.if-from-to.false, c.loop-place.auto.place-end, c.loop-place-test.false) in
     so_far_all x c.requires.given c.args.ends.source.0 c.args.ends.target.0 c.args.row w c.args.from c.args.to c.requires.source
-    c.requires.in_range c.loop-place.product
+    c.requires.in_range
     (subst (λ place. IsSoFar x c.args.ends.source.0 c.args.row (take c.args.to w) c.args.from place c.loop-place.product) all c.loop-place.invariant)
