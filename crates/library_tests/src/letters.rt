@@ -36,16 +36,10 @@ fn two_maps(rt: &impl Abort, alloc: Global) -> Quiver
     ensures { object_count result ≡ 2 }
 {
     let mut quiver = Quiver::new(alloc).expect(rt, "memory");
-    let source = quiver.add_object("U").ok().expect(rt, "U");
-    let target = quiver.add_object("V").ok().expect(rt, "V");
-    quiver
-        .add_map("a", source, target, false)
-        .ok()
-        .expect(rt, "a");
-    quiver
-        .add_map("x", target, source, false)
-        .ok()
-        .expect(rt, "x");
+    let source = quiver.add_object("U").expect(rt, "U");
+    let target = quiver.add_object("V").expect(rt, "V");
+    quiver.add_map("a", source, target, false).expect(rt, "a");
+    quiver.add_map("x", target, source, false).expect(rt, "x");
     quiver
 }
 

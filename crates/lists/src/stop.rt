@@ -5,7 +5,7 @@ ghost use Rattle.lists.specs.Stop.{IsMemory};
 use std::alloc::{AllocError, AllocFailed};
 
 /// Why a call gives no answer: what is wrong with its input, or want of memory.
-#[derive(Drop)]
+#[derive(Debug, Drop)]
 pub enum Stop<E> {
     /// What is wrong.
     Fault(E),

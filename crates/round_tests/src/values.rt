@@ -33,14 +33,12 @@ fn loops(rt: &impl Abort, alloc: Global) -> Quiver
     ensures { quiver_of result ≡ record { objects = 1; ends = (0, 0) ∷ (0, 0) ∷ (0, 0) ∷ []; stars = 0 ∷ 1 ∷ 2 ∷ [] } }
 {
     let mut quiver = Quiver::new(alloc).expect(rt, "memory");
-    quiver.add_object("U").ok().expect(rt, "U");
+    quiver.add_object("U").expect(rt, "U");
     quiver
         .add_map("a", Object(0), Object(0), true)
-        .ok()
         .expect(rt, "a");
     quiver
         .add_map("b", Object(0), Object(0), true)
-        .ok()
         .expect(rt, "b");
     quiver
 }
