@@ -12,6 +12,7 @@ use word_core::Letter;
 pub trait Letters {
     // The text of each letter, and the number of letters.
     ghost text: { Self → ℕ → List ℕ };
+
     ghost count: { Self → ℕ };
 
     /// Appends the text of a letter.

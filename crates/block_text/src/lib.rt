@@ -36,6 +36,6 @@ pub use poly::{put_poly, put_poly_by, write_poly};
 pub use polynomial::read_polynomial;
 pub use read::{ReadText, read_blocks};
 pub use write::{
-    put, put_integer, put_labelled, put_letter, put_number, put_signed, put_word,
-    put_word_by, write_word,
+    put, put_integer, put_labelled, put_letter, put_number, put_signed, put_word, put_word_by,
+    write_word,
 };

@@ -4,7 +4,7 @@ ghost use Rattle.std.specs.Prelude.{◌≡◌, ◌++◌, IfOk, OnOk};
 ghost use Rattle.std.specs.List.{All, flat_map};
 ghost use Rattle.quiver.specs.Declarations.{letter_count};
 ghost use Rattle.word_core.specs.Letters.{IsOver};
-ghost use Rattle.block_text.specs.Written.{term_by, first_by, later_by, poly_by, poly_text};
+ghost use Rattle.block_text.specs.Written.{term_by, later_by, poly_by, poly_text};
 
 use crate::letters::Letters;
 use crate::write::{put, put_number, put_word_by};
@@ -13,34 +13,23 @@ use quiver::Quiver;
 use std::alloc::{AllocError, Global};
 use word_core::Word;
 
-fn put_term<L: Letters>(out: &mut Vec<u8>, letters: &L, term: &(i128, Word)) -> Result<(), AllocError>
+// Appends a sign and then a term without its own.
+fn put_term<L: Letters>(
+    out: &mut Vec<u8>,
+    letters: &L,
+    sign: &str,
+    term: &(i128, Word),
+) -> Result<(), AllocError>
     requires { IsOver (L.count letters.now) term.now.1 }
-    ensures { OnOk result (out.new.items ≡ out.old.items ++ term_by (L.text letters.now) term.now) }
+    ensures { OnOk result (out.new.items ≡ out.old.items ++ (sign.now ++ term_by (L.text letters.now) term.now)) }
 {
+    put(out, sign)?;
     let value = term.0.unsigned_abs();
     if value != 1 {
         put_number(out, value)?;
         put(out, " ")?;
     }
     put_word_by(out, letters, &term.1)
-}
-
-fn put_first_term<L: Letters>(out: &mut Vec<u8>, letters: &L, term: &(i128, Word)) -> Result<(), AllocError>
-    requires { IsOver (L.count letters.now) term.now.1 }
-    ensures { OnOk result (out.new.items ≡ out.old.items ++ first_by (L.text letters.now) term.now) }
-{
-    if term.0 < 0 {
-        put(out, "- ")?;
-    }
-    put_term(out, letters, term)
-}
-
-fn put_later_term<L: Letters>(out: &mut Vec<u8>, letters: &L, term: &(i128, Word)) -> Result<(), AllocError>
-    requires { IsOver (L.count letters.now) term.now.1 }
-    ensures { OnOk result (out.new.items ≡ out.old.items ++ later_by (L.text letters.now) term.now) }
-{
-    put(out, if term.0 < 0 { " - " } else { " + " })?;
-    put_term(out, letters, term)
 }
 
 fn put_later_terms<L: Letters>(
@@ -52,7 +41,7 @@ fn put_later_terms<L: Letters>(
     ensures { OnOk result (out.new.items ≡ out.old.items ++ flat_map (later_by (L.text letters.now)) terms.now) }
 {
     for term in terms {
-        put_later_term(out, letters, term)?;
+        put_term(out, letters, if term.0 < 0 { " - " } else { " + " }, term)?;
     }
     Ok(())
 }
@@ -69,7 +58,7 @@ pub fn put_poly_by<L: Letters>(
     match poly.terms.as_slice() {
         [] => put(out, "0"),
         [first, rest @ ..] => {
-            put_first_term(out, letters, first)?;
+            put_term(out, letters, if first.0 < 0 { "- " } else { "" }, first)?;
             put_later_terms(out, letters, rest)
         }
     }
