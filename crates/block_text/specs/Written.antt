@@ -21,24 +21,40 @@ letter_text ds a = spelled_as (letter_name ds a) a (named_in ds (letter_name ds 
 abbrev pub gap_text : ℕ → List ℕ
 gap_text place = if place == 0 then [] else codes " "
 
--- letters with one blank between them
-abbrev pub word_text : List Declaration → List ℕ → List ℕ
-word_text ds word = join_with_byte 32 (map (letter_text ds) word)
-
 -- an absolute value and a blank, unless it is 1
 abbrev pub factor_text : ℕ → List ℕ
 factor_text n = if n == 1 then [] else decimal n ++ codes " "
 
-abbrev pub term_text : List Declaration → Term → List ℕ
-term_text ds t = factor_text (unsigned_abs t.0) ++ word_text ds t.1
+-- letters with one blank between them, by the text of each letter
+abbrev pub word_by : (ℕ → List ℕ) → List ℕ → List ℕ
+word_by spell word = join_with_byte 32 (map spell word)
 
-abbrev pub first_text : List Declaration → Term → List ℕ
-first_text ds t = (if is_negative t.0 then codes "- " else []) ++ term_text ds t
+abbrev pub term_by : (ℕ → List ℕ) → Term → List ℕ
+term_by spell t = factor_text (unsigned_abs t.0) ++ word_by spell t.1
 
-abbrev pub later_text : List Declaration → Term → List ℕ
-later_text ds t = (if is_negative t.0 then codes " - " else codes " + ") ++ term_text ds t
+abbrev pub first_by : (ℕ → List ℕ) → Term → List ℕ
+first_by spell t = (if is_negative t.0 then codes "- " else []) ++ term_by spell t
+
+abbrev pub later_by : (ℕ → List ℕ) → Term → List ℕ
+later_by spell t = (if is_negative t.0 then codes " - " else codes " + ") ++ term_by spell t
 
 -- terms with their signs between them, or 0
+abbrev pub poly_by : (ℕ → List ℕ) → Poly → List ℕ
+poly_by spell [] = codes "0"
+poly_by spell (t ∷ terms) = first_by spell t ++ flat_map (later_by spell) terms
+
+-- the same by the names of the letters
+abbrev pub word_text : List Declaration → List ℕ → List ℕ
+word_text ds = word_by (letter_text ds)
+
+abbrev pub term_text : List Declaration → Term → List ℕ
+term_text ds = term_by (letter_text ds)
+
+abbrev pub first_text : List Declaration → Term → List ℕ
+first_text ds = first_by (letter_text ds)
+
+abbrev pub later_text : List Declaration → Term → List ℕ
+later_text ds = later_by (letter_text ds)
+
 abbrev pub poly_text : List Declaration → Poly → List ℕ
-poly_text ds [] = codes "0"
-poly_text ds (t ∷ terms) = first_text ds t ++ flat_map (later_text ds) terms
+poly_text ds = poly_by (letter_text ds)

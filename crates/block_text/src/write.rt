@@ -4,8 +4,9 @@ ghost use Rattle.std.specs.Prelude.{◌≡◌, ◌<◌, ◌++◌, decimal, IfOk,
 ghost use Rattle.std.specs.Fmt.{signed_decimal};
 ghost use Rattle.quiver.specs.Declarations.{letter_count};
 ghost use Rattle.word_core.specs.Letters.{IsOver};
-ghost use Rattle.block_text.specs.Written.{letter_text, gap_text, word_text};
+ghost use Rattle.block_text.specs.Written.{letter_text, gap_text, word_by, word_text};
 
+use crate::letters::Letters;
 use itoa::Buffer;
 use quiver::{Named, Quiver};
 use std::alloc::{AllocError, Global};
@@ -78,16 +79,28 @@ fn put_gap(out: &mut Vec<u8>, place: usize) -> Result<(), AllocError>
     if place == 0 { Ok(()) } else { put(out, " ") }
 }
 
+/// Appends the letters of a word with one blank between them, by the texts of letters.
+pub fn put_word_by<L: Letters>(
+    out: &mut Vec<u8>,
+    letters: &L,
+    word: &Word,
+) -> Result<(), AllocError>
+    requires { IsOver (L.count letters.now) word.now }
+    ensures { OnOk result (out.new.items ≡ out.old.items ++ word_by (L.text letters.now) word.now) }
+{
+    for place in 0..word.len() {
+        put_gap(out, place)?;
+        letters.put_letter(out, word.letter(place))?;
+    }
+    Ok(())
+}
+
 /// Appends the letters of a word with one blank between them.
 pub fn put_word(out: &mut Vec<u8>, quiver: &Quiver, word: &Word) -> Result<(), AllocError>
     requires { IsOver (letter_count quiver.now) word.now }
     ensures { OnOk result (out.new.items ≡ out.old.items ++ word_text quiver.now word.now) }
 {
-    for place in 0..word.len() {
-        put_gap(out, place)?;
-        put_letter(out, quiver, word.letter(place))?;
-    }
-    Ok(())
+    put_word_by(out, quiver, word)
 }
 
 /// The letters of a word with one blank between them.

@@ -1,8 +1,11 @@
-use Rattle.block_text.specs.Written.{later_text}
+use Rattle.std.proofs.Common.{rules, ◌≡◌, ◌++◌}
+use Rattle.block_text.specs.Written.{later_by}
 use Rattle.block_text.proofs.Puts.{each_put}
 use Rattle.block_text.proofs.poly.put_later_terms.Goals as goal
 
 pub loop-term-preserved : goal.loop-term-preserved
-loop-term-preserved c =
-    each_put (later_text c.args.quiver.now) c.args.terms.now c.loop-term.term-index c.term-item.result c.args.out.now.items c.loop-term.out.items c.put_later_term.new.out.items
-    c.loop-term-test.true c.term-item.is c.loop-term.invariant c.in_ok-put_later_term.ensures
+loop-term-preserved g c =
+    let later = later_by (g.L.Letters.text c.args.letters.now) in
+    let put : c.put_term.new.out.items ≡ c.loop-term.out.items ++ later c.term-item.result = search rules in
+    each_put later c.args.terms.now c.loop-term.term-index c.term-item.result c.args.out.now.items c.loop-term.out.items c.put_term.new.out.items
+    c.loop-term-test.true c.term-item.is c.loop-term.invariant put

@@ -1,7 +1,7 @@
 use Rattle.std.proofs.Common.{◌≡◌, ◌++◌, take}
 use Rattle.std.specs.List.{flat_map}
-use Rattle.block_text.specs.Written.{later_text}
+use Rattle.block_text.specs.Written.{later_by}
 use Rattle.block_text.proofs.poly.put_later_terms.Given as goal
 
 abbrev pub invariant-loop-term : goal.invariant-loop-term
-invariant-loop-term l = l.out.items ≡ l.initial.out.items ++ flat_map (later_text l.quiver) (take l.term-index l.terms)
+invariant-loop-term g l = l.out.items ≡ l.initial.out.items ++ flat_map (later_by (g.L.Letters.text l.letters)) (take l.term-index l.terms)
