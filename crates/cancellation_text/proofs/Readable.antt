@@ -1,12 +1,10 @@
 -- The proofs that are read can be checked.
-use Rattle.std.proofs.Common.{◌≡◌, ◌<◌, ◌≤◌, ◌+◌, ℕ, List, [], ◌∷◌, ◌++◌, Option, Some, None, Result, arith, refl, subst, ap, ap₂, ◌∙◌, sym, length, length-append, IfOk}
+use Rattle.std.proofs.Common.{◌≡◌, ℕ, List, [], ◌∷◌, Option, Some, None, Result, arith, refl, subst, sym, length, length-append, IfOk}
 use Rattle.std.specs.List.{All, AllZip, cons_option}
-use Rattle.std.specs.Option.{option_map}
 use Rattle.std.proofs.lemmas.List.Elements.{All-nil, All-cons}
 use Rattle.word_core.specs.declared.letter.Letter.{Letter}
-use Rattle.quiver.specs.Declarations.{Declaration, letter_count}
+use Rattle.quiver.specs.Declarations.{Declaration}
 use Rattle.traced_rows.specs.declared.evidence.Lemma.{Lemma}
-use Rattle.traced_rows.specs.declared.evidence.LemmaRow.{LemmaRow}
 use Rattle.cancel_rules.specs.declared.cancellation.Side.{Side}
 use Rattle.cancel_rules.specs.declared.cancellation.Side.TheVariants.{Left, Right}
 use Rattle.cancel_rules.specs.declared.cancellation.Item.{Item}
@@ -25,14 +23,12 @@ use Rattle.block_text.proofs.Zips.{zip_length}
 use Rattle.certificate_text.specs.Blocks.{ScaledTokens}
 use Rattle.certificate_text.specs.Bounds.{IsLemmaRowOf, IsScaledOf}
 use Rattle.certificate_text.specs.Evidence.{IsLemmaRowOver}
-use Rattle.certificate_text.specs.Written.{IsLemmaOver}
 use Rattle.certificate_text.proofs.Checkable.{positive_in_range, zip_all, scaled_checkable}
 use Rattle.std.proofs.lemmas.List.Elements.{All-weaker}
 use Rattle.cancellation_text.specs.Blocks.{CalledTokens, ItemTokens, lemma, cancel, CancellationTokens, known_letter, called_on, called_letters}
-use Rattle.cancellation_text.specs.Bounds.{Bound, rows, item_rows, rows_in, KeepsOne, IsItemOf, IsCancellationOf}
+use Rattle.cancellation_text.specs.Bounds.{Bound, rows, item_rows, KeepsOne, IsItemOf, IsCancellationOf}
 use Rattle.cancellation_text.specs.Cancellations.{cancellation_kind, IsCancellations}
 use Rattle.cancellation_text.specs.Reading.{cancellation_steps, called_of}
-use Rattle.cancellation_text.specs.Written.{IsItemOver, IsCancellationOver}
 use Rattle.cancellation_text.proofs.Parts.{rows_of}
 use Rattle.cancellation_text.proofs.Reader.{reader}
 
@@ -101,19 +97,3 @@ module _ (ds : List Declaration) where
   pub proofs_are_readable : (bytes : List ℕ) (proofs : List Cancellation) → IsCancellations ds bytes proofs → All (IsReadableCancellation ds) proofs
   proofs_are_readable bytes proofs is =
       values_are (cancellation_kind ds) (cancellation_steps ds) (reader ds) (IsReadableCancellation ds) (λ b proof block keeps says. block_readable b proof keeps says) bytes proofs is
-
--- and written
-lemma_is_over : (ds : List Declaration) (l : Lemma) → IsReadableLemma ds l → IsLemmaOver ds l
-lemma_is_over ds l readable = All-weaker (IsRowOver ds) (IsLemmaRowOver ds) (λ row over. record { left = over.left; right = over.right }) l.rows readable.letters
-
-item_is_over : (ds : List Declaration) (i : Item) → IsReadableItem ds i → IsItemOver ds i
-item_is_over ds (item.Lemma l) readable = lemma_is_over ds l readable
-item_is_over ds (item.Cancel a side number) readable = readable
-
-pub readable_is_over : (ds : List Declaration) (proof : Cancellation) → IsReadableCancellation ds proof → IsCancellationOver ds proof
-readable_is_over ds proof readable = record {
-  monic = readable.monic;
-  epic = readable.epic;
-  items = All-weaker (IsReadableItem ds) (IsItemOver ds) (item_is_over ds) proof.items readable.items;
-  goal = lemma_is_over ds proof.goal readable.goal;
-}

@@ -10,7 +10,6 @@ pub mod BlockLines
 pub mod OneCertificate
 pub mod EachText
 pub mod Checkable
-pub mod CheckableLetters
 pub mod RowsBack
 pub mod SizesBack
 pub mod BlocksBack
