@@ -3,7 +3,8 @@ from __future__ import annotations
 
 from typing import List, NamedTuple, Tuple
 
-from confirm_rows import M, M1, lines
+from confirm_rows import M, M1
+from row_parts import lines
 
 
 class Run(NamedTuple):

@@ -4,7 +4,8 @@ from __future__ import annotations
 
 from typing import List, NamedTuple, Tuple
 
-from confirm_rows import M, lines, times
+from confirm_rows import M, times
+from row_parts import lines
 
 
 class Run(NamedTuple):

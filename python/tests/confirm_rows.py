@@ -4,6 +4,8 @@ from __future__ import annotations
 import itertools
 from typing import List, NamedTuple, Tuple
 
+from row_parts import lines
+
 GREATEST = 2**127 - 1
 M, M1 = str(GREATEST), str(GREATEST + 1)
 CLOSED, NOT_SHARP = "closed claim 1 sharp", "closed claim 1"
@@ -18,11 +20,6 @@ class Run(NamedTuple):
     report: str
     status: int
     is_proved: bool = False  # whether `prove` writes the text
-
-
-def lines(text: str) -> str:
-    """A text in which ` / ` stands between lines."""
-    return "".join(f"{line}\n" for line in text.split(" / "))
 
 
 def times(count: int, letter: str = "t") -> str:

@@ -3,7 +3,7 @@ from __future__ import annotations
 
 from typing import List, Tuple
 
-from row_parts import Row, lines
+from row_parts import Row, lines, times
 
 # A claim of which both sides are the same polynomial.
 SAME = lines("0 # claim 1 proved denominator 1 rows 0 / certificate 2 / claim 1 / denominator 1 / goal scale 1 / end")
@@ -53,11 +53,7 @@ POWERS: List[Row] = [
     ("prove s", lines("language 2 / object U / map a b : U -> U / claim a^0 = b^^2"), "", "3 # refused S3 line 4 column 15"),
     (
         "prove s",
-        lines(
-            "language 2 / claim "
-            "(((((((((((((((((((((((((((((((((((((((((((((((((((((((((((((((((a))))))))))))))))))))))))))))))))))))))))))))))))))))))))))))))))) "
-            "= a"
-        ),
+        "language 2\nclaim " + times("(", 65) + "a" + times(")", 65) + lines(" = a"),
         "", "3 # refused S5 line 2 column 71",
     ),
 ]
