@@ -12,6 +12,7 @@ from typing import Iterator, List
 
 TOP = Path(__file__).resolve().parents[1]
 CRATES = TOP / "crates"
+IMPORT = re.compile(r"(?:unfoldable )?(?:pub )?use ")
 CONVERSION = re.compile(r"\b(?:All-from_recursion|recursion_from_All)\b")
 WRONG = re.compile(r"\benum (\w*(?:Fault|Flaw|Stop|Refusal|Misfit|Cause|Error))\b")
 # A function of Rust, up to its result or its body; the parameters are what stands in its outer brackets.
@@ -70,6 +71,7 @@ def main() -> None:
         ("lines of code", lines(list(files("src", ".rt")))),
         ("lines of definitions", lines(list(files("specs", ".antt")))),
         ("lines of proofs", lines(list(files("proofs", ".antt")))),
+        ("of them imports", sum(bool(IMPORT.match(line)) for path in files("proofs", ".antt") for line in text(path).splitlines())),
         ("lines of `shifts` with its laws", lines(shifts)),
         ("conversions between notions of all", conversions()),
         ("enums for what goes wrong", len(enums)),

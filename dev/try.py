@@ -173,6 +173,13 @@ def mapped_calls() -> str:
     return "each public function has a row of docs/PROOF_MAP.md"
 
 
+def preludes() -> str:
+    installed("rt")
+    answer = run(sys.executable, TOP / "dev" / "preludes.py")
+    need(answer == Answer(0, "", ""), f"imports of proofs aren't in order: dev/preludes.py --write: {answer.out}")
+    return "what proofs take from elsewhere is named once in each crate"
+
+
 def costly_files() -> str:
     sizes = {
         "overlaps 500": 496_540, "sorted 498": 287_613, "unending 100": 57_068, "rests 100": 429_121, "rows 10": 41_295,
@@ -195,7 +202,7 @@ def devices() -> str:
 def groups(folder: Path) -> Dict[str, List[Callable[[], str]]]:
     """The checks that stand in this folder, by their words."""
     return {
-        "files": [trusted_files, mapped_calls],
+        "files": [trusted_files, mapped_calls, preludes],
         **{
             word: [functools.partial(check, folder) for check in checks]
             for word, checks in (
