@@ -5,16 +5,15 @@ use Rattle.statement_tokens.specs.declared.place.Spot.{Spot}
 use Rattle.statement_syntax.specs.declared.tree.Mark.{Mark}
 use Rattle.statement_syntax.specs.declared.tree.Mark.TheVariants.{Adjoint, Power}
 use Rattle.expressions.specs.declared.fault.SignatureFault.{SignatureFault}
-use Rattle.expressions.specs.declared.fault.SignatureFault.TheVariants.{NotComposable, SumMismatch}
 use Rattle.expressions.specs.Results.{◌>>=◌}
-use Rattle.expressions.specs.Signatures.{HasObjects, from_to, same_ends, is_repeated, repeated, mark_signature, marked_signature, product_step, sum_step}
+use Rattle.expressions.specs.Signatures.{not_composable, sum_mismatch, HasObjects, from_to, same_ends, is_repeated, repeated, mark_signature, marked_signature, product_step, sum_step}
 
 module _ (n : ℕ) where
   objects-repeated : (first caret : Spot) (s : Option Sig) → HasObjects n s → IfOk (repeated first caret s) (HasObjects n)
   objects-repeated first caret None h = tt
   objects-repeated first caret (Some s) h = go (nat_eq s.source.0 s.target.0)
     where
-      go : (b : Bool) → IfOk {E = SignatureFault} (cond b (Ok (Some s)) (Err (NotComposable caret s s))) (HasObjects n)
+      go : (b : Bool) → IfOk {E = SignatureFault} (cond b (Ok (Some s)) (Err (not_composable caret s s))) (HasObjects n)
       go true = h
       go false = tt
 
@@ -42,7 +41,7 @@ module _ (n : ℕ) where
   objects-product_step (Ok None) at (Some s) h k = k
   objects-product_step (Ok (Some left)) at (Some right) h k = go (nat_eq left.source.0 right.target.0)
     where
-      go : (b : Bool) → IfOk {E = SignatureFault} (cond b (Ok (Some (from_to right.source.0 left.target.0))) (Err (NotComposable at left right))) (HasObjects n)
+      go : (b : Bool) → IfOk {E = SignatureFault} (cond b (Ok (Some (from_to right.source.0 left.target.0))) (Err (not_composable at left right))) (HasObjects n)
       go true = (k.0, h.1)
       go false = tt
 
@@ -52,6 +51,6 @@ module _ (n : ℕ) where
   objects-sum_step (Ok None) at (Some s) h k = k
   objects-sum_step (Ok (Some before)) at (Some s) h k = go (same_ends before s)
     where
-      go : (b : Bool) → IfOk {E = SignatureFault} (cond b (Ok (Some before)) (Err (SumMismatch at before s))) (HasObjects n)
+      go : (b : Bool) → IfOk {E = SignatureFault} (cond b (Ok (Some before)) (Err (sum_mismatch at before s))) (HasObjects n)
       go true = h
       go false = tt

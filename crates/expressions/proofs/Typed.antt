@@ -17,13 +17,12 @@ use Rattle.statement_tokens.specs.declared.place.Spot.{Spot}
 use Rattle.statement_syntax.specs.declared.tree.Primary.{Primary, Letter, Identity, Bracket}
 use Rattle.statement_syntax.specs.declared.tree.Term.{Term, Term', Row_of-Factor, end_of-Factor, more_of-Factor}
 use Rattle.statement_syntax.specs.declared.tree.Sum.{Sum, Sum', Row_of-Term, end_of-Term, more_of-Term}
-use Rattle.expressions.specs.declared.fault.SignatureFault.TheVariants.{SumMismatch}
 use Rattle.expressions.specs.Results.{◌>>=◌}
 use Rattle.abbreviations.specs.Names.{is_map, is_object, letter_number, object_number, letter_of, object_of, are_names, are_names_of_terms, are_names_of_term, are_names_of_factors, are_names_of_primary}
 use Rattle.expressions.specs.Signatures as signatures
-use Rattle.expressions.specs.Signatures.{Part, from_to, letter_signature, same_ends, marked_signature, sides_signature, equation_signature, sum_at}
+use Rattle.expressions.specs.Signatures.{sum_mismatch, Part, from_to, letter_signature, same_ends, marked_signature, sides_signature, equation_signature, sum_at}
 use Rattle.expressions.specs.Polynomials as polynomials
-use Rattle.expressions.specs.Polynomials.{letter_poly, marked_poly, scaled_by, Summand, signed, equation_poly}
+use Rattle.expressions.specs.Polynomials.{letter_poly, marked_poly, scaled_by, Summand, equation_poly}
 use Rattle.expressions.specs.Laws.{EquationsAreTyped}
 use Rattle.expressions.proofs.Sequences.{bound, same_value}
 use Rattle.expressions.proofs.Words.{Words, weaker, words-difference}
@@ -119,7 +118,7 @@ module _ (ds : List Declaration) (declared : IsDeclared ds) (first : ObjectsFirs
   side-left l r (Some s) None e h w path = subst (λ x. IsPathOf q (Some x) w) (same_value s e h) path
   side-left l r (Some s) (Some t) e h w path = go (same_ends s t) h
     where
-      go : (b : Bool) → cond b (Ok s) (Err (SumMismatch r s t)) ≡ Ok e → IsPathOf q (Some e) w
+      go : (b : Bool) → cond b (Ok s) (Err (sum_mismatch r s t)) ≡ Ok e → IsPathOf q (Some e) w
       go true k = subst (λ x. IsPathOf q (Some x) w) (same_value s e k) path
       go false k = absurd (no_fault e _ k)
 
@@ -128,7 +127,7 @@ module _ (ds : List Declaration) (declared : IsDeclared ds) (first : ObjectsFirs
   side-right l r None (Some t) e h w path = subst (λ x. IsPathOf q (Some x) w) (same_value t e h) path
   side-right l r (Some s) (Some t) e h w path = go (same_ends s t) refl h
     where
-      go : (b : Bool) → same_ends s t ≡ b → cond b (Ok s) (Err (SumMismatch r s t)) ≡ Ok e → IsPathOf q (Some e) w
+      go : (b : Bool) → same_ends s t ≡ b → cond b (Ok s) (Err (sum_mismatch r s t)) ≡ Ok e → IsPathOf q (Some e) w
       go true same k = subst (λ x. IsPathOf q (Some x) w) (sym (same_from_ends s t same) ∙ same_value s e k) path
       go false same k = absurd (no_fault e _ k)
 

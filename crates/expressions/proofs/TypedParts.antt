@@ -14,11 +14,10 @@ use Rattle.statement_tokens.specs.declared.place.Spot.{Spot}
 use Rattle.statement_syntax.specs.declared.tree.Mark.{Mark}
 use Rattle.statement_syntax.specs.declared.tree.Mark.TheVariants.{Adjoint, Power}
 use Rattle.expressions.specs.declared.fault.SignatureFault.{SignatureFault}
-use Rattle.expressions.specs.declared.fault.SignatureFault.TheVariants.{NotComposable, SumMismatch}
 use Rattle.expressions.specs.Signatures as signatures
-use Rattle.expressions.specs.Signatures.{Part, from_to, letter_signature, same_ends, turned, is_repeated, repeated, mark_signature, marked_signature, sides_signature, equation_signature, sum_at}
+use Rattle.expressions.specs.Signatures.{not_composable, sum_mismatch, Part, from_to, same_ends, turned, is_repeated, repeated, mark_signature, marked_signature}
 use Rattle.expressions.specs.Polynomials as polynomials
-use Rattle.expressions.specs.Polynomials.{letter_poly, power_poly, mark_poly, marked_poly, scaled_by, Summand, signed, equation_poly}
+use Rattle.expressions.specs.Polynomials.{power_poly, mark_poly, marked_poly, Summand, signed}
 use Rattle.expressions.proofs.Sequences.{bound, same_value}
 use Rattle.expressions.proofs.Words.{Words, weaker, words-collection, words-adjoint, words-product}
 use Rattle.expressions.proofs.Letters.{words-signed, words-sum_step, words-power_poly}
@@ -53,7 +52,7 @@ module _ (q : Quiver) where
   sum-left None at (Some s) after h w path = absurd path
   sum-left (Some before) at (Some s) after h w path = go (same_ends before s) h
     where
-      go : (b : Bool) → cond b (Ok (Some before)) (Err (SumMismatch at before s)) ≡ Ok after → IsPathOf after w
+      go : (b : Bool) → cond b (Ok (Some before)) (Err (sum_mismatch at before s)) ≡ Ok after → IsPathOf after w
       go true k = subst (λ t. IsPathOf t w) (same_value (Some before) after k) path
       go false k = absurd (no_fault after _ k)
 
@@ -62,7 +61,7 @@ module _ (q : Quiver) where
   sum-right None at (Some s) after h w path = subst (λ t. IsPathOf t w) (same_value (Some s) after h) path
   sum-right (Some before) at (Some s) after h w path = go (same_ends before s) refl h
     where
-      go : (b : Bool) → same_ends before s ≡ b → cond b (Ok (Some before)) (Err (SumMismatch at before s)) ≡ Ok after → IsPathOf after w
+      go : (b : Bool) → same_ends before s ≡ b → cond b (Ok (Some before)) (Err (sum_mismatch at before s)) ≡ Ok after → IsPathOf after w
       go true e k = subst (λ t. IsPathOf t w) (ap Some (sym (same_from_ends before s e)) ∙ same_value (Some before) after k) path
       go false e k = absurd (no_fault after _ k)
 
@@ -131,7 +130,7 @@ module _ (q : Quiver) where
 
       fits : (v : Poly) → product_result product p ≡ Ok v → (right : Sig) → Words (IsPathOf (Some right)) p
           → ((next : Sig) → Words (IsPathOf (Some next)) v → signatures.product_from (Ok (Some next)) parts ≡ Ok o → Words (IsPathOf o) r)
-          → (b : Bool) → nat_eq left.source.0 right.target.0 ≡ b → signatures.product_from (cond b (Ok (Some (from_to right.source.0 left.target.0))) (Err (NotComposable part.0 left right))) parts ≡ Ok o → Words (IsPathOf o) r
+          → (b : Bool) → nat_eq left.source.0 right.target.0 ≡ b → signatures.product_from (cond b (Ok (Some (from_to right.source.0 left.target.0))) (Err (not_composable part.0 left right))) parts ≡ Ok o → Words (IsPathOf o) r
       fits v product_is right factor more true meet rest =
           let next = from_to right.source.0 left.target.0 in
           more next (words-product (IsPathOf (Some left)) (IsPathOf (Some right)) (IsPathOf (Some next)) (joined right (eqb-true left.source.0 right.target.0 meet)) product p v h factor product_is) rest
@@ -168,7 +167,7 @@ module _ (q : Quiver) where
       joined : s.source.0 ≡ s.target.0 → IsPathOf (Some s) v → IsPathOf (Some s) w → IsPathOf (Some s) (v ++ w)
       joined meet on_left on_right = path-append s.source.0 s.source.0 s.target.0 v w on_left (subst (λ x. is_path q s.source.0 x w ≡ true) (sym meet) on_right)
 
-      go : (b : Bool) → nat_eq s.source.0 s.target.0 ≡ b → cond b (Ok (Some s)) (Err (NotComposable caret s s)) ≡ Ok o → IsPathOf o (v ++ w)
+      go : (b : Bool) → nat_eq s.source.0 s.target.0 ≡ b → cond b (Ok (Some s)) (Err (not_composable caret s s)) ≡ Ok o → IsPathOf o (v ++ w)
       go true meet r =
           let same = same_value (Some s) o r in
           let back = λ (x : List ℕ) (path : IsPathOf o x). subst (λ t. IsPathOf t x) (sym same) path in
@@ -179,7 +178,7 @@ module _ (q : Quiver) where
   repeated-same first caret None o e = absurd (no_fault o _ e)
   repeated-same first caret (Some s) o e = go (nat_eq s.source.0 s.target.0) e
     where
-      go : (b : Bool) → cond b (Ok (Some s)) (Err (NotComposable caret s s)) ≡ Ok o → Some s ≡ o
+      go : (b : Bool) → cond b (Ok (Some s)) (Err (not_composable caret s s)) ≡ Ok o → Some s ≡ o
       go true r = same_value (Some s) o r
       go false r = absurd (no_fault o _ r)
 

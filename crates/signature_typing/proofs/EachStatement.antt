@@ -6,7 +6,7 @@ use Rattle.std.specs.Option.{option_or, option_map}
 use Rattle.definitions.specs.Poly.{Poly}
 use Rattle.definitions.specs.Quiver.{IsQuiver}
 use Rattle.definitions.proofs.UnitSound.{all-append}
-use Rattle.signature_typing.specs.Types.{PolyFault, polynomial, Spot, Statement, Equation, NameFault, name, SignatureFault, signature, Parts, Problem}
+use Rattle.signature_typing.specs.Types.{PolyFault, polynomial, Spot, Statement, Equation, Placed, SignatureFault, Parts, Problem}
 use Rattle.signature_typing.specs.Types.{TypeFault}
 use Rattle.nc_polynomial.specs.Faults as poly
 use Rattle.nc_polynomial.specs.Shape.{IsCanonical}
@@ -48,22 +48,13 @@ told-first : {A : Type 0} (f : A → Option TypeFault) → ((x : A) → IsTold (
 told-first f h [] = tt
 told-first f h (x ∷ xs) = told-or (f x) (first_among f xs) (h x) (told-first f h xs)
 
--- of names
-told-name : (f : NameFault) → IsMemory (told_name f) → ⊥
-told-name (name.Unknown at) = λ m. m
-told-name f = λ m. m
-
 -- of signatures
-told-signature : (ds : List Declaration) (f : SignatureFault) → IsMemory (told_signature ds f) → ⊥
-told-signature ds (signature.OpenZero at) = λ m. m
-told-signature ds f = λ m. m
-
 told-signatures : (ds : List Declaration) (e : Equation) → IsTold (signature_fault ds e)
 told-signatures ds e = go (signature_in ds e)
   where
     go : {A : Type 0} (r : Result A SignatureFault) → IsTold (fault_in (told_signature ds) r)
     go (Ok x) = tt
-    go (Err f) = told-signature ds f
+    go (Err f) = λ m. m
 
 -- of arithmetic
 told-arithmetic : (at : Spot) (f : PolyFault) → (poly.IsMemory f → ⊥) → IsMemory (told_polynomial at f) → ⊥
@@ -159,12 +150,12 @@ module _ (statements : List Statement) (clean : name_fault_of statements ≡ Non
         )
 
 -- no fault of a file is want of memory
-file_told : (statements : List Statement) (o : Option NameFault) → name_fault_of statements ≡ o
+file_told : (statements : List Statement) (o : Option Placed) → name_fault_of statements ≡ o
     → IsTold (option_or (option_map told_name o) (equation_fault (declarations_of statements) statements))
 file_told statements None clean = told statements clean
-file_told statements (Some f) is = told-name f
+file_told statements (Some f) is = λ m. m
 
-no_name_fault : (o : Option NameFault) (p : Option TypeFault) → option_or (option_map told_name o) p ≡ None → o ≡ None
+no_name_fault : (o : Option Placed) (p : Option TypeFault) → option_or (option_map told_name o) p ≡ None → o ≡ None
 no_name_fault None p fine = refl
 no_name_fault (Some f) p fine = absurd cc
 

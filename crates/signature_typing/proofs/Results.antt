@@ -15,7 +15,7 @@ use Rattle.nc_polynomial.specs.Terms.{scaled, products, negated, added, sums}
 use Rattle.nc_polynomial.specs.Faults.{unless_overflow, finished, sized, size_fault, has_long_word, IsMemory}
 use Rattle.nc_polynomial.specs.Arithmetic.{sum_result, difference_result, multiple_result, combined}
 use Rattle.nc_polynomial.specs.Collected.{collected, additions}
-use Rattle.nc_polynomial.specs.Product.{and_then, product_step, product_result}
+use Rattle.nc_polynomial.specs.Product.{product_step, product_result}
 use Rattle.nc_polynomial.specs.Product as product
 use Rattle.nc_polynomial.specs.Shape.{IsShaped, IsCanonical}
 use Rattle.nc_polynomial.proofs.Around.{shaped-between}

@@ -16,10 +16,9 @@ use Rattle.quiver.specs.Declarations.{Declaration, quiver_of}
 use Rattle.quiver.proofs.Identities.{is_quiver}
 use Rattle.statement_syntax.specs.declared.tree.Sum.{Sum}
 use Rattle.abbreviations.specs.Occurrences.{has_quote}
-use Rattle.expressions.specs.declared.fault.SignatureFault.TheVariants.{SumMismatch}
 use Rattle.expressions.specs.Results.{◌>>=◌}
 use Rattle.expressions.specs.Signatures as signatures
-use Rattle.expressions.specs.Signatures.{same_ends, sides_signature, sum_at}
+use Rattle.expressions.specs.Signatures.{sum_mismatch, same_ends, sides_signature, sum_at}
 use Rattle.expressions.specs.Polynomials as polynomials
 use Rattle.expressions.proofs.Sequences.{bound, same_value}
 use Rattle.expressions.proofs.TypedParts.{no_fault, same_from_ends}
@@ -160,7 +159,7 @@ module _ {Object Arrow : Type 0} {s : Structure Object Arrow} (laws : Preadditiv
           (left_alone laws q f rep i.source.0 i.target.0 d.source_below d.target_below m n p (sum_value r left) (sum_value r right) d.same h.0 h.1 x)
       go (Some i) (Some j) k m n d h x = fits (same_ends i j) refl k
         where
-          fits : (b : Bool) → same_ends i j ≡ b → cond b (Ok i) (Err (SumMismatch (sum_at right) i j)) ≡ Ok e → HasValueZero s q f p ↔ Holds r left right
+          fits : (b : Bool) → same_ends i j ≡ b → cond b (Ok i) (Err (sum_mismatch (sum_at right) i j)) ≡ Ok e → HasValueZero s q f p ↔ Holds r left right
           fits true same y =
               let here : DenotesAt s q f i n (sum_value r right) = subst (λ t. DenotesAt s q f t n (sum_value r right)) (sym (same_from_ends i j same)) h in
               both_ways (other_way (at i (same_value i e y) d.source_below d.target_below))

@@ -17,8 +17,7 @@ use Rattle.statement_tokens.specs.declared.place.Spot.{Spot}
 use Rattle.statement_syntax.specs.declared.tree.Mark.{Mark}
 use Rattle.statement_syntax.specs.declared.tree.Mark.TheVariants.{Adjoint, Power}
 use Rattle.abbreviations.specs.Occurrences.{is_adjoint}
-use Rattle.expressions.specs.declared.fault.SignatureFault.TheVariants.{NotComposable}
-use Rattle.expressions.specs.Signatures.{turned, is_repeated, repeated, mark_signature, marked_signature}
+use Rattle.expressions.specs.Signatures.{not_composable, turned, is_repeated, repeated, mark_signature, marked_signature}
 use Rattle.expressions.specs.Polynomials.{product_from, product_poly, power_poly, mark_poly, marked_poly}
 use Rattle.expressions.proofs.Sequences.{bound, same_value}
 use Rattle.expressions.proofs.TypedParts.{no_fault}
@@ -111,7 +110,7 @@ module _ {Object Arrow : Type 0} (r : Reading Object Arrow) (laws : PreadditiveL
   denotes-power first caret (pos (suc (suc n))) None o' p x a d m e = absurd (no_fault o' _ m)
   denotes-power first caret (pos (suc (suc n))) (Some i) o' p x a d m e = go (nat_eq i.source.0 i.target.0) refl m
     where
-      go : (b : Bool) → nat_eq i.source.0 i.target.0 ≡ b → cond b (Ok (Some i)) (Err (NotComposable caret i i)) ≡ Ok o' → Denotes s q f o' x (option_map (power s (pos (suc (suc n)))) a)
+      go : (b : Bool) → nat_eq i.source.0 i.target.0 ≡ b → cond b (Ok (Some i)) (Err (not_composable caret i i)) ≡ Ok o' → Denotes s q f o' x (option_map (power s (pos (suc (suc n)))) a)
       go true meet k = subst (λ t. Denotes s q f t x (option_map (power s (pos (suc (suc n)))) a)) (same_value (Some i) o' k) (repeated-loop n i (eqb-true i.source.0 i.target.0 meet) p x a d e)
       go false meet k = absurd (no_fault o' _ k)
 

@@ -8,9 +8,8 @@ use Rattle.nc_polynomial.specs.Product.{product_result}
 use Rattle.nc_polynomial.proofs.Products.{product_value}
 use Rattle.quiver.specs.declared.named.Sig.{Sig}
 use Rattle.expressions.specs.declared.fault.SignatureFault.{SignatureFault}
-use Rattle.expressions.specs.declared.fault.SignatureFault.TheVariants.{NotComposable}
 use Rattle.expressions.specs.Signatures as signatures
-use Rattle.expressions.specs.Signatures.{Part, from_to}
+use Rattle.expressions.specs.Signatures.{not_composable, Part, from_to}
 use Rattle.expressions.specs.Polynomials as polynomials
 use Rattle.expressions.proofs.Sequences.{bound, same_value}
 use Rattle.expressions.proofs.TypedParts.{no_fault}
@@ -69,7 +68,7 @@ module _ {Object Arrow : Type 0} {s : Structure Object Arrow} (laws : Preadditiv
   fitting left part parts p v o {X} d m then = first part.1 d m then
     where
       second : (right : Sig) → DenotesAt s q f right p v → (b : Bool) → nat_eq left.source.0 right.target.0 ≡ b
-          → signatures.product_from (cond b (Ok (Some (from_to right.source.0 left.target.0))) (Err (NotComposable part.0 left right))) parts ≡ Ok o
+          → signatures.product_from (cond b (Ok (Some (from_to right.source.0 left.target.0))) (Err (not_composable part.0 left right))) parts ≡ Ok o
           → ((right : Sig) → left.source.0 ≡ right.target.0 → DenotesAt s q f right p v → signatures.product_from (Ok (Some (from_to right.source.0 left.target.0))) parts ≡ Ok o → X) → X
       second right k true meet r then = then right (eqb-true left.source.0 right.target.0 meet) k r
       second right k false meet r then = absurd (no_fault o _ (sym (product_from-fault _ parts) ∙ r))

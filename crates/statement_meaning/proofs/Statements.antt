@@ -15,7 +15,7 @@ use Rattle.abbreviations.specs.Written.{equations_of, assumptions_of, claims_in,
 use Rattle.expressions.specs.declared.fault.SignatureFault.{SignatureFault}
 use Rattle.adjoint_rules.specs.declared.problem.Problem.{Problem}
 use Rattle.adjoint_rules.specs.Problem.{polynomials}
-use Rattle.statement_names.specs.declared.fault.NameFault.{NameFault}
+use Rattle.statement_tokens.specs.declared.fault.Placed.{Placed}
 use Rattle.statement_names.specs.Faults.{name_fault_of}
 use Rattle.statement_names.specs.Numbered.{declarations_of}
 use Rattle.statement_names.specs.Starred.{is_starred}
@@ -91,7 +91,7 @@ module _ (statements : List Statement) (fine : fault_of statements ≡ None) whe
   clean : name_fault_of statements ≡ None
   clean = go (name_fault_of statements) fine
     where
-      go : (o : Option NameFault) → option_or (option_map told_name o) (equation_fault (declarations_of statements) statements) ≡ None → o ≡ None
+      go : (o : Option Placed) → option_or (option_map told_name o) (equation_fault (declarations_of statements) statements) ≡ None → o ≡ None
       go None h = refl
       go (Some x) h = absurd cc
 

@@ -11,9 +11,8 @@ use Rattle.nc_polynomial.specs.Terms.{negated}
 use Rattle.nc_polynomial.proofs.Units.{sum_value}
 use Rattle.quiver.specs.declared.named.Sig.{Sig}
 use Rattle.expressions.specs.declared.fault.SignatureFault.{SignatureFault}
-use Rattle.expressions.specs.declared.fault.SignatureFault.TheVariants.{SumMismatch}
 use Rattle.expressions.specs.Signatures as signatures
-use Rattle.expressions.specs.Signatures.{Part, same_ends}
+use Rattle.expressions.specs.Signatures.{sum_mismatch, Part, same_ends}
 use Rattle.expressions.specs.Polynomials as polynomials
 use Rattle.expressions.specs.Polynomials.{Summand, signed}
 use Rattle.expressions.proofs.Sequences.{bound, same_value}
@@ -102,7 +101,7 @@ module _ {Object Arrow : Type 0} {s : Structure Object Arrow} (laws : Preadditiv
             (later.0, subst (λ p. Adds e (p ++ summed ss) (plus s v (total_value s vs))) (sym d.0) (subst (λ a. Adds e (summed ss) (plus s a (total_value s vs))) (sym d.1) later.1))
         go (Some x) d k more = fits (same_ends e x) refl k
           where
-            fits : (b : Bool) → same_ends e x ≡ b → signatures.sum_from (cond b (Ok (Some e)) (Err (SumMismatch part.0 e x))) parts ≡ Ok o
+            fits : (b : Bool) → same_ends e x ≡ b → signatures.sum_from (cond b (Ok (Some e)) (Err (sum_mismatch part.0 e x))) parts ≡ Ok o
                 → (o ≡ Some e) × Adds e (signed t ++ summed ss) (plus s v (total_value s vs))
             fits true same r =
                 let later = more r in
