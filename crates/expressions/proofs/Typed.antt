@@ -1,5 +1,5 @@
 -- The words of an expression's polynomial are paths of its signature, and it has none where the expression is open.
-use Rattle.std.proofs.Common.{◌≡◌, ◌<◌, ℕ, ℤ, pos, Bool, true, false, cond, List, [], ◌∷◌, Option, Some, None, Ok, Err, refl, sym, subst, ◌∙◌}
+use Rattle.std.proofs.Common.{◌≡◌, ◌<◌, ℕ, ℤ, pos, true, List, [], ◌∷◌, Option, Some, None, Ok, refl, sym, subst, ◌∙◌}
 use Rattle.std.proofs.lemmas.Bool.{and_parts}
 use Rattle.std.proofs.lemmas.List.Elements.{All-replicate}
 use Rattle.definitions.specs.Poly.{Poly}
@@ -20,14 +20,14 @@ use Rattle.statement_syntax.specs.declared.tree.Sum.{Sum, Sum', Row_of-Term, end
 use Rattle.expressions.specs.Results.{◌>>=◌}
 use Rattle.abbreviations.specs.Names.{is_map, is_object, letter_number, object_number, letter_of, object_of, are_names, are_names_of_terms, are_names_of_term, are_names_of_factors, are_names_of_primary}
 use Rattle.expressions.specs.Signatures as signatures
-use Rattle.expressions.specs.Signatures.{sum_mismatch, Part, from_to, letter_signature, same_ends, marked_signature, sides_signature, equation_signature, sum_at}
+use Rattle.expressions.specs.Signatures.{Part, from_to, letter_signature, marked_signature, sides_signature, equation_signature, sum_at}
 use Rattle.expressions.specs.Polynomials as polynomials
 use Rattle.expressions.specs.Polynomials.{letter_poly, marked_poly, scaled_by, Summand, equation_poly}
 use Rattle.expressions.specs.Laws.{EquationsAreTyped}
 use Rattle.expressions.proofs.Sequences.{bound, same_value}
 use Rattle.expressions.proofs.Words.{Words, weaker, words-difference}
 use Rattle.expressions.proofs.Letters.{words-scaled_by}
-use Rattle.expressions.proofs.TypedParts.{no_fault, same_from_ends, IsPathOf, path-letter, AreSummands, typed-total, AreFactors, typed-product, typed-marked}
+use Rattle.expressions.proofs.TypedParts.{same_passed, IsPathOf, path-letter, AreSummands, typed-total, AreFactors, typed-product, typed-marked}
 
 module _ (ds : List Declaration) (declared : IsDeclared ds) (first : ObjectsFirst ds) where
   abbrev q : Quiver
@@ -116,20 +116,12 @@ module _ (ds : List Declaration) (declared : IsDeclared ds) (first : ObjectsFirs
   side-left : (l r : Spot) (s t : Option Sig) (e : Sig) → sides_signature l r s t ≡ Ok e → (w : List ℕ) → IsPathOf q s w → IsPathOf q (Some e) w
   side-left l r None t e h w path = absurd path
   side-left l r (Some s) None e h w path = subst (λ x. IsPathOf q (Some x) w) (same_value s e h) path
-  side-left l r (Some s) (Some t) e h w path = go (same_ends s t) h
-    where
-      go : (b : Bool) → cond b (Ok s) (Err (sum_mismatch r s t)) ≡ Ok e → IsPathOf q (Some e) w
-      go true k = subst (λ x. IsPathOf q (Some x) w) (same_value s e k) path
-      go false k = absurd (no_fault e _ k)
+  side-left l r (Some s) (Some t) e h w path = subst (λ x. IsPathOf q (Some x) w) (same_passed s t _ _ _ h).1 path
 
   side-right : (l r : Spot) (s t : Option Sig) (e : Sig) → sides_signature l r s t ≡ Ok e → (w : List ℕ) → IsPathOf q t w → IsPathOf q (Some e) w
   side-right l r s None e h w path = absurd path
   side-right l r None (Some t) e h w path = subst (λ x. IsPathOf q (Some x) w) (same_value t e h) path
-  side-right l r (Some s) (Some t) e h w path = go (same_ends s t) refl h
-    where
-      go : (b : Bool) → same_ends s t ≡ b → cond b (Ok s) (Err (sum_mismatch r s t)) ≡ Ok e → IsPathOf q (Some e) w
-      go true same k = subst (λ x. IsPathOf q (Some x) w) (sym (same_from_ends s t same) ∙ same_value s e k) path
-      go false same k = absurd (no_fault e _ k)
+  side-right l r (Some s) (Some t) e h w path = let both = same_passed s t _ _ _ h in subst (λ x. IsPathOf q (Some x) w) (sym both.0 ∙ both.1) path
 
   typed-equation : (left right : Sum) → are_names ds left ≡ true → are_names ds right ≡ true → (e : Sig) → equation_signature ds left right ≡ Ok e → (p : Poly) → equation_poly ds left right ≡ Ok p → Typed (Some e) p
   typed-equation left right left_names right_names e h p d =

@@ -13,7 +13,7 @@ use expressions::{SignatureFault, equation_signature};
 use lists::Text;
 use quiver::{Quiver, Sig};
 use statement_syntax::Sum;
-use statement_tokens::{Placed, Spot};
+use statement_tokens::Spot;
 use std::alloc::{AllocError, Global};
 
 // The names of the source and the target.
@@ -35,10 +35,7 @@ fn signature_fault(
     requires { HasFaultObjects quiver.now fault }
     ensures { IfOk result (λ told. told ≡ told_signature quiver.now fault) }
 {
-    let placed = Placed {
-        fault: fault.fault,
-        at: fault.at,
-    };
+    let placed = fault.fault.at(fault.at);
     let Some((left, right)) = fault.sides else {
         return Ok(told(placed, None, None));
     };

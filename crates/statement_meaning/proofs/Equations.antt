@@ -1,5 +1,5 @@
 -- The polynomial of an equation is zero exactly where both sides have the same value.
-use Rattle.std.proofs.Common.{◌≡◌, ℕ, ◌<◌, negsuc, Bool, true, false, cond, ◌||◌, ◌↔◌, List, [], Option, Some, None, Ok, Err, refl, sym, ap, ap₂, subst, ◌∙◌, true≢false, eqb, eqb-true, eq-eqb}
+use Rattle.std.proofs.Common.{◌≡◌, ℕ, ◌<◌, negsuc, Bool, true, false, ◌||◌, ◌↔◌, List, [], Option, Some, None, Ok, refl, sym, ap, ap₂, subst, ◌∙◌, true≢false, eqb, eqb-true, eq-eqb}
 use Rattle.definitions.specs.Category.{Structure, IsArrow, PreadditiveLaws}
 use Rattle.definitions.specs.Poly.{Poly, poly_sum, poly_multiple}
 use Rattle.definitions.specs.Quiver.{Quiver, is_path, IsTyped}
@@ -18,10 +18,10 @@ use Rattle.statement_syntax.specs.declared.tree.Sum.{Sum}
 use Rattle.abbreviations.specs.Occurrences.{has_quote}
 use Rattle.expressions.specs.Results.{◌>>=◌}
 use Rattle.expressions.specs.Signatures as signatures
-use Rattle.expressions.specs.Signatures.{sum_mismatch, same_ends, sides_signature, sum_at}
+use Rattle.expressions.specs.Signatures.{sides_signature, sum_at}
 use Rattle.expressions.specs.Polynomials as polynomials
 use Rattle.expressions.proofs.Sequences.{bound, same_value}
-use Rattle.expressions.proofs.TypedParts.{no_fault, same_from_ends}
+use Rattle.expressions.proofs.TypedParts.{no_fault, same_passed}
 use Rattle.expressions.proofs.Typed.{equations_are_typed}
 use Rattle.expressions.proofs.Letters.{left_of, right_of}
 use Rattle.statement_meaning.specs.Values.{Reading, sum_value, AreSame, Holds}
@@ -157,14 +157,11 @@ module _ {Object Arrow : Type 0} {s : Structure Object Arrow} (laws : Preadditiv
       go (Some i) None k m n d h x =
           both_ways (other_way (at i (same_value i e k) d.source_below d.target_below))
           (left_alone laws q f rep i.source.0 i.target.0 d.source_below d.target_below m n p (sum_value r left) (sum_value r right) d.same h.0 h.1 x)
-      go (Some i) (Some j) k m n d h x = fits (same_ends i j) refl k
-        where
-          fits : (b : Bool) → same_ends i j ≡ b → cond b (Ok i) (Err (sum_mismatch (sum_at right) i j)) ≡ Ok e → HasValueZero s q f p ↔ Holds r left right
-          fits true same y =
-              let here : DenotesAt s q f i n (sum_value r right) = subst (λ t. DenotesAt s q f t n (sum_value r right)) (sym (same_from_ends i j same)) h in
-              both_ways (other_way (at i (same_value i e y) d.source_below d.target_below))
-              (sides laws q f rep i.source.0 i.target.0 d.source_below d.target_below m n p (sum_value r left) (sum_value r right) d.same here.same x)
-          fits false same y = absurd (no_fault e _ y)
+      go (Some i) (Some j) k m n d h x =
+          let both = same_passed i j _ _ _ k in
+          let here : DenotesAt s q f i n (sum_value r right) = subst (λ t. DenotesAt s q f t n (sum_value r right)) (sym both.0) h in
+          both_ways (other_way (at i both.1 d.source_below d.target_below))
+          (sides laws q f rep i.source.0 i.target.0 d.source_below d.target_below m n p (sum_value r left) (sum_value r right) d.same here.same x)
 
 pub equations_are_read : {Object Arrow : Type 0} {s : Structure Object Arrow} → PreadditiveLaws s → EquationsAreRead s
 equations_are_read laws involution ds left right e p f equation unmarked rep =

@@ -1,5 +1,5 @@
 -- The value of a factor with quotes and carets.
-use Rattle.std.proofs.Common.{◌≡◌, ℕ, zero, suc, ◌<◌, ℤ, pos, negsuc, Bool, true, false, cond, nat_eq, List, [], ◌∷◌, replicate, Option, Some, None, Ok, Err, sym, refl, ap, subst, ◌∙◌, eqb-true}
+use Rattle.std.proofs.Common.{◌≡◌, ℕ, zero, suc, ◌<◌, ℤ, pos, negsuc, true, cond, List, [], ◌∷◌, replicate, Option, Some, None, Ok, sym, refl, ap, subst, ◌∙◌}
 use Rattle.std.specs.Option.{option_map}
 use Rattle.std.specs.List.{list_any}
 use Rattle.definitions.specs.Category.{Structure, IsArrow, PreadditiveLaws}
@@ -17,10 +17,10 @@ use Rattle.statement_tokens.specs.declared.place.Spot.{Spot}
 use Rattle.statement_syntax.specs.declared.tree.Mark.{Mark}
 use Rattle.statement_syntax.specs.declared.tree.Mark.TheVariants.{Adjoint, Power}
 use Rattle.abbreviations.specs.Occurrences.{is_adjoint}
-use Rattle.expressions.specs.Signatures.{not_composable, turned, is_repeated, repeated, mark_signature, marked_signature}
+use Rattle.expressions.specs.Signatures.{turned, is_repeated, repeated, mark_signature, marked_signature}
 use Rattle.expressions.specs.Polynomials.{product_from, product_poly, power_poly, mark_poly, marked_poly}
 use Rattle.expressions.proofs.Sequences.{bound, same_value}
-use Rattle.expressions.proofs.TypedParts.{no_fault}
+use Rattle.expressions.proofs.TypedParts.{no_fault, meets_passed}
 use Rattle.expressions.proofs.Words.{words-collection, words-adjoint}
 use Rattle.expressions.proofs.Letters.{left_of, right_of}
 use Rattle.statement_meaning.specs.Values.{Reading, iterated, power, marked, marks_value}
@@ -108,11 +108,9 @@ module _ {Object Arrow : Type 0} (r : Reading Object Arrow) (laws : PreadditiveL
   denotes-power first caret (pos (suc zero)) o o' p x a d m e = denotes-unchanged o o' p x a (power s (pos (suc zero))) (λ y. refl) d (same_value o o' m) (same_value p x e)
   denotes-power first caret (negsuc n) o o' p x a d m e = denotes-unchanged o o' p x a (power s (negsuc n)) (λ y. refl) d (same_value o o' m) (same_value p x e)
   denotes-power first caret (pos (suc (suc n))) None o' p x a d m e = absurd (no_fault o' _ m)
-  denotes-power first caret (pos (suc (suc n))) (Some i) o' p x a d m e = go (nat_eq i.source.0 i.target.0) refl m
-    where
-      go : (b : Bool) → nat_eq i.source.0 i.target.0 ≡ b → cond b (Ok (Some i)) (Err (not_composable caret i i)) ≡ Ok o' → Denotes s q f o' x (option_map (power s (pos (suc (suc n)))) a)
-      go true meet k = subst (λ t. Denotes s q f t x (option_map (power s (pos (suc (suc n)))) a)) (same_value (Some i) o' k) (repeated-loop n i (eqb-true i.source.0 i.target.0 meet) p x a d e)
-      go false meet k = absurd (no_fault o' _ k)
+  denotes-power first caret (pos (suc (suc n))) (Some i) o' p x a d m e =
+      let both = meets_passed i.source.0 i.target.0 _ _ _ m in
+      subst (λ t. Denotes s q f t x (option_map (power s (pos (suc (suc n)))) a)) both.1 (repeated-loop n i both.0 p x a d e)
 
   denotes-mark : (first : Spot) (m : Mark) → (is_adjoint m ≡ true → AdjointsAre s r.involution q f) → (o o' : Option Sig) (p x : Poly) (a : Option Arrow) → Denotes s q f o p a
       → mark_signature first m o ≡ Ok o' → mark_poly q m p ≡ Ok x → Denotes s q f o' x (option_map (marked r m) a)

@@ -1,5 +1,5 @@
 -- The value of a product is the composite of the values of its factors.
-use Rattle.std.proofs.Common.{◌≡◌, ℕ, Bool, true, false, cond, nat_eq, List, [], ◌∷◌, Option, Some, None, Ok, Err, sym, refl, ap, ap₂, subst, ◌∙◌, eqb-true}
+use Rattle.std.proofs.Common.{◌≡◌, ℕ, true, List, [], ◌∷◌, Option, Some, None, Ok, sym, refl, ap, ap₂, subst, ◌∙◌}
 use Rattle.definitions.specs.Category.{Structure, IsArrow, PreadditiveLaws}
 use Rattle.definitions.specs.Poly.{Poly}
 use Rattle.definitions.specs.Quiver.{Quiver, is_path}
@@ -7,20 +7,15 @@ use Rattle.definitions.specs.Representation.{Representation, Represents}
 use Rattle.nc_polynomial.specs.Product.{product_result}
 use Rattle.nc_polynomial.proofs.Products.{product_value}
 use Rattle.quiver.specs.declared.named.Sig.{Sig}
-use Rattle.expressions.specs.declared.fault.SignatureFault.{SignatureFault}
 use Rattle.expressions.specs.Signatures as signatures
-use Rattle.expressions.specs.Signatures.{not_composable, Part, from_to}
+use Rattle.expressions.specs.Signatures.{Part, from_to}
 use Rattle.expressions.specs.Polynomials as polynomials
 use Rattle.expressions.proofs.Sequences.{bound, same_value}
-use Rattle.expressions.proofs.TypedParts.{no_fault}
+use Rattle.expressions.proofs.TypedParts.{no_fault, joins, product_passed}
 use Rattle.expressions.proofs.Words.{words-product}
 use Rattle.statement_meaning.specs.Values.{after, composite}
 use Rattle.statement_meaning.proofs.Polynomials.{ArePaths, path-append, value_in, value-same, value-product}
 use Rattle.statement_meaning.proofs.Denoted.{value_of, DenotesAt, Denotes}
-
-product_from-fault : (x : SignatureFault) (parts : List Part) → signatures.product_from (Err x) parts ≡ Err x
-product_from-fault x [] = refl
-product_from-fault x (p ∷ parts) = product_from-fault x parts
 
 module _ {Object Arrow : Type 0} {s : Structure Object Arrow} (laws : PreadditiveLaws s) (q : Quiver) (f : Representation Object Arrow) (rep : Represents s q f) where
   -- each factor is denoted by its polynomial
@@ -65,18 +60,9 @@ module _ {Object Arrow : Type 0} {s : Structure Object Arrow} (laws : Preadditiv
   fitting : (left : Sig) (part : Part) (parts : List Part) (p : Poly) (v : Option Arrow) (o : Option Sig) {X : Type 0} → Denotes s q f part.1 p v
       → signatures.product_from (signatures.product_step (Ok (Some left)) part.0 part.1) parts ≡ Ok o
       → ((right : Sig) → left.source.0 ≡ right.target.0 → DenotesAt s q f right p v → signatures.product_from (Ok (Some (from_to right.source.0 left.target.0))) parts ≡ Ok o → X) → X
-  fitting left part parts p v o {X} d m then = first part.1 d m then
-    where
-      second : (right : Sig) → DenotesAt s q f right p v → (b : Bool) → nat_eq left.source.0 right.target.0 ≡ b
-          → signatures.product_from (cond b (Ok (Some (from_to right.source.0 left.target.0))) (Err (not_composable part.0 left right))) parts ≡ Ok o
-          → ((right : Sig) → left.source.0 ≡ right.target.0 → DenotesAt s q f right p v → signatures.product_from (Ok (Some (from_to right.source.0 left.target.0))) parts ≡ Ok o → X) → X
-      second right k true meet r then = then right (eqb-true left.source.0 right.target.0 meet) k r
-      second right k false meet r then = absurd (no_fault o _ (sym (product_from-fault _ parts) ∙ r))
-
-      first : (x : Option Sig) → Denotes s q f x p v → signatures.product_from (signatures.product_step (Ok (Some left)) part.0 x) parts ≡ Ok o
-          → ((right : Sig) → left.source.0 ≡ right.target.0 → DenotesAt s q f right p v → signatures.product_from (Ok (Some (from_to right.source.0 left.target.0))) parts ≡ Ok o → X) → X
-      first None k r then = absurd (no_fault o _ (sym (product_from-fault _ parts) ∙ r))
-      first (Some right) k r then = second right k (nat_eq left.source.0 right.target.0) refl r then
+  fitting left part parts p v o d m then =
+      let next = joins left part parts o m in
+      then next.right next.meet (subst (λ x. Denotes s q f x p v) next.is d) next.rest
 
   pub follows : (left : Sig) (part : Part) (parts : List Part) (p : Poly) (ps : List Poly) (v : Option Arrow) (vs : List (Option Arrow)) (o : Option Sig)
       → AreFactors (part ∷ parts) (p ∷ ps) (v ∷ vs) → signatures.product_from (Ok (Some left)) (part ∷ parts) ≡ Ok o → Follows left o (composite s (v ∷ vs))
@@ -159,5 +145,5 @@ module _ {Object Arrow : Type 0} {s : Structure Object Arrow} (laws : Preadditiv
   denotes-product (part ∷ next ∷ parts) (p ∷ x ∷ ps) (v ∷ w ∷ vs) o r h m e = go part.1 m h.0
     where
       go : (left : Option Sig) → signatures.product_from (signatures.product_step (Ok None) part.0 left) (next ∷ parts) ≡ Ok o → Denotes s q f left p v → Denotes s q f o r (composite s (v ∷ w ∷ vs))
-      go None y k = absurd (no_fault o _ (sym (product_from-fault _ (next ∷ parts)) ∙ y))
+      go None y k = absurd (no_fault _ _ (product_passed _ (next ∷ parts) o y).1)
       go (Some left) y k = denotes-product_from left p v (next ∷ parts) (x ∷ ps) (w ∷ vs) o r k h.1 y e

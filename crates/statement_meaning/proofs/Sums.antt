@@ -1,5 +1,5 @@
 -- The value of a sum is the sum of the values of its terms.
-use Rattle.std.proofs.Common.{◌≡◌, ◌<◌, Bool, true, false, cond, List, [], ◌∷◌, ◌++◌, Option, Some, None, Ok, Err, ◌⊎◌, inl, inr, sym, refl, ap, subst, ◌∙◌}
+use Rattle.std.proofs.Common.{◌≡◌, ◌<◌, true, false, List, [], ◌∷◌, ◌++◌, Option, Some, None, Ok, ◌⊎◌, inl, inr, sym, refl, ap, subst, ◌∙◌}
 use Rattle.std.proofs.lemmas.List.{append-nil, append_assoc}
 use Rattle.std.proofs.lemmas.List.Elements.{All-nil, All-append}
 use Rattle.definitions.specs.Category.{Structure, PreadditiveLaws}
@@ -10,13 +10,12 @@ use Rattle.definitions.proofs.Coefficients.{Same_refl, Same_trans, SamePolynomia
 use Rattle.nc_polynomial.specs.Terms.{negated}
 use Rattle.nc_polynomial.proofs.Units.{sum_value}
 use Rattle.quiver.specs.declared.named.Sig.{Sig}
-use Rattle.expressions.specs.declared.fault.SignatureFault.{SignatureFault}
 use Rattle.expressions.specs.Signatures as signatures
-use Rattle.expressions.specs.Signatures.{sum_mismatch, Part, same_ends}
+use Rattle.expressions.specs.Signatures.{Part}
 use Rattle.expressions.specs.Polynomials as polynomials
 use Rattle.expressions.specs.Polynomials.{Summand, signed}
 use Rattle.expressions.proofs.Sequences.{bound, same_value}
-use Rattle.expressions.proofs.TypedParts.{no_fault, same_from_ends}
+use Rattle.expressions.proofs.TypedParts.{same_passed, sum_passed}
 use Rattle.statement_meaning.specs.Values.{plus}
 use Rattle.statement_meaning.proofs.Polynomials.{ArePaths, value-sum}
 use Rattle.statement_meaning.proofs.Denoted.{value_of, DenotesAt, Denotes}
@@ -46,10 +45,6 @@ sum_is sum (t ∷ ss) r e =
 pub total_is : (ss : List Summand) (r : Poly) → polynomials.total ss ≡ Ok r → SamePolynomial r (summed ss)
 total_is [] r e = subst (λ x. SamePolynomial r x) (sym (same_value [] r e)) (Same_refl r)
 total_is (t ∷ ss) r e = sum_is (signed t) ss r e
-
-sum_from-fault : (x : SignatureFault) (parts : List Part) → signatures.sum_from (Err x) parts ≡ Err x
-sum_from-fault x [] = refl
-sum_from-fault x (p ∷ parts) = sum_from-fault x parts
 
 module _ {Object Arrow : Type 0} {s : Structure Object Arrow} (laws : PreadditiveLaws s) (q : Quiver) (f : Representation Object Arrow) (rep : Represents s q f) where
   -- each term is denoted by its signed polynomial
@@ -99,14 +94,11 @@ module _ {Object Arrow : Type 0} {s : Structure Object Arrow} (laws : Preadditiv
         go None d k more =
             let later = more k in
             (later.0, subst (λ p. Adds e (p ++ summed ss) (plus s v (total_value s vs))) (sym d.0) (subst (λ a. Adds e (summed ss) (plus s a (total_value s vs))) (sym d.1) later.1))
-        go (Some x) d k more = fits (same_ends e x) refl k
-          where
-            fits : (b : Bool) → same_ends e x ≡ b → signatures.sum_from (cond b (Ok (Some e)) (Err (sum_mismatch part.0 e x))) parts ≡ Ok o
-                → (o ≡ Some e) × Adds e (signed t ++ summed ss) (plus s v (total_value s vs))
-            fits true same r =
-                let later = more r in
-                (later.0, adds (signed t) (summed ss) v (total_value s vs) (subst (λ y. DenotesAt s q f y (signed t) v) (sym (same_from_ends e x same)) d) later.1)
-            fits false same r = absurd (no_fault o _ (sym (sum_from-fault _ parts) ∙ r))
+        go (Some x) d k more =
+            let next = sum_passed (signatures.sum_step (Ok (Some e)) part.0 (Some x)) parts o k in
+            let both = same_passed e x _ _ _ next.1 in
+            let later = more (ap (λ t. signatures.sum_from (Ok t) parts) both.1 ∙ next.2) in
+            (later.0, adds (signed t) (summed ss) v (total_value s vs) (subst (λ y. DenotesAt s q f y (signed t) v) (sym both.0) d) later.1)
 
   -- a sum whose terms are denoted is denoted by its terms one after another
   pub denotes-summed : (parts : List Part) (ss : List Summand) (vs : List (Option Arrow)) (o : Option Sig) → AreTerms parts ss vs

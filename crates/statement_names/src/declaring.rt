@@ -46,10 +46,10 @@ impl Survey {
     {
         let at = name.at;
         if self.is_declared(name) {
-            return Err(Placed { fault: Fault::Double, at });
+            return Err(Fault::Double.at(at));
         }
         let limit = OBJECT_LIMIT;
-        take_room(&mut self.objects, 1, Placed { fault: Fault::TooMany { limit }, at })
+        take_room(&mut self.objects, 1, Fault::TooMany { limit }.at(at))
     }
 
     // A map that is declared between two objects.
@@ -65,12 +65,12 @@ impl Survey {
     {
         let at = name.at;
         if self.is_declared(name) {
-            return Err(Placed { fault: Fault::Double, at });
+            return Err(Fault::Double.at(at));
         }
         let limit = self.map_limit;
-        take_room(&mut self.maps, 1, Placed { fault: Fault::TooMany { limit }, at })?;
+        take_room(&mut self.maps, 1, Fault::TooMany { limit }.at(at))?;
         if selfmade && self.are_two_objects(source, target) {
-            return Err(Placed { fault: Fault::NotSquare, at });
+            return Err(Fault::NotSquare.at(at));
         }
         Ok(())
     }

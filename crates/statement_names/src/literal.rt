@@ -26,7 +26,7 @@ pub fn check_count(most: u32, number: &Number) -> Result<(), Placed>
     if 1 <= value && value <= u128::from(most) {
         return Ok(());
     }
-    Err(Placed { fault: Fault::BadNumber, at: number.at })
+    Err(Fault::BadNumber.at(number.at))
 }
 
 /// Refuses a literal that is no modulus of shapes.
@@ -36,5 +36,5 @@ pub fn check_modulus(number: &Number) -> Result<(), Placed>
     if is_field_modulus(value_of(number)) {
         return Ok(());
     }
-    Err(Placed { fault: Fault::BadNumber, at: number.at })
+    Err(Fault::BadNumber.at(number.at))
 }

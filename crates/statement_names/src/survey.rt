@@ -93,7 +93,10 @@ impl Survey {
         ensures answer { result_err result ≡ fault_at self.old (begins_assumptions count at) }
         ensures after { OnOk result (self.new ≡ behind self.old (begins_assumptions count at)) }
     {
-        let full = Placed { fault: Fault::TooMany { limit: ASSUMPTION_LIMIT }, at };
+        let full = Fault::TooMany {
+            limit: ASSUMPTION_LIMIT,
+        }
+        .at(at);
         take_room(&mut self.assumptions, count, full)
     }
 
@@ -102,7 +105,7 @@ impl Survey {
         ensures answer { result_err result ≡ fault_at self.old (begins_claim at) }
         ensures after { OnOk result (self.new ≡ behind self.old (begins_claim at)) }
     {
-        let full = Placed { fault: Fault::TooMany { limit: CLAIM_LIMIT }, at };
+        let full = Fault::TooMany { limit: CLAIM_LIMIT }.at(at);
         take_room(&mut self.claims, 1, full)
     }
 
@@ -111,7 +114,7 @@ impl Survey {
         ensures answer { result_err result ≡ fault_at self.old (begins_shape at) }
         ensures after { OnOk result (self.new ≡ behind self.old (begins_shape at)) }
     {
-        let full = Placed { fault: Fault::TooMany { limit: SHAPE_LIMIT }, at };
+        let full = Fault::TooMany { limit: SHAPE_LIMIT }.at(at);
         take_room(&mut self.shapes, 1, full)
     }
 
@@ -120,6 +123,6 @@ impl Survey {
         ensures answer { result_err result ≡ fault_at self.old (begins_order at) }
         ensures after { OnOk result (self.new ≡ behind self.old (begins_order at)) }
     {
-        take_room(&mut self.orders, 1, Placed { fault: Fault::Double, at })
+        take_room(&mut self.orders, 1, Fault::Double.at(at))
     }
 }

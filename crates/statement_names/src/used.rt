@@ -34,7 +34,7 @@ impl Survey {
         ensures { result_err result ≡ used_fault (kind_in self.now.kinds) (use_of kind name.now) }
     {
         if !self.is_of_kind(name, kind) {
-            return Err(Placed { fault: Fault::Unknown, at: name.at });
+            return Err(Fault::Unknown.at(name.at));
         }
         Ok(())
     }
@@ -54,7 +54,7 @@ impl Survey {
         self.name(name, kind)?;
         let text = name.text.as_str();
         if listed.kind_of(text).is_some() {
-            return Err(Stop::Fault(Placed { fault: Fault::Double, at: name.at }));
+            return Err(Stop::Fault(Fault::Double.at(name.at)));
         }
         listed.declare(text, kind)?;
         Ok(())

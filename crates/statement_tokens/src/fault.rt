@@ -2,7 +2,7 @@
 
 ghost use Rattle.std.specs.Prelude.{◌≡◌};
 ghost use Rattle.lists.specs.declared.stop.Stop.TheVariants as stop;
-ghost use Rattle.statement_tokens.specs.Fault.{code_of, limit_of};
+ghost use Rattle.statement_tokens.specs.Fault.{code_of, limit_of, placed};
 
 use crate::place::Spot;
 use lists::Stop;
@@ -84,6 +84,13 @@ impl Fault {
             Fault::OpenZero => 12,
             Fault::BadNumber => 16,
         }
+    }
+
+    /// The fault at this place.
+    pub fn at(self, at: Spot) -> Placed
+        ensures { result ≡ placed self at }
+    {
+        Placed { fault: self, at }
     }
 
     /// The limit that is exceeded, or 0.
