@@ -27,7 +27,7 @@ use Rattle.expressions.specs.Laws.{EquationsAreTyped}
 use Rattle.expressions.proofs.Sequences.{bound, same_value}
 use Rattle.expressions.proofs.Words.{Words, weaker, words-difference}
 use Rattle.expressions.proofs.Letters.{words-scaled_by}
-use Rattle.expressions.proofs.TypedParts.{same_passed, IsPathOf, path-letter, AreSummands, typed-total, AreFactors, typed-product, typed-marked}
+use Rattle.expressions.proofs.TypedParts.{same_passed, IsPathOf, path-letter, AreSummands, no_summand, one_summand, typed-total, AreFactors, no_factor, one_factor, typed-product, typed-marked}
 
 module _ (ds : List Declaration) (declared : IsDeclared ds) (first : ObjectsFirst ds) where
   abbrev q : Quiver
@@ -68,7 +68,7 @@ module _ (ds : List Declaration) (declared : IsDeclared ds) (first : ObjectsFirs
         typed-total q parts.value polys.value o r (typed-terms terms known parts.value parts.is polys.value polys.is) parts.then polys.then
 
     typed-terms : {m : _} (k : Row_of-Term m) → are_names_of_terms ds k ≡ true → (parts : List Part) → signatures.terms_parts ds k ≡ Ok parts → (ss : List Summand) → polynomials.summands ds k ≡ Ok ss → AreSummands q parts ss
-    typed-terms end_of-Term known parts e ss d = subst (λ x. AreSummands q x ss) (same_value [] parts e) (subst (λ y. AreSummands q [] y) (same_value [] ss d) tt)
+    typed-terms end_of-Term known parts e ss d = subst (λ x. AreSummands q x ss) (same_value [] parts e) (subst (λ y. AreSummands q [] y) (same_value [] ss d) no_summand)
     typed-terms (more_of-Term t rest) known parts e ss d =
         let names = and_parts (are_names_of_term ds t) (are_names_of_terms ds rest) known in
         let part = bound _ (λ x. signatures.terms_parts ds rest >>= λ xs. Ok (x ∷ xs)) parts e in
@@ -80,7 +80,7 @@ module _ (ds : List Declaration) (declared : IsDeclared ds) (first : ObjectsFirs
         let here : Typed signature.value poly.value = typed-term t names.0 signature.value signature.is poly.value poly.is in
         let later = typed-terms rest names.1 later_parts.value later_parts.is later_summands.value later_summands.is in
         let placed : Typed part.value.1 summand.value.1 = subst (λ x. Typed x.1 summand.value.1) (same_value _ part.value signature.then) (subst (λ y. Typed signature.value y.1) (same_value _ summand.value poly.then) here) in
-        subst (λ x. AreSummands q x ss) (same_value _ parts later_parts.then) (subst (λ y. AreSummands q (part.value ∷ later_parts.value) y) (same_value _ ss later_summands.then) (placed, later))
+        subst (λ x. AreSummands q x ss) (same_value _ parts later_parts.then) (subst (λ y. AreSummands q (part.value ∷ later_parts.value) y) (same_value _ ss later_summands.then) (one_summand _ _ _ _ placed later))
 
     typed-term : (t : Term) → are_names_of_term ds t ≡ true → (o : Option Sig) → signatures.term_signature ds t ≡ Ok o → (r : Poly) → polynomials.term_poly ds t ≡ Ok r → Typed o r
     typed-term (Term' at negative literal shape factors) known o e r d =
@@ -91,7 +91,7 @@ module _ (ds : List Declaration) (declared : IsDeclared ds) (first : ObjectsFirs
         words-scaled_by (IsPathOf q o) literal product.value r (typed-product q parts.value polys.value o product.value factor parts.then polys.then) product.then
 
     typed-factors : {m : _} (k : Row_of-Factor m) → are_names_of_factors ds k ≡ true → (parts : List Part) → signatures.factors_parts ds k ≡ Ok parts → (ps : List Poly) → polynomials.factor_polys ds k ≡ Ok ps → AreFactors q parts ps
-    typed-factors end_of-Factor known parts e ps d = subst (λ x. AreFactors q x ps) (same_value [] parts e) (subst (λ y. AreFactors q [] y) (same_value [] ps d) tt)
+    typed-factors end_of-Factor known parts e ps d = subst (λ x. AreFactors q x ps) (same_value [] parts e) (subst (λ y. AreFactors q [] y) (same_value [] ps d) no_factor)
     typed-factors (more_of-Factor at primary marks rest) known parts e ps d =
         let names = and_parts (are_names_of_primary ds primary) (are_names_of_factors ds rest) known in
         let part = bound _ (λ x. signatures.factors_parts ds rest >>= λ xs. Ok (x ∷ xs)) parts e in
@@ -105,7 +105,7 @@ module _ (ds : List Declaration) (declared : IsDeclared ds) (first : ObjectsFirs
         let marked : Typed marked_part.value poly.value = typed-marked q quiver at marks signature.value marked_part.value inner.value poly.value here signature.then inner.then in
         let placed : Typed part.value.1 poly.value = subst (λ x. Typed x.1 poly.value) (same_value _ part.value marked_part.then) marked in
         let later = typed-factors rest names.1 later_parts.value later_parts.is later_polys.value later_polys.is in
-        subst (λ x. AreFactors q x ps) (same_value _ parts later_parts.then) (subst (λ y. AreFactors q (part.value ∷ later_parts.value) y) (same_value _ ps later_polys.then) (placed, later))
+        subst (λ x. AreFactors q x ps) (same_value _ parts later_parts.then) (subst (λ y. AreFactors q (part.value ∷ later_parts.value) y) (same_value _ ps later_polys.then) (one_factor _ _ _ _ placed later))
 
     typed-primary : (x : Primary) → are_names_of_primary ds x ≡ true → (o : Option Sig) → signatures.primary_signature ds x ≡ Ok o → (r : Poly) → polynomials.primary_poly ds x ≡ Ok r → Typed o r
     typed-primary (Letter n) known o e r d = subst (λ s. Typed s r) (same_value _ o e) (subst (λ p. Typed (Some (letter_signature q (letter_of ds n))) p) (same_value _ r d) (typed-letter (named_in ds n.text) n.text refl known))

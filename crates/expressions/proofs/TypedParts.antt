@@ -106,70 +106,56 @@ module _ (q : Quiver) where
   sum-right (Some before) at (Some s) after h w path = let both = same_passed before s _ _ _ h in subst (λ t. IsPathOf t w) (ap Some (sym both.0) ∙ both.1) path
 
   -- each summand is typed as its part says
-  abbrev pub AreSummands : List Part → List Summand → Type 0
-  AreSummands [] [] = Unit {0}
-  AreSummands [] (s ∷ ss) = ⊥
-  AreSummands (p ∷ parts) [] = ⊥
-  AreSummands (p ∷ parts) (s ∷ ss) = Words (IsPathOf p.1) s.1 × AreSummands parts ss
+  pub data AreSummands : List Part → List Summand → Type 0 where
+    no_summand : AreSummands [] []
+    one_summand : (p : Part) (s : Summand) (parts : List Part) (ss : List Summand) → Words (IsPathOf p.1) s.1 → AreSummands parts ss → AreSummands (p ∷ parts) (s ∷ ss)
 
   typed-sum_from : (so_far : Option Sig) (sum : Poly) (parts : List Part) (ss : List Summand) (o : Option Sig) (r : Poly)
       → Words (IsPathOf so_far) sum → AreSummands parts ss → signatures.sum_from (Ok so_far) parts ≡ Ok o → polynomials.sum_from sum ss ≡ Ok r → Words (IsPathOf o) r
-  typed-sum_from so_far sum [] [] o r h k e d = subst (Words (IsPathOf o)) (same_value sum r d) (subst (λ t. Words (IsPathOf t) sum) (same_value so_far o e) h)
-  typed-sum_from so_far sum [] (s ∷ ss) o r h k e d = absurd k
-  typed-sum_from so_far sum (p ∷ parts) [] o r h k e d = absurd k
-  typed-sum_from so_far sum (p ∷ parts) (s ∷ ss) o r h k e d =
+  typed-sum_from so_far sum _ _ o r h no_summand e d = subst (Words (IsPathOf o)) (same_value sum r d) (subst (λ t. Words (IsPathOf t) sum) (same_value so_far o e) h)
+  typed-sum_from so_far sum _ _ o r h (one_summand p s parts ss typed k) e d =
       let step = bound (polynomials.sum_step sum s) (λ next. polynomials.sum_from next ss) r d in
       let next = sum_passed (signatures.sum_step (Ok so_far) p.0 p.1) parts o e in
       let on_left = weaker (IsPathOf so_far) (IsPathOf next.0) (sum-left so_far p.0 p.1 next.0 next.1) sum h in
-      let on_right = weaker (IsPathOf p.1) (IsPathOf next.0) (sum-right so_far p.0 p.1 next.0 next.1) s.1 k.0 in
-      typed-sum_from next.0 step.value parts ss o r (words-sum_step (IsPathOf next.0) sum s step.value on_left on_right step.is) k.1 next.2 step.then
+      let on_right = weaker (IsPathOf p.1) (IsPathOf next.0) (sum-right so_far p.0 p.1 next.0 next.1) s.1 typed in
+      typed-sum_from next.0 step.value parts ss o r (words-sum_step (IsPathOf next.0) sum s step.value on_left on_right step.is) k next.2 step.then
 
   first-sum_step : (at : Spot) (s : Option Sig) → signatures.sum_step (Ok None) at s ≡ Ok s
   first-sum_step at None = refl
   first-sum_step at (Some s) = refl
 
   pub typed-total : (parts : List Part) (ss : List Summand) (o : Option Sig) (r : Poly) → AreSummands parts ss → signatures.sum_from (Ok None) parts ≡ Ok o → polynomials.total ss ≡ Ok r → Words (IsPathOf o) r
-  typed-total [] [] o r k e d = subst (Words (IsPathOf o)) (same_value [] r d) (All-nil _)
-  typed-total [] (s ∷ ss) o r k e d = absurd k
-  typed-total (p ∷ parts) [] o r k e d = absurd k
-  typed-total (p ∷ parts) (s ∷ ss) o r k e d =
-      typed-sum_from p.1 (signed s) parts ss o r (words-signed (IsPathOf p.1) s k.0) k.1 (ap (λ x. signatures.sum_from x parts) (sym (first-sum_step p.0 p.1)) ∙ e) d
+  typed-total _ _ o r no_summand e d = subst (Words (IsPathOf o)) (same_value [] r d) (All-nil _)
+  typed-total _ _ o r (one_summand p s parts ss typed k) e d =
+      typed-sum_from p.1 (signed s) parts ss o r (words-signed (IsPathOf p.1) s typed) k (ap (λ x. signatures.sum_from x parts) (sym (first-sum_step p.0 p.1)) ∙ e) d
 
   -- a product
   -- each factor is typed as its part says
-  abbrev pub AreFactors : List Part → List Poly → Type 0
-  AreFactors [] [] = Unit {0}
-  AreFactors [] (p ∷ ps) = ⊥
-  AreFactors (part ∷ parts) [] = ⊥
-  AreFactors (part ∷ parts) (p ∷ ps) = Words (IsPathOf part.1) p × AreFactors parts ps
+  pub data AreFactors : List Part → List Poly → Type 0 where
+    no_factor : AreFactors [] []
+    one_factor : (part : Part) (p : Poly) (parts : List Part) (ps : List Poly) → Words (IsPathOf part.1) p → AreFactors parts ps → AreFactors (part ∷ parts) (p ∷ ps)
 
   typed-product_from : (left : Sig) (product : Poly) (parts : List Part) (ps : List Poly) (o : Option Sig) (r : Poly)
       → Words (IsPathOf (Some left)) product → AreFactors parts ps → signatures.product_from (Ok (Some left)) parts ≡ Ok o → polynomials.product_from product ps ≡ Ok r → Words (IsPathOf o) r
-  typed-product_from left product [] [] o r h k e d = subst (Words (IsPathOf o)) (same_value product r d) (subst (λ t. Words (IsPathOf t) product) (same_value (Some left) o e) h)
-  typed-product_from left product [] (p ∷ ps) o r h k e d = absurd k
-  typed-product_from left product (part ∷ parts) [] o r h k e d = absurd k
-  typed-product_from left product (part ∷ parts) (p ∷ ps) o r h k e d =
+  typed-product_from left product _ _ o r h no_factor e d = subst (Words (IsPathOf o)) (same_value product r d) (subst (λ t. Words (IsPathOf t) product) (same_value (Some left) o e) h)
+  typed-product_from left product _ _ o r h (one_factor part p parts ps typed k) e d =
       let step = bound (product_result product p) (λ next. polynomials.product_from next ps) r d in
       let next = joins left part parts o e in
       let right = next.right in
       let both = from_to right.source.0 left.target.0 in
-      let factor = subst (λ s. Words (IsPathOf s) p) next.is k.0 in
+      let factor = subst (λ s. Words (IsPathOf s) p) next.is typed in
       let joined : (v w : List ℕ) → IsPathOf (Some left) v → IsPathOf (Some right) w → IsPathOf (Some both) (v ++ w) =
       λ v w on_left on_right. path-append right.source.0 left.source.0 left.target.0 v w on_left (subst (λ x. is_path q right.source.0 x w ≡ true) (sym next.meet) on_right) in
-      typed-product_from both step.value parts ps o r (words-product (IsPathOf (Some left)) (IsPathOf (Some right)) (IsPathOf (Some both)) joined product p step.value h factor step.is) k.1 next.rest step.then
+      typed-product_from both step.value parts ps o r (words-product (IsPathOf (Some left)) (IsPathOf (Some right)) (IsPathOf (Some both)) joined product p step.value h factor step.is) k next.rest step.then
 
   pub typed-product : (parts : List Part) (ps : List Poly) (o : Option Sig) (r : Poly) → AreFactors parts ps → signatures.product_signature parts ≡ Ok o → polynomials.product_poly ps ≡ Ok r → Words (IsPathOf o) r
-  typed-product [] [] o r k e d = subst (Words (IsPathOf o)) (same_value [] r d) (All-nil _)
-  typed-product [] (p ∷ ps) o r k e d = absurd k
-  typed-product (part ∷ []) [] o r k e d = absurd k
-  typed-product (part ∷ []) (p ∷ []) o r k e d = subst (Words (IsPathOf o)) (same_value p r d) (subst (λ s. Words (IsPathOf s) p) (same_value part.1 o e) k.0)
-  typed-product (part ∷ []) (p ∷ x ∷ ps) o r k e d = absurd k.1
-  typed-product (part ∷ next ∷ parts) [] o r k e d = absurd k
-  typed-product (part ∷ next ∷ parts) (p ∷ ps) o r k e d = go part.1 e k.0
+  typed-product _ _ o r no_factor e d = subst (Words (IsPathOf o)) (same_value [] r d) (All-nil _)
+  typed-product _ _ o r (one_factor part p _ _ typed no_factor) e d = subst (Words (IsPathOf o)) (same_value p r d) (subst (λ s. Words (IsPathOf s) p) (same_value part.1 o e) typed)
+  typed-product _ _ o r (one_factor part p _ _ typed (one_factor next x parts ps later k)) e d = go part.1 e typed
     where
       go : (s : Option Sig) → signatures.product_from (signatures.product_step (Ok None) part.0 s) (next ∷ parts) ≡ Ok o → Words (IsPathOf s) p → Words (IsPathOf o) r
       go None rest factor = absurd (no_fault _ _ (product_passed _ (next ∷ parts) o rest).1)
-      go (Some s) rest factor = typed-product_from s p (next ∷ parts) ps o r factor k.1 rest d
+      go (Some s) rest factor = typed-product_from s p (next ∷ parts) (x ∷ ps) o r factor (one_factor next x parts ps later k) rest d
 
   -- marks
   turned-path : IsQuiver q → (s : Option Sig) (w : List ℕ) → IsPathOf s w → IsPathOf (option_map turned s) (adjoint_word q w)

@@ -38,8 +38,8 @@ use Rattle.expressions.proofs.Letters.{left_of, right_of}
 use Rattle.statement_meaning.specs.Values.{Reading, plus, composite, marks_value, scaled_value, signed_value, sum_value, terms_value, term_value, factor_values, primary_value}
 use Rattle.statement_meaning.proofs.Polynomials.{value_in, value-same, value-multiple, value-term}
 use Rattle.statement_meaning.proofs.Denoted.{value_of, Denotes}
-use Rattle.statement_meaning.proofs.Sums.{AreTerms, total_value, summed, total_is, denotes-summed}
-use Rattle.statement_meaning.proofs.Products.{AreFactors, denotes-product}
+use Rattle.statement_meaning.proofs.Sums.{AreTerms, no_term, one_term, total_value, summed, total_is, denotes-summed}
+use Rattle.statement_meaning.proofs.Products.{AreFactors, no_factor, one_factor, denotes-product}
 use Rattle.statement_meaning.proofs.Marks.{AdjointsAre, denotes-marked}
 
 module _ {Object Arrow : Type 0} (r : Reading Object Arrow) (laws : PreadditiveLaws r.category) (declared : IsDeclared r.names) (first : ObjectsFirst r.names)
@@ -172,7 +172,7 @@ module _ {Object Arrow : Type 0} (r : Reading Object Arrow) (laws : PreadditiveL
     denotes-terms : {m : _} (k : Row_of-Term m) → are_names_of_terms r.names k ≡ true → (has_quote_in_terms k ≡ true → Adjoints) → (parts : List Part) → signatures.terms_parts r.names k ≡ Ok parts
         → (ss : List Summand) → polynomials.summands r.names k ≡ Ok ss → AreTerms laws q f rep parts ss (values k)
     denotes-terms end_of-Term known adjoints parts e ss d =
-        subst (λ i. AreTerms laws q f rep i ss []) (same_value [] parts e) (subst (λ i. AreTerms laws q f rep [] i []) (same_value [] ss d) tt)
+        subst (λ i. AreTerms laws q f rep i ss []) (same_value [] parts e) (subst (λ i. AreTerms laws q f rep [] i []) (same_value [] ss d) no_term)
     denotes-terms (more_of-Term t rest) known adjoints parts e ss d =
         let names = and_parts (are_names_of_term r.names t) (are_names_of_terms r.names rest) known in
         let part = bound _ (λ x. signatures.terms_parts r.names rest >>= λ xs. Ok (x ∷ xs)) parts e in
@@ -186,7 +186,7 @@ module _ {Object Arrow : Type 0} (r : Reading Object Arrow) (laws : PreadditiveL
         let placed : Denotes s q f part.value.1 (signed summand.value) (term_value r t) =
         subst (λ x. Denotes s q f x.1 (signed summand.value) (term_value r t)) (same_value _ part.value signature.then) (subst (λ y. Denotes s q f signature.value (signed y) (term_value r t)) (same_value _ summand.value poly.then) here) in
         subst (λ i. AreTerms laws q f rep i ss (term_value r t ∷ values rest)) (same_value _ parts later_parts.then)
-        (subst (λ i. AreTerms laws q f rep (part.value ∷ later_parts.value) i (term_value r t ∷ values rest)) (same_value _ ss later_summands.then) (placed, later))
+        (subst (λ i. AreTerms laws q f rep (part.value ∷ later_parts.value) i (term_value r t ∷ values rest)) (same_value _ ss later_summands.then) (one_term _ _ _ _ _ _ placed later))
 
     -- a term, with its sign
     denotes-term : (t : Term) → are_names_of_term r.names t ≡ true → (has_quote_in_term t ≡ true → Adjoints) → (o : Option Sig) → signatures.term_signature r.names t ≡ Ok o → (x : Poly) → polynomials.term_poly r.names t ≡ Ok x
@@ -202,7 +202,7 @@ module _ {Object Arrow : Type 0} (r : Reading Object Arrow) (laws : PreadditiveL
     denotes-factors : {m : _} (k : Row_of-Factor m) → are_names_of_factors r.names k ≡ true → (has_quote_in_factors k ≡ true → Adjoints) → (parts : List Part) → signatures.factors_parts r.names k ≡ Ok parts
         → (ps : List Poly) → polynomials.factor_polys r.names k ≡ Ok ps → AreFactors laws q f rep parts ps (factor_values r k)
     denotes-factors end_of-Factor known adjoints parts e ps d =
-        subst (λ i. AreFactors laws q f rep i ps []) (same_value [] parts e) (subst (λ i. AreFactors laws q f rep [] i []) (same_value [] ps d) tt)
+        subst (λ i. AreFactors laws q f rep i ps []) (same_value [] parts e) (subst (λ i. AreFactors laws q f rep [] i []) (same_value [] ps d) no_factor)
     denotes-factors (more_of-Factor at primary marks rest) known adjoints parts e ps d =
         let names = and_parts (are_names_of_primary r.names primary) (are_names_of_factors r.names rest) known in
         let here = has_quote_in_primary primary || list_any is_adjoint marks in
@@ -221,7 +221,7 @@ module _ {Object Arrow : Type 0} (r : Reading Object Arrow) (laws : PreadditiveL
         let placed : Denotes s q f part.value.1 poly.value value = subst (λ x. Denotes s q f x.1 poly.value value) (same_value _ part.value marked_part.then) marked in
         let later = denotes-factors rest names.1 (λ h. adjoints (right_of here (has_quote_in_factors rest) h)) later_parts.value later_parts.is later_polys.value later_polys.is in
         subst (λ i. AreFactors laws q f rep i ps (value ∷ factor_values r rest)) (same_value _ parts later_parts.then)
-        (subst (λ i. AreFactors laws q f rep (part.value ∷ later_parts.value) i (value ∷ factor_values r rest)) (same_value _ ps later_polys.then) (placed, later))
+        (subst (λ i. AreFactors laws q f rep (part.value ∷ later_parts.value) i (value ∷ factor_values r rest)) (same_value _ ps later_polys.then) (one_factor _ _ _ _ _ _ placed later))
 
     denotes-primary : (k : Primary) → are_names_of_primary r.names k ≡ true → (has_quote_in_primary k ≡ true → Adjoints) → (o : Option Sig) → signatures.primary_signature r.names k ≡ Ok o
         → (x : Poly) → polynomials.primary_poly r.names k ≡ Ok x → Denotes s q f o x (primary_value r k)

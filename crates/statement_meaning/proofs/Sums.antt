@@ -48,13 +48,10 @@ total_is (t ∷ ss) r e = sum_is (signed t) ss r e
 
 module _ {Object Arrow : Type 0} {s : Structure Object Arrow} (laws : PreadditiveLaws s) (q : Quiver) (f : Representation Object Arrow) (rep : Represents s q f) where
   -- each term is denoted by its signed polynomial
-  abbrev pub AreTerms : List Part → List Summand → List (Option Arrow) → Type 0
-  AreTerms [] [] [] = Unit {0}
-  AreTerms [] [] (v ∷ vs) = ⊥
-  AreTerms [] (t ∷ ss) vs = ⊥
-  AreTerms (part ∷ parts) [] vs = ⊥
-  AreTerms (part ∷ parts) (t ∷ ss) [] = ⊥
-  AreTerms (part ∷ parts) (t ∷ ss) (v ∷ vs) = Denotes s q f part.1 (signed t) v × AreTerms parts ss vs
+  pub data AreTerms : List Part → List Summand → List (Option Arrow) → Type 0 where
+    no_term : AreTerms [] [] []
+    one_term : (part : Part) (t : Summand) (v : Option Arrow) (parts : List Part) (ss : List Summand) (vs : List (Option Arrow)) → Denotes s q f part.1 (signed t) v → AreTerms parts ss vs
+        → AreTerms (part ∷ parts) (t ∷ ss) (v ∷ vs)
 
   -- what may be a sum of empty terms
   pub record Adds (e : Sig) (p : Poly) (a : Option Arrow) : Type 0 where
@@ -81,12 +78,8 @@ module _ {Object Arrow : Type 0} {s : Structure Object Arrow} (laws : Preadditiv
     -- after a term of this signature
     rest : (parts : List Part) (ss : List Summand) (vs : List (Option Arrow)) (o : Option Sig) → AreTerms parts ss vs
         → signatures.sum_from (Ok (Some e)) parts ≡ Ok o → (o ≡ Some e) × Adds e (summed ss) (total_value s vs)
-    rest [] [] [] o h m = (sym (same_value (Some e) o m), record { paths = All-nil _; same = inl (refl, refl) })
-    rest [] [] (v ∷ vs) o h m = absurd h
-    rest [] (t ∷ ss) vs o h m = absurd h
-    rest (part ∷ parts) [] vs o h m = absurd h
-    rest (part ∷ parts) (t ∷ ss) [] o h m = absurd h
-    rest (part ∷ parts) (t ∷ ss) (v ∷ vs) o h m = go part.1 h.0 m (rest parts ss vs o h.1)
+    rest _ _ _ o no_term m = (sym (same_value (Some e) o m), record { paths = All-nil _; same = inl (refl, refl) })
+    rest _ _ _ o (one_term part t v parts ss vs here h) m = go part.1 here m (rest parts ss vs o h)
       where
         go : (x : Option Sig) → Denotes s q f x (signed t) v → signatures.sum_from (signatures.sum_step (Ok (Some e)) part.0 x) parts ≡ Ok o
             → (signatures.sum_from (Ok (Some e)) parts ≡ Ok o → (o ≡ Some e) × Adds e (summed ss) (total_value s vs))
@@ -103,18 +96,14 @@ module _ {Object Arrow : Type 0} {s : Structure Object Arrow} (laws : Preadditiv
   -- a sum whose terms are denoted is denoted by its terms one after another
   pub denotes-summed : (parts : List Part) (ss : List Summand) (vs : List (Option Arrow)) (o : Option Sig) → AreTerms parts ss vs
       → signatures.sum_from (Ok None) parts ≡ Ok o → Denotes s q f o (summed ss) (total_value s vs)
-  denotes-summed [] [] [] o h m = subst (λ x. Denotes s q f x [] None) (same_value None o m) (refl, refl)
-  denotes-summed [] [] (v ∷ vs) o h m = absurd h
-  denotes-summed [] (t ∷ ss) vs o h m = absurd h
-  denotes-summed (part ∷ parts) [] vs o h m = absurd h
-  denotes-summed (part ∷ parts) (t ∷ ss) [] o h m = absurd h
-  denotes-summed (part ∷ parts) (t ∷ ss) (v ∷ vs) o h m = go part.1 h.0 m (denotes-summed parts ss vs o h.1)
+  denotes-summed _ _ _ o no_term m = subst (λ x. Denotes s q f x [] None) (same_value None o m) (refl, refl)
+  denotes-summed _ _ _ o (one_term part t v parts ss vs here h) m = go part.1 here m (denotes-summed parts ss vs o h)
     where
       go : (x : Option Sig) → Denotes s q f x (signed t) v → signatures.sum_from (signatures.sum_step (Ok None) part.0 x) parts ≡ Ok o
           → (signatures.sum_from (Ok None) parts ≡ Ok o → Denotes s q f o (summed ss) (total_value s vs))
           → Denotes s q f o (signed t ++ summed ss) (plus s v (total_value s vs))
       go None d k more = subst (λ p. Denotes s q f o (p ++ summed ss) (plus s v (total_value s vs))) (sym d.0) (subst (λ a. Denotes s q f o (summed ss) (plus s a (total_value s vs))) (sym d.1) (more k))
       go (Some x) d k more =
-          let later = rest x d.source_below d.target_below parts ss vs o h.1 k in
+          let later = rest x d.source_below d.target_below parts ss vs o h k in
           subst (λ y. Denotes s q f y (signed t ++ summed ss) (plus s v (total_value s vs))) (sym later.0)
           (added x d.source_below d.target_below (signed t) (summed ss) v (total_value s vs) d later.1)
