@@ -18,7 +18,7 @@ use Rattle.expressions.specs.Signatures as signatures
 use Rattle.expressions.specs.Signatures.{Part, from_to, same_ends, turned, is_repeated, repeated, mark_signature, marked_signature}
 use Rattle.expressions.specs.Polynomials as polynomials
 use Rattle.expressions.specs.Polynomials.{power_poly, mark_poly, marked_poly, Summand, signed}
-use Rattle.expressions.proofs.Sequences.{bound, same_value}
+use Rattle.expressions.proofs.Sequences.{bound, same_value, OfValues, values-ok, values-bind}
 use Rattle.expressions.proofs.Words.{Words, weaker, words-collection, words-adjoint, words-product}
 use Rattle.expressions.proofs.Letters.{words-signed, words-sum_step, words-power_poly}
 
@@ -86,6 +86,9 @@ module _ (q : Quiver) where
   IsPathOf None w = ⊥
   IsPathOf (Some s) w = is_path q s.source.0 s.target.0 w ≡ true
 
+  abbrev pub ArePathsOf : Option Sig → Poly → Type 0
+  ArePathsOf o p = Words (IsPathOf o) p
+
   path-append : (u k v : ℕ) (l y : List ℕ) → is_path q k v l ≡ true → is_path q u k y ≡ true → is_path q u v (l ++ y) ≡ true
   path-append u k v [] y h m = absurd (cc)
   path-append u k v (a ∷ l) [] h m = absurd (cc)
@@ -110,24 +113,24 @@ module _ (q : Quiver) where
     no_summand : AreSummands [] []
     one_summand : (p : Part) (s : Summand) (parts : List Part) (ss : List Summand) → Words (IsPathOf p.1) s.1 → AreSummands parts ss → AreSummands (p ∷ parts) (s ∷ ss)
 
-  typed-sum_from : (so_far : Option Sig) (sum : Poly) (parts : List Part) (ss : List Summand) (o : Option Sig) (r : Poly)
-      → Words (IsPathOf so_far) sum → AreSummands parts ss → signatures.sum_from (Ok so_far) parts ≡ Ok o → polynomials.sum_from sum ss ≡ Ok r → Words (IsPathOf o) r
-  typed-sum_from so_far sum _ _ o r h no_summand e d = subst (Words (IsPathOf o)) (same_value sum r d) (subst (λ t. Words (IsPathOf t) sum) (same_value so_far o e) h)
-  typed-sum_from so_far sum _ _ o r h (one_summand p s parts ss typed k) e d =
+  typed-sum_from : (so_far : Option Sig) (sum : Poly) (parts : List Part) (ss : List Summand) → AreSummands parts ss → ArePathsOf so_far sum
+      → OfValues (signatures.sum_from (Ok so_far) parts) (polynomials.sum_from sum ss) ArePathsOf
+  typed-sum_from so_far sum _ _ no_summand h o e r d = values-ok ArePathsOf so_far sum h o e r d
+  typed-sum_from so_far sum _ _ (one_summand p s parts ss typed k) h o e r d =
       let step = bound (polynomials.sum_step sum s) (λ next. polynomials.sum_from next ss) r d in
       let next = sum_passed (signatures.sum_step (Ok so_far) p.0 p.1) parts o e in
       let on_left = weaker (IsPathOf so_far) (IsPathOf next.0) (sum-left so_far p.0 p.1 next.0 next.1) sum h in
       let on_right = weaker (IsPathOf p.1) (IsPathOf next.0) (sum-right so_far p.0 p.1 next.0 next.1) s.1 typed in
-      typed-sum_from next.0 step.value parts ss o r (words-sum_step (IsPathOf next.0) sum s step.value on_left on_right step.is) k next.2 step.then
+      typed-sum_from next.0 step.value parts ss k (words-sum_step (IsPathOf next.0) sum s on_left on_right step.value step.is) o next.2 r step.then
 
   first-sum_step : (at : Spot) (s : Option Sig) → signatures.sum_step (Ok None) at s ≡ Ok s
   first-sum_step at None = refl
   first-sum_step at (Some s) = refl
 
-  pub typed-total : (parts : List Part) (ss : List Summand) (o : Option Sig) (r : Poly) → AreSummands parts ss → signatures.sum_from (Ok None) parts ≡ Ok o → polynomials.total ss ≡ Ok r → Words (IsPathOf o) r
-  typed-total _ _ o r no_summand e d = subst (Words (IsPathOf o)) (same_value [] r d) (All-nil _)
-  typed-total _ _ o r (one_summand p s parts ss typed k) e d =
-      typed-sum_from p.1 (signed s) parts ss o r (words-signed (IsPathOf p.1) s typed) k (ap (λ x. signatures.sum_from x parts) (sym (first-sum_step p.0 p.1)) ∙ e) d
+  pub typed-total : (parts : List Part) (ss : List Summand) → AreSummands parts ss → OfValues (signatures.sum_from (Ok None) parts) (polynomials.total ss) ArePathsOf
+  typed-total _ _ no_summand o e r d = values-ok ArePathsOf None [] (All-nil _) o e r d
+  typed-total _ _ (one_summand p s parts ss typed k) o e r d =
+      typed-sum_from p.1 (signed s) parts ss k (words-signed (IsPathOf p.1) s typed) o (ap (λ x. signatures.sum_from x parts) (sym (first-sum_step p.0 p.1)) ∙ e) r d
 
   -- a product
   -- each factor is typed as its part says
@@ -135,27 +138,27 @@ module _ (q : Quiver) where
     no_factor : AreFactors [] []
     one_factor : (part : Part) (p : Poly) (parts : List Part) (ps : List Poly) → Words (IsPathOf part.1) p → AreFactors parts ps → AreFactors (part ∷ parts) (p ∷ ps)
 
-  typed-product_from : (left : Sig) (product : Poly) (parts : List Part) (ps : List Poly) (o : Option Sig) (r : Poly)
-      → Words (IsPathOf (Some left)) product → AreFactors parts ps → signatures.product_from (Ok (Some left)) parts ≡ Ok o → polynomials.product_from product ps ≡ Ok r → Words (IsPathOf o) r
-  typed-product_from left product _ _ o r h no_factor e d = subst (Words (IsPathOf o)) (same_value product r d) (subst (λ t. Words (IsPathOf t) product) (same_value (Some left) o e) h)
-  typed-product_from left product _ _ o r h (one_factor part p parts ps typed k) e d =
+  typed-product_from : (left : Sig) (product : Poly) (parts : List Part) (ps : List Poly) → AreFactors parts ps → ArePathsOf (Some left) product
+      → OfValues (signatures.product_from (Ok (Some left)) parts) (polynomials.product_from product ps) ArePathsOf
+  typed-product_from left product _ _ no_factor h o e r d = values-ok ArePathsOf (Some left) product h o e r d
+  typed-product_from left product _ _ (one_factor part p parts ps typed k) h o e r d =
       let step = bound (product_result product p) (λ next. polynomials.product_from next ps) r d in
       let next = joins left part parts o e in
       let right = next.right in
       let both = from_to right.source.0 left.target.0 in
-      let factor = subst (λ s. Words (IsPathOf s) p) next.is typed in
+      let factor = subst (λ s. ArePathsOf s p) next.is typed in
       let joined : (v w : List ℕ) → IsPathOf (Some left) v → IsPathOf (Some right) w → IsPathOf (Some both) (v ++ w) =
       λ v w on_left on_right. path-append right.source.0 left.source.0 left.target.0 v w on_left (subst (λ x. is_path q right.source.0 x w ≡ true) (sym next.meet) on_right) in
-      typed-product_from both step.value parts ps o r (words-product (IsPathOf (Some left)) (IsPathOf (Some right)) (IsPathOf (Some both)) joined product p step.value h factor step.is) k next.rest step.then
+      typed-product_from both step.value parts ps k (words-product (IsPathOf (Some left)) (IsPathOf (Some right)) (IsPathOf (Some both)) joined product p step.value h factor step.is) o next.rest r step.then
 
-  pub typed-product : (parts : List Part) (ps : List Poly) (o : Option Sig) (r : Poly) → AreFactors parts ps → signatures.product_signature parts ≡ Ok o → polynomials.product_poly ps ≡ Ok r → Words (IsPathOf o) r
-  typed-product _ _ o r no_factor e d = subst (Words (IsPathOf o)) (same_value [] r d) (All-nil _)
-  typed-product _ _ o r (one_factor part p _ _ typed no_factor) e d = subst (Words (IsPathOf o)) (same_value p r d) (subst (λ s. Words (IsPathOf s) p) (same_value part.1 o e) typed)
-  typed-product _ _ o r (one_factor part p _ _ typed (one_factor next x parts ps later k)) e d = go part.1 e typed
+  pub typed-product : (parts : List Part) (ps : List Poly) → AreFactors parts ps → OfValues (signatures.product_signature parts) (polynomials.product_poly ps) ArePathsOf
+  typed-product _ _ no_factor o e r d = values-ok ArePathsOf None [] (All-nil _) o e r d
+  typed-product _ _ (one_factor part p _ _ typed no_factor) o e r d = values-ok ArePathsOf part.1 p typed o e r d
+  typed-product _ _ (one_factor part p _ _ typed (one_factor next x parts ps later k)) o e r d = go part.1 e typed
     where
-      go : (s : Option Sig) → signatures.product_from (signatures.product_step (Ok None) part.0 s) (next ∷ parts) ≡ Ok o → Words (IsPathOf s) p → Words (IsPathOf o) r
+      go : (s : Option Sig) → signatures.product_from (signatures.product_step (Ok None) part.0 s) (next ∷ parts) ≡ Ok o → ArePathsOf s p → ArePathsOf o r
       go None rest factor = absurd (no_fault _ _ (product_passed _ (next ∷ parts) o rest).1)
-      go (Some s) rest factor = typed-product_from s p (next ∷ parts) (x ∷ ps) o r factor (one_factor next x parts ps later k) rest d
+      go (Some s) rest factor = typed-product_from s p (next ∷ parts) (x ∷ ps) (one_factor next x parts ps later k) factor o rest r d
 
   -- marks
   turned-path : IsQuiver q → (s : Option Sig) (w : List ℕ) → IsPathOf s w → IsPathOf (option_map turned s) (adjoint_word q w)
@@ -182,21 +185,19 @@ module _ (q : Quiver) where
   power-once (pos (suc (suc n))) p h = absurd (cc)
   power-once (negsuc n) p h = refl
 
-  typed-mark : IsQuiver q → (first : Spot) (m : Mark) (s o : Option Sig) (p r : Poly) → Words (IsPathOf s) p → mark_signature first m s ≡ Ok o → mark_poly q m p ≡ Ok r → Words (IsPathOf o) r
-  typed-mark quiver first Adjoint s o p r h e d =
-      subst (λ t. Words (IsPathOf t) r) (same_value (option_map turned s) o e)
+  typed-mark : IsQuiver q → (first : Spot) (m : Mark) (s : Option Sig) (p : Poly) → ArePathsOf s p → OfValues (mark_signature first m s) (mark_poly q m p) ArePathsOf
+  typed-mark quiver first Adjoint s p h o e r d =
+      subst (λ t. ArePathsOf t r) (same_value (option_map turned s) o e)
       (words-collection (IsPathOf (option_map turned s)) (adjoint_poly q p) r (words-adjoint (IsPathOf s) (IsPathOf (option_map turned s)) q (turned-path quiver s) p h) d)
-  typed-mark quiver first (Power caret exponent) s o p r h e d = go (is_repeated exponent.value) refl e
+  typed-mark quiver first (Power caret exponent) s p h o e r d = go (is_repeated exponent.value) refl e
     where
-      go : (b : Bool) → is_repeated exponent.value ≡ b → cond b (repeated first caret s) (Ok s) ≡ Ok o → Words (IsPathOf o) r
+      go : (b : Bool) → is_repeated exponent.value ≡ b → cond b (repeated first caret s) (Ok s) ≡ Ok o → ArePathsOf o r
       go true again k =
-          words-power_poly (IsPathOf o) (repeated-path first caret s o k) exponent.value p r (subst (λ t. Words (IsPathOf t) p) (repeated-same first caret s o k) h) d
+          words-power_poly (IsPathOf o) (repeated-path first caret s o k) exponent.value p (subst (λ t. ArePathsOf t p) (repeated-same first caret s o k) h) r d
       go false once k =
-          subst (Words (IsPathOf o)) (same_value p r (sym (power-once exponent.value p once) ∙ d)) (subst (λ t. Words (IsPathOf t) p) (same_value s o k) h)
+          subst (ArePathsOf o) (same_value p r (sym (power-once exponent.value p once) ∙ d)) (subst (λ t. ArePathsOf t p) (same_value s o k) h)
 
-  pub typed-marked : IsQuiver q → (first : Spot) (marks : List Mark) (s o : Option Sig) (p r : Poly) → Words (IsPathOf s) p → marked_signature first marks s ≡ Ok o → marked_poly q marks p ≡ Ok r → Words (IsPathOf o) r
-  typed-marked quiver first [] s o p r h e d = subst (λ t. Words (IsPathOf t) r) (same_value s o e) (subst (Words (IsPathOf s)) (same_value p r d) h)
-  typed-marked quiver first (m ∷ marks) s o p r h e d =
-      let signature = bound (mark_signature first m s) (marked_signature first marks) o e in
-      let poly = bound (mark_poly q m p) (marked_poly q marks) r d in
-      typed-marked quiver first marks signature.value o poly.value r (typed-mark quiver first m s signature.value p poly.value h signature.is poly.is) signature.then poly.then
+  pub typed-marked : IsQuiver q → (first : Spot) (marks : List Mark) (s : Option Sig) (p : Poly) → ArePathsOf s p → OfValues (marked_signature first marks s) (marked_poly q marks p) ArePathsOf
+  typed-marked quiver first [] s p h = values-ok ArePathsOf s p h
+  typed-marked quiver first (m ∷ marks) s p h =
+      values-bind ArePathsOf ArePathsOf (mark_signature first m s) (marked_signature first marks) (mark_poly q m p) (marked_poly q marks) (typed-mark quiver first m s p h) (typed-marked quiver first marks)

@@ -15,6 +15,7 @@ use Rattle.nc_polynomial.specs.Collected.{collected, additions, collection_resul
 use Rattle.nc_polynomial.specs.Product.{and_then, product_step, product_from, product_result}
 use Rattle.nc_polynomial.proofs.Shapes.{all-scaled, all-totals, all-aligned}
 use Rattle.nc_polynomial.proofs.Chains.{no_error, sized-value, finished-value}
+use Rattle.expressions.proofs.Sequences.{same_value}
 
 abbrev pub Words : (List ℕ → Type 0) → Poly → Type 0
 Words P p = All (λ t. P t.1) p
@@ -70,10 +71,7 @@ module _ (P Q R : List ℕ → Type 0) (joined : (v w : List ℕ) → P v → Q 
       go (Err f) limits n = absurd (no_error r f (sym n))
 
   words-product_from : (sum p q r : Poly) → Words R sum → Words P p → Words Q q → product_from sum p q ≡ Ok r → Words R r
-  words-product_from sum [] q r h k m e = subst (Words R) (same e) h
-    where
-      same : ◌≡◌ {A = Result Poly PolyFault} (Ok sum) (Ok r) → sum ≡ r
-      same n = cc
+  words-product_from sum [] q r h k m e = subst (Words R) (same_value sum r e) h
   words-product_from sum (t ∷ p) q r h k m e = go (product_step sum t q) refl e (λ next made n. words-product_from next p q r made (All-tail (λ (u : ℤ × List ℕ). P u.1) t p k) m n)
     where
       go : (s : Result Poly PolyFault) → product_step sum t q ≡ s → and_then s (λ next. product_from next p q) ≡ Ok r
