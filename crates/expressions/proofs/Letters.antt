@@ -1,6 +1,6 @@
 -- What holds of all letters that an expression writes holds of all letters of its polynomial.
-use Rattle.std.proofs.Common.{◌≡◌, ◌<◌, ℕ, zero, suc, ℤ, pos, negsuc, Bool, true, false, ◌||◌, List, [], ◌∷◌, ◌++◌, replicate, Option, Some, None, refl, eq-eqb}
-use Rattle.std.proofs.lemmas.Bool.{and_parts}
+use Rattle.std.proofs.Common.{◌≡◌, ◌<◌, ℕ, zero, suc, ℤ, pos, negsuc, Bool, true, false, List, [], ◌∷◌, ◌++◌, replicate, Option, Some, None, refl, eq-eqb}
+use Rattle.std.proofs.lemmas.Bool.{or_left, or_right, and_parts}
 use Rattle.std.proofs.lemmas.List.Elements.{All-nil, All-head, All-tail, All-append, All-push, All-replicate}
 use Rattle.std.specs.List.{All, AllByRecursion, list_any}
 use Rattle.definitions.specs.Poly.{Poly, Term as term}
@@ -64,15 +64,6 @@ module _ (P : List ℕ → Type 0) where
     words-power_poly (pos zero) p h = value-ok (Words P) p h
     words-power_poly (negsuc n) p h = value-ok (Words P) p h
 
--- where a part occurs in the whole
-pub left_of : (a b : Bool) → a ≡ true → (a || b) ≡ true
-left_of true b h = refl
-left_of false b h = absurd (cc)
-
-pub right_of : (a b : Bool) → b ≡ true → (a || b) ≡ true
-right_of true b h = refl
-right_of false b h = h
-
 module _ (ds : List Declaration) (L : ℕ → Type 0) (maps : (name : List ℕ) (a : Letter) → named_in ds name ≡ Some (Map a) → L a.0) where
   abbrev pub Over : List ℕ → Type 0
   Over w = All L w
@@ -97,8 +88,8 @@ module _ (ds : List Declaration) (L : ℕ → Type 0) (maps : (name : List ℕ) 
   over-marked_poly : (marks : List Mark) → (list_any is_adjoint marks ≡ true → IsClosed) → (p : Poly) → Words Over p → OfValue (marked_poly (quiver_of ds) marks p) (Words Over)
   over-marked_poly [] closed p h = value-ok (Words Over) p h
   over-marked_poly (m ∷ marks) closed p h =
-      value-bind (Words Over) (Words Over) (mark_poly (quiver_of ds) m p) (marked_poly (quiver_of ds) marks) (over-mark_poly m (λ here. closed (left_of _ _ here)) p h)
-      (over-marked_poly marks (λ more. closed (right_of _ _ more)))
+      value-bind (Words Over) (Words Over) (mark_poly (quiver_of ds) m p) (marked_poly (quiver_of ds) marks) (over-mark_poly m (λ here. closed (or_left _ _ here)) p h)
+      (over-marked_poly marks (λ more. closed (or_right _ _ more)))
 
   over-one : (a : ℕ) → L a → Words Over (letter_poly a)
   over-one a h = All-replicate (λ (t : term). Over t.1) 1 (pos 1, a ∷ []) (All-replicate L 1 a h)
@@ -127,8 +118,8 @@ module _ (ds : List Declaration) (L : ℕ → Type 0) (maps : (name : List ℕ) 
     over-terms (more_of-Term t rest) known ids closed =
         let names = and_parts (are_names_of_term ds t) (are_names_of_terms ds rest) known in
         value-bind (λ s. Words Over s.1) AllOver _ _
-        (value-bind (Words Over) (λ s. Words Over s.1) (term_poly ds t) _ (over-term t names.0 (λ v below h. ids v below (left_of _ _ h)) (λ h. closed (left_of _ _ h))) (λ p. value-ok (λ s. Words Over s.1) _))
-        (λ s here. value-bind AllOver AllOver (summands ds rest) _ (over-terms rest names.1 (λ v below h. ids v below (right_of _ _ h)) (λ h. closed (right_of _ _ h)))
+        (value-bind (Words Over) (λ s. Words Over s.1) (term_poly ds t) _ (over-term t names.0 (λ v below h. ids v below (or_left _ _ h)) (λ h. closed (or_left _ _ h))) (λ p. value-ok (λ s. Words Over s.1) _))
+        (λ s here. value-bind AllOver AllOver (summands ds rest) _ (over-terms rest names.1 (λ v below h. ids v below (or_right _ _ h)) (λ h. closed (or_right _ _ h)))
         (λ others later. value-ok AllOver (s ∷ others) (here, later)))
 
     over-term : (t : Term) → are_names_of_term ds t ≡ true → Identities (λ v. has_identity_in_term ds v t) → (has_quote_in_term t ≡ true → IsClosed) → OfValue (term_poly ds t) (Words Over)
@@ -144,9 +135,9 @@ module _ (ds : List Declaration) (L : ℕ → Type 0) (maps : (name : List ℕ) 
         let names = and_parts (are_names_of_primary ds primary) (are_names_of_factors ds rest) known in
         value-bind (Words Over) (AllByRecursion (Words Over)) _ _
         (value-bind (Words Over) (Words Over) (primary_poly ds primary) (marked_poly (quiver_of ds) marks)
-        (over-primary primary names.0 (λ v below h. ids v below (left_of _ _ h)) (λ h. closed (left_of _ _ (left_of _ _ h)))) (over-marked_poly marks (λ h. closed (left_of _ _ (right_of _ _ h)))))
+        (over-primary primary names.0 (λ v below h. ids v below (or_left _ _ h)) (λ h. closed (or_left _ _ (or_left _ _ h)))) (over-marked_poly marks (λ h. closed (or_left _ _ (or_right _ _ h)))))
         (λ p here. value-bind (AllByRecursion (Words Over)) (AllByRecursion (Words Over)) (factor_polys ds rest) _
-        (over-factors rest names.1 (λ v below h. ids v below (right_of _ _ h)) (λ h. closed (right_of _ _ h))) (λ others later. value-ok (AllByRecursion (Words Over)) (p ∷ others) (here, later)))
+        (over-factors rest names.1 (λ v below h. ids v below (or_right _ _ h)) (λ h. closed (or_right _ _ h))) (λ others later. value-ok (AllByRecursion (Words Over)) (p ∷ others) (here, later)))
 
     pub over-primary : (x : Primary) → are_names_of_primary ds x ≡ true → Identities (λ v. has_identity_in_primary ds v x) → (has_quote_in_primary x ≡ true → IsClosed)
         → OfValue (primary_poly ds x) (Words Over)

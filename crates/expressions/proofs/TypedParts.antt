@@ -89,7 +89,7 @@ module _ (q : Quiver) where
   abbrev pub ArePathsOf : Option Sig → Poly → Type 0
   ArePathsOf o p = Words (IsPathOf o) p
 
-  path-append : (u k v : ℕ) (l y : List ℕ) → is_path q k v l ≡ true → is_path q u k y ≡ true → is_path q u v (l ++ y) ≡ true
+  pub path-append : (u k v : ℕ) (l y : List ℕ) → is_path q k v l ≡ true → is_path q u k y ≡ true → is_path q u v (l ++ y) ≡ true
   path-append u k v [] y h m = absurd (cc)
   path-append u k v (a ∷ l) [] h m = absurd (cc)
   path-append u k v (a ∷ l) (b ∷ y) h m = leads-append q u k v (a ∷ l) (b ∷ y) h m

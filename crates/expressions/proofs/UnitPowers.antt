@@ -1,6 +1,6 @@
 -- The power of one term whose coefficient is 1 or -1: no product is too large.
 use Rattle.std.proofs.Common.{◌≡◌, ◌≢◌, ◌⊎◌, inl, inr, ℕ, zero, suc, ◌+◌, ◌-◌, ◌*◌, ◌%◌, ◌<◌, ◌≤◌, ◌^◌, ℤ, pos, negsuc, ◌*ℤ◌, Bool, true, false, nat_lt, [], ◌∷◌, length, replicate, unsigned_abs, Result, Ok, refl, sym, ap, ap₂, subst, ◌∙◌, arith}
-use Rattle.std.proofs.lemmas.Bool.Decides.{nat_tests}
+use Rattle.std.proofs.lemmas.Bool.{ltb-true, ltb-false}
 use Rattle.std.proofs.lemmas.Int.{ints}
 use Rattle.coef_int.specs.Range.{IsCoefficient}
 use Rattle.definitions.specs.Poly.{Poly, Term}
@@ -18,10 +18,7 @@ unit_after u zero = pos 1
 unit_after u (suc n) = unit_after u n *ℤ u
 
 unit-next : (u : ℤ) (i : ℕ) → unit_after u (i + 1) ≡ unit_after u i *ℤ u
-unit-next u i = ap (unit_after u) next
-  where
-    next : i + 1 ≡ suc i
-    next = omega arith
+unit-next u i = let next : i + 1 ≡ suc i = omega arith in ap (unit_after u) next
 
 square : (u : ℤ) → unsigned_abs u ≡ 1 → u *ℤ u ≡ pos 1
 square (pos n) e = ap (λ k. pos k *ℤ pos k) e
@@ -38,31 +35,22 @@ IsAfter u n = ((n % 2 ≡ 0) × (unit_after u n ≡ pos 1)) ⊎ ((n % 2 ≡ 1) �
 
 by_turns : (u : ℤ) → unsigned_abs u ≡ 1 → (n : ℕ) → IsAfter u n
 by_turns u unit zero = inl (refl, refl)
-by_turns u unit (suc n) = step (by_turns u unit n)
-  where
-    odd_next : n % 2 ≡ 0 → suc n % 2 ≡ 1
-    odd_next h = omega (arith, h)
-
-    even_next : n % 2 ≡ 1 → suc n % 2 ≡ 0
-    even_next h = omega (arith, h)
-
-    step : IsAfter u n → IsAfter u (suc n)
-    step (inl (even, is)) = inr (odd_next even, ap (λ c. c *ℤ u) is ∙ one_times u)
-    step (inr (odd, is)) = inl (even_next odd, ap (λ c. c *ℤ u) is ∙ square u unit)
+by_turns u unit (suc n) = elim (by_turns u unit n) [
+  | inl (even, is) ↦ inr (omega (arith, even), ap (λ c. c *ℤ u) is ∙ one_times u)
+  | inr (odd, is) ↦ inl (omega (arith, odd), ap (λ c. c *ℤ u) is ∙ square u unit)
+]
 
 pub unit-even : (u : ℤ) → unsigned_abs u ≡ 1 → (n : ℕ) → n % 2 ≡ 0 → unit_after u n ≡ pos 1
-unit-even u unit n even = go (by_turns u unit n)
-  where
-    go : IsAfter u n → unit_after u n ≡ pos 1
-    go (inl (e, is)) = is
-    go (inr (odd, is)) = absurd (omega (arith, even, odd))
+unit-even u unit n even = elim (by_turns u unit n) [
+  | inl (e, is) ↦ is
+  | inr (odd, is) ↦ absurd (omega (arith, even, odd))
+]
 
 pub unit-odd : (u : ℤ) → unsigned_abs u ≡ 1 → (n : ℕ) → n % 2 ≢ 0 → unit_after u n ≡ u
-unit-odd u unit n odd = go (by_turns u unit n)
-  where
-    go : IsAfter u n → unit_after u n ≡ u
-    go (inl (even, is)) = absurd (odd even)
-    go (inr (e, is)) = is
+unit-odd u unit n odd = elim (by_turns u unit n) [
+  | inl (even, is) ↦ absurd (odd even)
+  | inr (e, is) ↦ is
+]
 
 unit_in : (u : ℤ) → unsigned_abs u ≡ 1 → (n : ℕ) → IsCoefficient (unit_after u n)
 unit_in u unit n = go (by_turns u unit n)
@@ -107,35 +95,25 @@ module _ (t : Term) (canonical : IsCanonical (t ∷ [])) (unit : unsigned_abs t.
       go h = grind (arith, h)
 
   ends : (k i : ℕ) → n ≡ i + k → n * length t.1 ≤ 500 → Leads i → IsCanonical (after i) → (whole ≡ Ok (after n)) × IsCanonical (after n)
-  ends zero i e short leads so_far = (sym (subst (λ j. product_from (after j) (replicate (n - j) (t ∷ [])) ≡ whole) at leads) ∙ ap (λ m. product_from (after n) (replicate m (t ∷ []))) none, subst (λ j. IsCanonical (after j)) at so_far)
-    where
-      at : i ≡ n
-      at = omega (arith, e)
-
-      none : n - n ≡ 0
-      none = omega arith
+  ends zero i e short leads so_far =
+      let at : i ≡ n = omega (arith, e) in
+      let none : n - n ≡ 0 = omega arith in (
+        sym (subst (λ j. product_from (after j) (replicate (n - j) (t ∷ [])) ≡ whole) at leads) ∙ ap (λ m. product_from (after n) (replicate m (t ∷ []))) none,
+        subst (λ j. IsCanonical (after j)) at so_far,
+      )
   ends (suc k) i e short leads so_far =
+      let within : length (repeated_word i t.1) + length t.1 ≤ 500 = omega (arith, part i k e, short) in
       ends k (i + 1) (omega (arith, e)) short (leads-next i leads so_far (omega (arith, e)) within) (canonical-after i leads so_far (omega (arith, e)) within)
-    where
-      within : length (repeated_word i t.1) + length t.1 ≤ 500
-      within = omega (arith, part i k e, short)
 
   step : (i : ℕ) → Leads i → IsCanonical (after i) → i < n → (length (repeated_word i t.1) + length t.1 ≤ 500 → Explains whole (size_fault true))
       → (b : Bool) → nat_lt 500 (length (repeated_word i t.1) + length t.1) ≡ b → Explains whole (size_fault true)
-  step i leads so_far inside later true h = term-too_long t canonical n i (unit_after t.0 i) leads so_far inside (above (length (repeated_word i t.1) + length t.1) h)
-    where
-      above : (m : ℕ) → nat_lt 500 m ≡ true → 500 < m
-      above m h = grind (arith, nat_tests)
-  step i leads so_far inside later false h = later (under (length (repeated_word i t.1) + length t.1) h)
-    where
-      under : (m : ℕ) → nat_lt 500 m ≡ false → m ≤ 500
-      under m h = grind (arith, nat_tests)
+  step i leads so_far inside later true h = term-too_long t canonical n i (unit_after t.0 i) leads so_far inside (ltb-true 500 (length (repeated_word i t.1) + length t.1) h)
+  step i leads so_far inside later false h = later (ltb-false 500 (length (repeated_word i t.1) + length t.1) h)
 
   stops : (k i : ℕ) → n ≡ i + k → 500 < n * length t.1 → Leads i → IsCanonical (after i) → Explains whole (size_fault true)
-  stops zero i e long leads so_far = absurd (omega (arith, at, short-alone (unit_after t.0 i, repeated_word i t.1) so_far, length-repeated i t.1, long))
-    where
-      at : i * length t.1 ≡ n * length t.1
-      at = ap (λ m. m * length t.1) (omega (arith, e))
+  stops zero i e long leads so_far =
+      let at : i * length t.1 ≡ n * length t.1 = ap (λ m. m * length t.1) (omega (arith, e)) in
+      absurd (omega (arith, at, short-alone (unit_after t.0 i, repeated_word i t.1) so_far, length-repeated i t.1, long))
   stops (suc k) i e long leads so_far =
       let inside : i < n = omega (arith, e) in
       step i leads so_far inside
@@ -151,10 +129,7 @@ module _ (t : Term) (canonical : IsCanonical (t ∷ [])) (unit : unsigned_abs t.
   first_is = ap (λ c. (c, t.1) ∷ []) (one_times t.0)
 
   begins : (n : ℕ) → product_from first (replicate (suc n - 1) (t ∷ [])) ≡ product_poly (replicate (suc n) (t ∷ []))
-  begins n = ap₂ (λ p m. product_from p (replicate m (t ∷ []))) first_is less
-    where
-      less : suc n - 1 ≡ n
-      less = omega arith
+  begins n = let less : suc n - 1 ≡ n = omega arith in ap₂ (λ p m. product_from p (replicate m (t ∷ []))) first_is less
 
   power : (n : ℕ) → 1 ≤ n → n * length t.1 ≤ 500
       → (product_poly (replicate n (t ∷ [])) ≡ Ok ((unit_after t.0 n, repeated_word n t.1) ∷ [])) × IsCanonical ((unit_after t.0 n, repeated_word n t.1) ∷ [])

@@ -1,5 +1,6 @@
 -- The letters of an equation's polynomial are those that the equation writes.
 use Rattle.std.proofs.Common.{◌≡◌, ◌<◌, ℕ, true, ◌||◌, List, Some, sym, subst, ◌∙◌, arith}
+use Rattle.std.proofs.lemmas.Bool.{or_left, or_right}
 use Rattle.std.specs.List.{All}
 use Rattle.definitions.specs.Quiver.{star, letters}
 use Rattle.word_core.specs.declared.letter.Letter.{Letter}
@@ -15,7 +16,7 @@ use Rattle.expressions.specs.Polynomials.{sum_poly, equation_poly}
 use Rattle.expressions.specs.Laws.{IsWritten, LettersAreWritten}
 use Rattle.expressions.proofs.Sequences.{OfValue, value-bind}
 use Rattle.expressions.proofs.Words.{Words, words-difference}
-use Rattle.expressions.proofs.Letters.{left_of, right_of, over-sum}
+use Rattle.expressions.proofs.Letters.{over-sum}
 use Rattle.expressions.proofs.Maps.{map_after_objects, map_before_adjoint}
 use Rattle.expressions.proofs.Range.{star_in_range}
 
@@ -55,8 +56,8 @@ module _ (ds : List Declaration) (declared : IsDeclared ds) (first : ObjectsFirs
   letters_written : are_names ds left ≡ true → are_names ds right ≡ true → OfValue (equation_poly ds left right) (λ p. All (λ t. All (IsWritten ds left right) t.1) p)
   letters_written left_names right_names =
       let L = IsWritten ds left right in
-      value-bind (Words (All L)) (Words (All L)) (sum_poly ds left) _ (over-sum ds L written_map left left_names (λ v below h. written_identity v below (left_of _ _ h)) (λ h. written_adjoint (left_of _ _ h))) (λ m on_left.
-      value-bind (Words (All L)) (Words (All L)) (sum_poly ds right) _ (over-sum ds L written_map right right_names (λ v below h. written_identity v below (right_of _ _ h)) (λ h. written_adjoint (right_of _ _ h))) (λ n on_right.
+      value-bind (Words (All L)) (Words (All L)) (sum_poly ds left) _ (over-sum ds L written_map left left_names (λ v below h. written_identity v below (or_left _ _ h)) (λ h. written_adjoint (or_left _ _ h))) (λ m on_left.
+      value-bind (Words (All L)) (Words (All L)) (sum_poly ds right) _ (over-sum ds L written_map right right_names (λ v below h. written_identity v below (or_right _ _ h)) (λ h. written_adjoint (or_right _ _ h))) (λ n on_right.
       λ p e. words-difference (All L) m n p on_left on_right e))
 
 pub letters_are_written : LettersAreWritten

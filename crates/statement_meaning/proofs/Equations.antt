@@ -1,5 +1,6 @@
 -- The polynomial of an equation is zero exactly where both sides have the same value.
 use Rattle.std.proofs.Common.{◌≡◌, ℕ, ◌<◌, negsuc, Bool, true, false, ◌||◌, ◌↔◌, List, [], Option, Some, None, Ok, refl, sym, ap, ap₂, subst, ◌∙◌, true≢false, eqb, eqb-true, eq-eqb}
+use Rattle.std.proofs.lemmas.Bool.{or_left, or_right}
 use Rattle.definitions.specs.Category.{Structure, IsArrow, PreadditiveLaws}
 use Rattle.definitions.specs.Poly.{Poly, poly_sum, poly_multiple}
 use Rattle.definitions.specs.Quiver.{Quiver, is_path, IsTyped}
@@ -23,7 +24,6 @@ use Rattle.expressions.specs.Polynomials as polynomials
 use Rattle.expressions.proofs.Sequences.{bound, same_value}
 use Rattle.expressions.proofs.TypedParts.{no_fault, same_passed}
 use Rattle.expressions.proofs.Typed.{equations_are_typed}
-use Rattle.expressions.proofs.Letters.{left_of, right_of}
 use Rattle.statement_meaning.specs.Values.{Reading, sum_value, AreSame, Holds}
 use Rattle.statement_meaning.specs.Laws.{IsEquation, reading, EquationsAreRead, StarredEquationsAreRead}
 use Rattle.statement_meaning.proofs.Polynomials.{value_in, value-same, value-sum, value-multiple}
@@ -138,8 +138,8 @@ module _ {Object Arrow : Type 0} {s : Structure Object Arrow} (laws : Preadditiv
       let second = bound (signatures.sum_signature ds right) (λ j. sides_signature (sum_at left) (sum_at right) first.value j) e first.then in
       let minuend = bound (polynomials.sum_poly ds left) (λ m. polynomials.sum_poly ds right >>= λ n. difference_result m n) p equation.polynomial in
       let subtrahend = bound (polynomials.sum_poly ds right) (λ n. difference_result minuend.value n) p minuend.then in
-      let on_left = denotes-sum r laws equation.declared equation.objects_first rep left equation.left_names (λ h. adjoints (left_of (has_quote left) (has_quote right) h)) first.value first.is minuend.value minuend.is in
-      let on_right = denotes-sum r laws equation.declared equation.objects_first rep right equation.right_names (λ h. adjoints (right_of (has_quote left) (has_quote right) h)) second.value second.is subtrahend.value subtrahend.is in
+      let on_left = denotes-sum r laws equation.declared equation.objects_first rep left equation.left_names (λ h. adjoints (or_left (has_quote left) (has_quote right) h)) first.value first.is minuend.value minuend.is in
+      let on_right = denotes-sum r laws equation.declared equation.objects_first rep right equation.right_names (λ h. adjoints (or_right (has_quote left) (has_quote right) h)) second.value second.is subtrahend.value subtrahend.is in
       go first.value second.value second.then minuend.value subtrahend.value on_left on_right subtrahend.then
     where
       typed : IsTyped q e.source.0 e.target.0 p

@@ -1,6 +1,6 @@
 -- The polynomial of an expression says its value.
 use Rattle.std.proofs.Common.{◌≡◌, ℕ, ◌<◌, ℤ, pos, negsuc, Bool, true, false, ◌||◌, List, [], ◌∷◌, Option, Some, None, Ok, refl, sym, ap, ap₂, subst, ◌∙◌, arith}
-use Rattle.std.proofs.lemmas.Bool.{and_parts}
+use Rattle.std.proofs.lemmas.Bool.{or_left, or_right, and_parts}
 use Rattle.std.proofs.lemmas.List.Elements.{All-replicate}
 use Rattle.std.specs.List.{list_any}
 use Rattle.std.specs.Option.{option_map}
@@ -34,7 +34,6 @@ use Rattle.expressions.proofs.Sequences.{bound, same_value, OfValues, values-ok,
 use Rattle.expressions.proofs.TypedParts.{path-letter, IsPathOf}
 use Rattle.expressions.proofs.Typed.{typed-sum}
 use Rattle.expressions.proofs.Words.{Words, words-negated, words-multiple}
-use Rattle.expressions.proofs.Letters.{left_of, right_of}
 use Rattle.statement_meaning.specs.Values.{Reading, plus, composite, marks_value, scaled_value, signed_value, sum_value, terms_value, term_value, factor_values, primary_value}
 use Rattle.statement_meaning.proofs.Polynomials.{value_in, value-same, value-multiple, value-term}
 use Rattle.statement_meaning.proofs.Denoted.{value_of, Denotes}
@@ -178,9 +177,9 @@ module _ {Object Arrow : Type 0} (r : Reading Object Arrow) (laws : PreadditiveL
         let AreAll = λ (parts : List Part) (ss : List Summand). AreTerms laws q f rep parts ss (term_value r t ∷ values rest) in
         values-bind IsHere AreAll _ _ _ _
         (values-bind (λ o x. IsHere (signatures.term_at t, o) (polynomials.is_negative t, x)) IsHere (signatures.term_signature r.names t) _ (polynomials.term_poly r.names t) _
-        (denotes-term t names.0 (λ h. adjoints (left_of (has_quote_in_term t) (has_quote_in_terms rest) h))) (λ o x. values-ok IsHere _ _))
+        (denotes-term t names.0 (λ h. adjoints (or_left (has_quote_in_term t) (has_quote_in_terms rest) h))) (λ o x. values-ok IsHere _ _))
         (λ part s' here. values-bind (λ parts ss. AreTerms laws q f rep parts ss (values rest)) AreAll (signatures.terms_parts r.names rest) _ (polynomials.summands r.names rest) _
-        (denotes-terms rest names.1 (λ h. adjoints (right_of (has_quote_in_term t) (has_quote_in_terms rest) h)))
+        (denotes-terms rest names.1 (λ h. adjoints (or_right (has_quote_in_term t) (has_quote_in_terms rest) h)))
         (λ parts ss later. values-ok AreAll (part ∷ parts) (s' ∷ ss) (one_term part s' (term_value r t) parts ss (values rest) here later)))
 
     -- a term, with its sign
@@ -199,7 +198,7 @@ module _ {Object Arrow : Type 0} (r : Reading Object Arrow) (laws : PreadditiveL
     denotes-factors (more_of-Factor at primary marks rest) known adjoints =
         let names = and_parts (are_names_of_primary r.names primary) (are_names_of_factors r.names rest) known in
         let here = has_quote_in_primary primary || list_any is_adjoint marks in
-        let in_front = λ (h : here ≡ true). adjoints (left_of here (has_quote_in_factors rest) h) in
+        let in_front = λ (h : here ≡ true). adjoints (or_left here (has_quote_in_factors rest) h) in
         let value = marks_value r marks (primary_value r primary) in
         let AreAll = λ (parts : List Part) (ps : List Poly). AreFactors laws q f rep parts ps (value ∷ factor_values r rest) in
         values-bind (λ part p. Denotes s q f part.1 p value) AreAll _ _ _ _
@@ -207,10 +206,10 @@ module _ {Object Arrow : Type 0} (r : Reading Object Arrow) (laws : PreadditiveL
         let marked = bound (signatures.primary_signature r.names primary >>= marked_signature at marks) _ part e in
         subst (λ x. Denotes s q f x.1 p value) (same_value _ part marked.then)
         (values-bind (λ o x. Denotes s q f o x (primary_value r primary)) (λ o x. Denotes s q f o x value) (signatures.primary_signature r.names primary) (marked_signature at marks) (polynomials.primary_poly r.names primary) (marked_poly q marks)
-        (denotes-primary primary names.0 (λ h. in_front (left_of (has_quote_in_primary primary) (list_any is_adjoint marks) h)))
-        (λ o x. denotes-marked r laws q quiver rep at marks (λ h. in_front (right_of (has_quote_in_primary primary) (list_any is_adjoint marks) h)) o x (primary_value r primary)) marked.value marked.is p d))
+        (denotes-primary primary names.0 (λ h. in_front (or_left (has_quote_in_primary primary) (list_any is_adjoint marks) h)))
+        (λ o x. denotes-marked r laws q quiver rep at marks (λ h. in_front (or_right (has_quote_in_primary primary) (list_any is_adjoint marks) h)) o x (primary_value r primary)) marked.value marked.is p d))
         (λ part p first. values-bind (λ parts ps. AreFactors laws q f rep parts ps (factor_values r rest)) AreAll (signatures.factors_parts r.names rest) _ (polynomials.factor_polys r.names rest) _
-        (denotes-factors rest names.1 (λ h. adjoints (right_of here (has_quote_in_factors rest) h)))
+        (denotes-factors rest names.1 (λ h. adjoints (or_right here (has_quote_in_factors rest) h)))
         (λ parts ps later. values-ok AreAll (part ∷ parts) (p ∷ ps) (one_factor part p value parts ps (factor_values r rest) first later)))
 
     denotes-primary : (k : Primary) → are_names_of_primary r.names k ≡ true → (has_quote_in_primary k ≡ true → Adjoints)

@@ -1,5 +1,6 @@
 -- The value of a factor with quotes and carets.
 use Rattle.std.proofs.Common.{◌≡◌, ℕ, zero, suc, ◌<◌, ℤ, pos, negsuc, true, cond, List, [], ◌∷◌, replicate, Option, Some, None, Ok, sym, refl, ap, subst, ◌∙◌}
+use Rattle.std.proofs.lemmas.Bool.{or_left, or_right}
 use Rattle.std.specs.Option.{option_map}
 use Rattle.std.specs.List.{list_any}
 use Rattle.definitions.specs.Category.{Structure, IsArrow, PreadditiveLaws}
@@ -22,7 +23,6 @@ use Rattle.expressions.specs.Polynomials.{product_from, product_poly, power_poly
 use Rattle.expressions.proofs.Sequences.{bound, same_value, OfValues, values-ok, values-bind}
 use Rattle.expressions.proofs.TypedParts.{no_fault, meets_passed}
 use Rattle.expressions.proofs.Words.{words-collection, words-adjoint}
-use Rattle.expressions.proofs.Letters.{left_of, right_of}
 use Rattle.statement_meaning.specs.Values.{Reading, iterated, power, marked, marks_value}
 use Rattle.statement_meaning.proofs.Polynomials.{ArePaths, value_in, value-same}
 use Rattle.statement_meaning.proofs.Denoted.{value_of, DenotesAt, Denotes}
@@ -122,5 +122,5 @@ module _ {Object Arrow : Type 0} (r : Reading Object Arrow) (laws : PreadditiveL
   denotes-marked first [] adjoints o p a d = values-ok (λ o' x. Denotes s q f o' x a) o p d
   denotes-marked first (k ∷ marks) adjoints o p a d =
       values-bind (λ o' x. Denotes s q f o' x (option_map (marked r k) a)) (λ o' x. Denotes s q f o' x (marks_value r (k ∷ marks) a))
-      (mark_signature first k o) (marked_signature first marks) (mark_poly q k p) (marked_poly q marks) (denotes-mark first k (λ h. adjoints (left_of _ _ h)) o p a d)
-      (λ o' x. denotes-marked first marks (λ h. adjoints (right_of _ _ h)) o' x (option_map (marked r k) a))
+      (mark_signature first k o) (marked_signature first marks) (mark_poly q k p) (marked_poly q marks) (denotes-mark first k (λ h. adjoints (or_left _ _ h)) o p a d)
+      (λ o' x. denotes-marked first marks (λ h. adjoints (or_right _ _ h)) o' x (option_map (marked r k) a))

@@ -11,10 +11,10 @@ use Rattle.expressions.specs.Signatures as signatures
 use Rattle.expressions.specs.Signatures.{Part, from_to}
 use Rattle.expressions.specs.Polynomials as polynomials
 use Rattle.expressions.proofs.Sequences.{bound, same_value}
-use Rattle.expressions.proofs.TypedParts.{no_fault, joins, product_passed}
+use Rattle.expressions.proofs.TypedParts.{path-append, no_fault, joins, product_passed}
 use Rattle.expressions.proofs.Words.{words-product}
 use Rattle.statement_meaning.specs.Values.{after, composite}
-use Rattle.statement_meaning.proofs.Polynomials.{ArePaths, path-append, value_in, value-same, value-product}
+use Rattle.statement_meaning.proofs.Polynomials.{ArePaths, value_in, value-same, value-product}
 use Rattle.statement_meaning.proofs.Denoted.{value_of, DenotesAt, Denotes}
 
 module _ {Object Arrow : Type 0} {s : Structure Object Arrow} (laws : PreadditiveLaws s) (q : Quiver) (f : Representation Object Arrow) (rep : Represents s q f) where
