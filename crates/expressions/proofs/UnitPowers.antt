@@ -1,12 +1,12 @@
 -- The power of one term whose coefficient is 1 or -1: no product is too large.
 use Rattle.std.proofs.Common.{◌≡◌, ◌≢◌, ◌⊎◌, inl, inr, ℕ, zero, suc, ◌+◌, ◌-◌, ◌*◌, ◌%◌, ◌<◌, ◌≤◌, ◌^◌, ℤ, pos, negsuc, ◌*ℤ◌, Bool, true, false, nat_lt, [], ◌∷◌, length, replicate, unsigned_abs, Result, Ok, refl, sym, ap, ap₂, subst, ◌∙◌, arith}
 use Rattle.std.proofs.lemmas.Bool.{ltb-true, ltb-false}
-use Rattle.std.proofs.lemmas.Int.{ints}
 use Rattle.coef_int.specs.Range.{IsCoefficient}
 use Rattle.definitions.specs.Poly.{Poly, Term}
 use Rattle.nc_polynomial.specs.declared.fault.PolyFault.{PolyFault}
 use Rattle.nc_polynomial.specs.Faults.{Explains, size_fault}
 use Rattle.nc_polynomial.specs.Shape.{IsCanonical}
+use Rattle.nc_polynomial.proofs.Units.{one-*ℤ}
 use Rattle.expressions.specs.Polynomials.{product_from, product_poly}
 use Rattle.expressions.specs.Repeated.{repeated_word}
 use Rattle.expressions.proofs.RepeatedWords.{length-repeated}
@@ -22,13 +22,7 @@ unit-next u i = let next : i + 1 ≡ suc i = omega arith in ap (unit_after u) ne
 
 square : (u : ℤ) → unsigned_abs u ≡ 1 → u *ℤ u ≡ pos 1
 square (pos n) e = ap (λ k. pos k *ℤ pos k) e
-square (negsuc n) e = ap (λ k. negsuc k *ℤ negsuc k) (none e)
-  where
-    none : suc n ≡ 1 → n ≡ 0
-    none h = omega (arith, h)
-
-one_times : (u : ℤ) → pos 1 *ℤ u ≡ u
-one_times u = omega (arith, ints)
+square (negsuc n) e = let none : n ≡ 0 = omega (arith, e) in ap (λ k. negsuc k *ℤ negsuc k) none
 
 abbrev IsAfter : ℤ → ℕ → Type 0
 IsAfter u n = ((n % 2 ≡ 0) × (unit_after u n ≡ pos 1)) ⊎ ((n % 2 ≡ 1) × (unit_after u n ≡ u))
@@ -36,7 +30,7 @@ IsAfter u n = ((n % 2 ≡ 0) × (unit_after u n ≡ pos 1)) ⊎ ((n % 2 ≡ 1) �
 by_turns : (u : ℤ) → unsigned_abs u ≡ 1 → (n : ℕ) → IsAfter u n
 by_turns u unit zero = inl (refl, refl)
 by_turns u unit (suc n) = elim (by_turns u unit n) [
-  | inl (even, is) ↦ inr (omega (arith, even), ap (λ c. c *ℤ u) is ∙ one_times u)
+  | inl (even, is) ↦ inr (omega (arith, even), ap (λ c. c *ℤ u) is ∙ one-*ℤ u)
   | inr (odd, is) ↦ inl (omega (arith, odd), ap (λ c. c *ℤ u) is ∙ square u unit)
 ]
 
@@ -53,14 +47,10 @@ unit-odd u unit n odd = elim (by_turns u unit n) [
 ]
 
 unit_in : (u : ℤ) → unsigned_abs u ≡ 1 → (n : ℕ) → IsCoefficient (unit_after u n)
-unit_in u unit n = go (by_turns u unit n)
-  where
-    small : 1 < 2 ^ 127
-    small = omega arith
-
-    go : IsAfter u n → IsCoefficient (unit_after u n)
-    go (inl (e, is)) = subst IsCoefficient (sym is) small
-    go (inr (e, is)) = subst IsCoefficient (sym is) (subst (λ k. k < 2 ^ 127) (sym unit) small)
+unit_in u unit n = elim (by_turns u unit n) [
+  | inl (e, is) ↦ subst IsCoefficient (sym is) (let small : 1 < 2 ^ 127 = omega arith in small)
+  | inr (e, is) ↦ subst IsCoefficient (sym is) (let small : unsigned_abs u < 2 ^ 127 = omega (arith, unit) in small)
+]
 
 -- the power
 module _ (t : Term) (canonical : IsCanonical (t ∷ [])) (unit : unsigned_abs t.0 ≡ 1) (n : ℕ) where
@@ -89,10 +79,9 @@ module _ (t : Term) (canonical : IsCanonical (t ∷ [])) (unit : unsigned_abs t.
 
   -- the letters of a part of the power and of one more factor
   part : (i k : ℕ) → n ≡ i + suc k → length (repeated_word i t.1) + length t.1 ≤ n * length t.1
-  part i k e = subst (λ m. length (repeated_word i t.1) + length t.1 ≤ m * length t.1) (sym e) (go (length-repeated i t.1))
-    where
-      go : length (repeated_word i t.1) ≡ i * length t.1 → length (repeated_word i t.1) + length t.1 ≤ (i + suc k) * length t.1
-      go h = grind (arith, h)
+  part i k e =
+      let count : length (repeated_word i t.1) ≡ i * length t.1 = length-repeated i t.1 in
+      subst (λ m. length (repeated_word i t.1) + length t.1 ≤ m * length t.1) (sym e) (grind (arith, count))
 
   ends : (k i : ℕ) → n ≡ i + k → n * length t.1 ≤ 500 → Leads i → IsCanonical (after i) → (whole ≡ Ok (after n)) × IsCanonical (after n)
   ends zero i e short leads so_far =
@@ -126,7 +115,7 @@ module _ (t : Term) (canonical : IsCanonical (t ∷ [])) (unit : unsigned_abs t.
   first = (unit_after t.0 1, repeated_word 1 t.1) ∷ []
 
   first_is : first ≡ t ∷ []
-  first_is = ap (λ c. (c, t.1) ∷ []) (one_times t.0)
+  first_is = ap (λ c. (c, t.1) ∷ []) (one-*ℤ t.0)
 
   begins : (n : ℕ) → product_from first (replicate (suc n - 1) (t ∷ [])) ≡ product_poly (replicate (suc n) (t ∷ []))
   begins n = let less : suc n - 1 ≡ n = omega arith in ap₂ (λ p m. product_from p (replicate m (t ∷ []))) first_is less
