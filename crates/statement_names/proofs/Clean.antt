@@ -6,7 +6,7 @@ use Rattle.definitions.specs.Moduli.{is_field_modulus}
 use Rattle.statement_names.specs.Types.{Statement, Placed, Kind, Object, Map}
 use Rattle.statement_names.specs.Occurrences.{Occurrence, declares_object, declares_map, uses, lists, counts, modulus}
 use Rattle.statement_names.specs.Faults.{declared_by, declared_in, is_kind, are_two_objects, is_among, is_between, value_of, or_else, fault_of, known_behind, first_fault, kind_within}
-use Rattle.statement_names.proofs.Apart.{Apart, Apart-push, none_first, none_later}
+use Rattle.statement_names.proofs.Apart.{Apart, Apart-push, both_none}
 use Rattle.statement_names.proofs.Each.{Each}
 
 -- tests that let an occurrence through
@@ -44,10 +44,10 @@ declared_push before o = sym (flat_map-append declared_by before (o ∷ []) ∙ 
 module _ (most_maps : ℕ) (kind : List ℕ → Option Kind) where
   pub head_clean : (before : List Occurrence) (o : Occurrence) (os : List Occurrence) → first_fault most_maps kind before (o ∷ os) ≡ None
       → fault_of (known_behind most_maps kind before) o ≡ None
-  head_clean before o os clean = none_first (fault_of (known_behind most_maps kind before) o) (first_fault most_maps kind (before ++ o ∷ []) os) clean
+  head_clean before o os clean = (both_none (fault_of (known_behind most_maps kind before) o) (first_fault most_maps kind (before ++ o ∷ []) os) clean).0
 
   pub tail_clean : (before : List Occurrence) (o : Occurrence) (os : List Occurrence) → first_fault most_maps kind before (o ∷ os) ≡ None → first_fault most_maps kind (before ++ o ∷ []) os ≡ None
-  tail_clean before o os clean = none_later (fault_of (known_behind most_maps kind before) o) (first_fault most_maps kind (before ++ o ∷ []) os) clean
+  tail_clean before o os clean = (both_none (fault_of (known_behind most_maps kind before) o) (first_fault most_maps kind (before ++ o ∷ []) os) clean).1
 
   good : (before : List Occurrence) (o : Occurrence) → fault_of (known_behind most_maps kind before) o ≡ None → IsGood kind o
   good before (declares_map n u v selfmade) clean = not_wrong _ _ _ clean
