@@ -24,7 +24,7 @@ use Rattle.signature_typing.specs.Typing.{polynomial_in, value_in, polynomials_o
 use Rattle.signature_typing.proofs.Values.{IsValue, AreValues, all_values}
 use Rattle.statement_meaning.specs.Claims.{quiver_in, IsClaim}
 use Rattle.statement_meaning.proofs.Claims.{claim_there}
-use Rattle.statement_meaning.proofs.Statements.{none_wrong}
+use Rattle.signature_typing.proofs.EachStatement.{none_wrong}
 use Rattle.stated_problem.specs.Stated.{IsStated}
 use Rattle.command_runs.specs.Promises.NotDerivable.{IsPolynomialOf, IsNotDerivable}
 use Rattle.command_runs.proofs.PromisedFiles.{has_no_fault}

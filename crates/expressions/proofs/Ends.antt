@@ -1,31 +1,24 @@
 -- The ends of signatures are objects of the quiver.
-use Rattle.std.proofs.Common.{ℕ, Bool, true, false, cond, nat_eq, List, [], ◌∷◌, Option, Some, None, Result, Ok, Err, IfOk}
+use Rattle.std.proofs.Common.{ℕ, nat_eq, List, [], ◌∷◌, Option, Some, None, Result, Ok, Err, IfOk}
+use Rattle.std.proofs.lemmas.Bool.{cond_both}
 use Rattle.quiver.specs.declared.named.Sig.{Sig}
 use Rattle.statement_tokens.specs.declared.place.Spot.{Spot}
 use Rattle.statement_syntax.specs.declared.tree.Mark.{Mark}
 use Rattle.statement_syntax.specs.declared.tree.Mark.TheVariants.{Adjoint, Power}
 use Rattle.expressions.specs.declared.fault.SignatureFault.{SignatureFault}
-use Rattle.expressions.specs.declared.fault.SignatureFault.TheVariants.{NotComposable, SumMismatch}
 use Rattle.expressions.specs.Results.{◌>>=◌}
-use Rattle.expressions.specs.Signatures.{HasObjects, from_to, same_ends, is_repeated, repeated, mark_signature, marked_signature, product_step, sum_step}
+use Rattle.expressions.specs.Signatures.{HasObjects, same_ends, is_repeated, repeated, mark_signature, marked_signature, product_step, sum_step}
 
 module _ (n : ℕ) where
   objects-repeated : (first caret : Spot) (s : Option Sig) → HasObjects n s → IfOk (repeated first caret s) (HasObjects n)
   objects-repeated first caret None h = tt
-  objects-repeated first caret (Some s) h = go (nat_eq s.source.0 s.target.0)
-    where
-      go : (b : Bool) → IfOk {E = SignatureFault} (cond b (Ok (Some s)) (Err (NotComposable caret s s))) (HasObjects n)
-      go true = h
-      go false = tt
+  objects-repeated first caret (Some s) h = cond_both (nat_eq s.source.0 s.target.0) _ _ (λ r. IfOk r (HasObjects n)) (λ _. h) (λ _. tt)
 
   objects-mark_signature : (first : Spot) (m : Mark) (s : Option Sig) → HasObjects n s → IfOk (mark_signature first m s) (HasObjects n)
   objects-mark_signature first Adjoint None h = tt
   objects-mark_signature first Adjoint (Some s) h = (h.1, h.0)
-  objects-mark_signature first (Power caret exponent) s h = go (is_repeated exponent.value)
-    where
-      go : (b : Bool) → IfOk (cond b (repeated first caret s) (Ok s)) (HasObjects n)
-      go true = objects-repeated first caret s h
-      go false = h
+  objects-mark_signature first (Power caret exponent) s h =
+      cond_both (is_repeated exponent.value) _ _ (λ r. IfOk r (HasObjects n)) (λ _. objects-repeated first caret s h) (λ _. h)
 
   pub objects-marked_signature : (first : Spot) (marks : List Mark) (s : Option Sig) → HasObjects n s → IfOk (marked_signature first marks s) (HasObjects n)
   objects-marked_signature first [] s h = h
@@ -40,18 +33,10 @@ module _ (n : ℕ) where
   objects-product_step (Err e) at next h k = tt
   objects-product_step (Ok so_far) at None h k = tt
   objects-product_step (Ok None) at (Some s) h k = k
-  objects-product_step (Ok (Some left)) at (Some right) h k = go (nat_eq left.source.0 right.target.0)
-    where
-      go : (b : Bool) → IfOk {E = SignatureFault} (cond b (Ok (Some (from_to right.source.0 left.target.0))) (Err (NotComposable at left right))) (HasObjects n)
-      go true = (k.0, h.1)
-      go false = tt
+  objects-product_step (Ok (Some left)) at (Some right) h k = cond_both (nat_eq left.source.0 right.target.0) _ _ (λ r. IfOk r (HasObjects n)) (λ _. (k.0, h.1)) (λ _. tt)
 
   pub objects-sum_step : (so_far : Result (Option Sig) SignatureFault) (at : Spot) (next : Option Sig) → IfOk so_far (HasObjects n) → HasObjects n next → IfOk (sum_step so_far at next) (HasObjects n)
   objects-sum_step (Err e) at next h k = tt
   objects-sum_step (Ok so_far) at None h k = h
   objects-sum_step (Ok None) at (Some s) h k = k
-  objects-sum_step (Ok (Some before)) at (Some s) h k = go (same_ends before s)
-    where
-      go : (b : Bool) → IfOk {E = SignatureFault} (cond b (Ok (Some before)) (Err (SumMismatch at before s))) (HasObjects n)
-      go true = h
-      go false = tt
+  objects-sum_step (Ok (Some before)) at (Some s) h k = cond_both (same_ends before s) _ _ (λ r. IfOk r (HasObjects n)) (λ _. h) (λ _. tt)

@@ -9,10 +9,9 @@ use Rattle.statement_syntax.specs.declared.tree.Number.{Number}
 use Rattle.statement_syntax.specs.declared.tree.Primary.{Letter}
 use Rattle.statement_syntax.specs.declared.tree.Factor.{Factor}
 use Rattle.statement_syntax.specs.declared.tree.Term.{Term, roll-Term, out-roll-Term}
-use Rattle.expressions.specs.declared.fault.SignatureFault.TheVariants.{NotComposable, SumMismatch, OpenZero}
 use Rattle.expressions.specs.Results.{◌>>=◌}
 use Rattle.abbreviations.specs.Names.{letter_of, object_of}
-use Rattle.expressions.specs.Signatures.{from_to, Part, marked_signature, product_signature, sum_from, sides_signature, term_signature}
+use Rattle.expressions.specs.Signatures.{not_composable, sum_mismatch, open_zero, from_to, Part, marked_signature, product_signature, sum_from, sides_signature, term_signature}
 use Rattle.expressions.specs.Polynomials.{letter_poly, marked_poly, product_poly, scaled_by, total, term_poly, factor_poly}
 use Rattle.expressions.proofs.Trees.{each, factor_part, poly-term, signature-term}
 
@@ -45,10 +44,10 @@ product : product_signature (a_at 7 ∷ x_at 9 ∷ a_at 11 ∷ []) ≡ Ok (Some 
 product = refl
 
 -- a a x and a x (0)
-not_composable : product_signature (a_at 7 ∷ a_at 9 ∷ x_at 11 ∷ []) ≡ Err (NotComposable (at 9) (from_to 0 1) (from_to 0 1))
-not_composable = refl
+apart : product_signature (a_at 7 ∷ a_at 9 ∷ x_at 11 ∷ []) ≡ Err (not_composable (at 9) (from_to 0 1) (from_to 0 1))
+apart = refl
 
-open_factor : product_signature (a_at 7 ∷ x_at 9 ∷ zero_at 11 ∷ []) ≡ Err (OpenZero (at 11))
+open_factor : product_signature (a_at 7 ∷ x_at 9 ∷ zero_at 11 ∷ []) ≡ Err (open_zero (at 11))
 open_factor = refl
 
 -- (0) alone
@@ -59,17 +58,17 @@ open_alone = refl
 sum : sum_from (Ok None) (zero_at 7 ∷ a_at 11 ∷ zero_at 15 ∷ a_at 19 ∷ []) ≡ Ok (Some (from_to 0 1))
 sum = refl
 
-mismatch : sum_from (Ok None) (zero_at 7 ∷ a_at 11 ∷ x_at 15 ∷ []) ≡ Err (SumMismatch (at 15) (from_to 0 1) (from_to 1 0))
+mismatch : sum_from (Ok None) (zero_at 7 ∷ a_at 11 ∷ x_at 15 ∷ []) ≡ Err (sum_mismatch (at 15) (from_to 0 1) (from_to 1 0))
 mismatch = refl
 
 -- 0 = 0, 0 = x and a = x
-open_sides : sides_signature (at 7) (at 11) None None ≡ Err (OpenZero (at 7))
+open_sides : sides_signature (at 7) (at 11) None None ≡ Err (open_zero (at 7))
 open_sides = refl
 
 open_side : sides_signature (at 7) (at 11) None (Some (from_to 1 0)) ≡ Ok (from_to 1 0)
 open_side = refl
 
-sides : sides_signature (at 7) (at 11) (Some (from_to 0 1)) (Some (from_to 1 0)) ≡ Err (SumMismatch (at 11) (from_to 0 1) (from_to 1 0))
+sides : sides_signature (at 7) (at 11) (Some (from_to 0 1)) (Some (from_to 1 0)) ≡ Err (sum_mismatch (at 11) (from_to 0 1) (from_to 1 0))
 sides = refl
 
 -- x a leads from 0 to itself; the caret is at 12
@@ -80,10 +79,10 @@ repeated : marked_signature (at 7) (caret 2 ∷ Adjoint ∷ []) (Some (from_to 0
 repeated = refl
 
 -- a^1'^2 and (0)^2, and (0)^1, which is open
-two_ends : marked_signature (at 7) (caret 1 ∷ Adjoint ∷ caret 2 ∷ []) (Some (from_to 0 1)) ≡ Err (NotComposable (at 12) (from_to 1 0) (from_to 1 0))
+two_ends : marked_signature (at 7) (caret 1 ∷ Adjoint ∷ caret 2 ∷ []) (Some (from_to 0 1)) ≡ Err (not_composable (at 12) (from_to 1 0) (from_to 1 0))
 two_ends = refl
 
-open_base : marked_signature (at 7) (caret 2 ∷ []) None ≡ Err (OpenZero (at 7))
+open_base : marked_signature (at 7) (caret 2 ∷ []) None ≡ Err (open_zero (at 7))
 open_base = refl
 
 once : marked_signature (at 7) (caret 1 ∷ []) None ≡ Ok None
@@ -130,7 +129,7 @@ factors = letter (97 ∷ []) 3 [] ∷ letter (120 ∷ []) 5 (Adjoint ∷ []) ∷
 abbrev tree : Term
 tree = roll-Term (record { at = at 1; negative = false; literal = three; factors = factors })
 
-tree_signature : term_signature declared tree ≡ Err (NotComposable (at 5) (from_to 0 1) (from_to 0 1))
+tree_signature : term_signature declared tree ≡ Err (not_composable (at 5) (from_to 0 1) (from_to 0 1))
 tree_signature = signature-term declared tree ∙ ap (λ r. each (factor_part declared) r.factors >>= product_signature) (out-roll-Term _)
 
 tree_poly : term_poly declared tree ≡ Ok ((pos 3, 2 ∷ 5 ∷ []) ∷ [])

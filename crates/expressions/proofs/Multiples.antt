@@ -1,6 +1,6 @@
 -- Multiples by the number below all coefficients.
 use Rattle.std.proofs.Common.{◌≡◌, ◌≢◌, ◌≤◌, ◌*◌, ℕ, zero, suc, ℤ, pos, negsuc, neg_ℤ, ◌*ℤ◌, false, cond, nat_lt, List, [], ◌∷◌, slice_get, Some, Err, refl, ap, ◌∙◌, arith}
-use Rattle.std.proofs.lemmas.Bool.Decides.{nat_tests}
+use Rattle.std.proofs.lemmas.Bool.{le-ltb}
 use Rattle.std.proofs.Math.IntN.{negsuc-*ℤ-pos, negsuc-*ℤ-negsuc}
 use Rattle.std.specs.Int.RustNames.{unsigned_abs}
 use Rattle.std.specs.List.{All}
@@ -15,9 +15,6 @@ use Rattle.nc_polynomial.specs.Arithmetic.{multiple_result}
 at_least : (a n : ℕ) → a ≤ a * suc n
 at_least a n = omega arith
 
-not_below : (a b : ℕ) → a ≤ b → nat_lt b a ≡ false
-not_below a b h = grind (arith, nat_tests)
-
 abs-neg : (n : ℕ) → unsigned_abs (neg_ℤ (pos n)) ≡ n
 abs-neg zero = refl
 abs-neg (suc n) = refl
@@ -25,8 +22,8 @@ abs-neg (suc n) = refl
 -- no multiple by a negative number is nearer to zero, but that of zero
 far_from_zero : (m : ℕ) (z : ℤ) → z ≢ pos 0 → nat_lt (unsigned_abs (negsuc m *ℤ z)) (suc m) ≡ false
 far_from_zero m (pos zero) h = absurd (h refl)
-far_from_zero m (pos (suc n)) h = ap (λ x. nat_lt (unsigned_abs x) (suc m)) (negsuc-*ℤ-pos m (suc n)) ∙ ap (λ x. nat_lt x (suc m)) (abs-neg (suc m * suc n)) ∙ not_below (suc m) (suc m * suc n) (at_least (suc m) n)
-far_from_zero m (negsuc n) h = ap (λ x. nat_lt (unsigned_abs x) (suc m)) (negsuc-*ℤ-negsuc m n) ∙ not_below (suc m) (suc m * suc n) (at_least (suc m) n)
+far_from_zero m (pos (suc n)) h = ap (λ x. nat_lt (unsigned_abs x) (suc m)) (negsuc-*ℤ-pos m (suc n)) ∙ ap (λ x. nat_lt x (suc m)) (abs-neg (suc m * suc n)) ∙ le-ltb (suc m * suc n) (suc m) (at_least (suc m) n)
+far_from_zero m (negsuc n) h = ap (λ x. nat_lt (unsigned_abs x) (suc m)) (negsuc-*ℤ-negsuc m n) ∙ le-ltb (suc m * suc n) (suc m) (at_least (suc m) n)
 
 abbrev pub least : ℤ
 least = negsuc 170141183460469231731687303715884105727

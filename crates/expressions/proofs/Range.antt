@@ -39,7 +39,7 @@ module _ (ds : List Declaration) (declared : IsDeclared ds) where
   in_range-primary x p known e = over-primary ds IsLetter maps_in_range x known (λ v below h. identity_in_range ds v below) (λ h. star_in_range) p e
 
   pub in_range-mark_poly : (m : Mark) (p r : Poly) → AllOver p → mark_poly (quiver_of ds) m p ≡ Ok r → AllOver r
-  in_range-mark_poly m p r h e = over-mark_poly ds IsLetter maps_in_range m (λ adjoint. star_in_range) p r h e
+  in_range-mark_poly m p r h e = over-mark_poly ds IsLetter maps_in_range m (λ adjoint. star_in_range) p h r e
 
   -- of the polynomial of which an adjoint may be due
   pub in_range-due : (m : Marked) (r : Poly) → AllOver m.poly.terms → due_poly (quiver_of ds) m ≡ Ok r → AllOver r

@@ -4,20 +4,13 @@ use Rattle.std.proofs.lemmas.List.{length-append}
 use Rattle.expressions.specs.Repeated.{repeated_word}
 
 repeated-sum : (m n : ℕ) (w : List ℕ) → repeated_word (m + n) w ≡ repeated_word m w ++ repeated_word n w
-repeated-sum m zero w = ap (λ k. repeated_word k w) none ∙ sym (append-nil (repeated_word m w))
-  where
-    none : m + 0 ≡ m
-    none = omega arith
-repeated-sum m (suc n) w = ap (λ k. repeated_word k w) next ∙ ap (λ v. v ++ w) (repeated-sum m n w) ∙ append_assoc (repeated_word m w) (repeated_word n w) w
-  where
-    next : m + suc n ≡ suc (m + n)
-    next = omega arith
+repeated-sum m zero w = let none : m + 0 ≡ m = omega arith in ap (λ k. repeated_word k w) none ∙ sym (append-nil (repeated_word m w))
+repeated-sum m (suc n) w =
+    let next : m + suc n ≡ suc (m + n) = omega arith in
+    ap (λ k. repeated_word k w) next ∙ ap (λ v. v ++ w) (repeated-sum m n w) ∙ append_assoc (repeated_word m w) (repeated_word n w) w
 
 pub length-repeated : (n : ℕ) (w : List ℕ) → length (repeated_word n w) ≡ n * length w
-length-repeated zero w = none
-  where
-    none : 0 ≡ 0 * length w
-    none = omega arith
+length-repeated zero w = let none : 0 ≡ 0 * length w = omega arith in none
 length-repeated (suc n) w =
     let more = length-append (repeated_word n w) w in
     let so_far = length-repeated n w in

@@ -1,5 +1,5 @@
 -- One result after another, and the results for all items of a list.
-use Rattle.std.proofs.Common.{◌≡◌, ◌<◌, ◌≤◌, ◌+◌, ℕ, List, [], ◌∷◌, ◌++◌, length, drop, get_or, Result, Ok, Err, refl, sym, ap, ◌∙◌, append_assoc}
+use Rattle.std.proofs.Common.{◌≡◌, ◌<◌, ◌≤◌, ◌+◌, ℕ, List, [], ◌∷◌, ◌++◌, length, drop, get_or, Result, Ok, Err, refl, sym, ap, subst, ◌∙◌, append_assoc}
 use Rattle.nc_polynomial.proofs.Steps.{drop_next}
 use Rattle.std.proofs.lemmas.List.{append-nil, drop_all}
 use Rattle.expressions.specs.Results.{◌>>=◌}
@@ -42,6 +42,29 @@ bound (Err e) f y h = absurd (cc)
 
 pub same_value : {A E : Type 0} (x y : A) → ◌≡◌ {A = Result A E} (Ok x) (Ok y) → x ≡ y
 same_value x y h = cc
+
+-- what holds of the value of a result, if it has one, and of the values of two results
+abbrev pub OfValue : {A E : Type 0} → Result A E → (A → Type 0) → Type 0
+OfValue {A} r P = (x : A) → r ≡ Ok x → P x
+
+abbrev pub OfValues : {A B E F : Type 0} → Result A E → Result B F → (A → B → Type 0) → Type 0
+OfValues {A} {B} r q P = (x : A) → r ≡ Ok x → (y : B) → q ≡ Ok y → P x y
+
+pub value-ok : {A E : Type 0} (P : A → Type 0) (x : A) → P x → OfValue {A = A} {E = E} (Ok x) P
+value-ok P x h y e = subst P (same_value x y e) h
+
+pub values-ok : {A B E F : Type 0} (P : A → B → Type 0) (x : A) (y : B) → P x y → OfValues {A = A} {B = B} {E = E} {F = F} (Ok x) (Ok y) P
+values-ok P x y h u e v d = subst (λ a. P a v) (same_value x u e) (subst (P x) (same_value y v d) h)
+
+pub value-bind : {A B E : Type 0} (P : A → Type 0) (Q : B → Type 0) (r : Result A E) (f : A → Result B E) → OfValue r P → ((x : A) → P x → OfValue (f x) Q) → OfValue (r >>= f) Q
+value-bind P Q r f h next y e = let x = bound r f y e in next x.value (h x.value x.is) y x.then
+
+pub values-bind : {A B C D E F : Type 0} (P : A → B → Type 0) (Q : C → D → Type 0) (r : Result A E) (f : A → Result C E) (q : Result B F) (g : B → Result D F)
+    → OfValues r q P → ((x : A) (y : B) → P x y → OfValues (f x) (g y) Q) → OfValues (r >>= f) (q >>= g) Q
+values-bind P Q r f q g h next u e v d =
+    let x = bound r f u e in
+    let y = bound q g v d in
+    next x.value y.value (h x.value x.is y.value y.is) u x.then v y.then
 
 -- none at first
 pub made-none : {A B E : Type 0} (f : A → Result B E) (xs : List A) → (each f xs >>= λ rest. Ok ([] ++ rest)) ≡ each f xs

@@ -28,10 +28,7 @@ module _ (t : Term) (canonical : IsCanonical (t ∷ [])) where
 
 -- one more time
 pub repeated-next : (i : ℕ) (w : List ℕ) → repeated_word (i + 1) w ≡ repeated_word i w ++ w
-repeated-next i w = ap (λ k. repeated_word k w) next
-  where
-    next : i + 1 ≡ suc i
-    next = omega arith
+repeated-next i w = let next : i + 1 ≡ suc i = omega arith in ap (λ k. repeated_word k w) next
 
 pub length-repeated-next : (i : ℕ) (w : List ℕ) → length (repeated_word (i + 1) w) ≡ length (repeated_word i w) + length w
 length-repeated-next i w = ap length (repeated-next i w) ∙ length-append (repeated_word i w) w

@@ -21,7 +21,7 @@ step-signed : (sum : Poly) (s : Summand) → sum_step sum s ≡ sum_result sum (
 step-signed sum (false, p) = refl
 step-signed sum (true, p) = refl
 
-canonical-signed : (s : Summand) → IsCanonical s.1 → IsCanonical (signed s)
+pub canonical-signed : (s : Summand) → IsCanonical s.1 → IsCanonical (signed s)
 canonical-signed (false, p) h = h
 canonical-signed (true, p) h = canonical-negated p h
 

@@ -14,12 +14,11 @@ use Rattle.statement_tokens.specs.declared.place.Spot.{Spot}
 use Rattle.statement_syntax.specs.declared.tree.Mark.{Mark}
 use Rattle.statement_syntax.specs.declared.tree.Mark.TheVariants.{Adjoint, Power}
 use Rattle.expressions.specs.declared.fault.SignatureFault.{SignatureFault}
-use Rattle.expressions.specs.declared.fault.SignatureFault.TheVariants.{NotComposable, SumMismatch}
 use Rattle.expressions.specs.Signatures as signatures
-use Rattle.expressions.specs.Signatures.{Part, from_to, letter_signature, same_ends, turned, is_repeated, repeated, mark_signature, marked_signature, sides_signature, equation_signature, sum_at}
+use Rattle.expressions.specs.Signatures.{Part, from_to, same_ends, turned, is_repeated, repeated, mark_signature, marked_signature}
 use Rattle.expressions.specs.Polynomials as polynomials
-use Rattle.expressions.specs.Polynomials.{letter_poly, power_poly, mark_poly, marked_poly, scaled_by, Summand, signed, equation_poly}
-use Rattle.expressions.proofs.Sequences.{bound, same_value}
+use Rattle.expressions.specs.Polynomials.{power_poly, mark_poly, marked_poly, Summand, signed}
+use Rattle.expressions.proofs.Sequences.{bound, same_value, OfValues, values-ok, values-bind}
 use Rattle.expressions.proofs.Words.{Words, weaker, words-collection, words-adjoint, words-product}
 use Rattle.expressions.proofs.Letters.{words-signed, words-sum_step, words-power_poly}
 
@@ -32,6 +31,54 @@ same_from_ends s t h =
     let both = and_parts (nat_eq s.source.0 t.source.0) (nat_eq s.target.0 t.target.0) h in
     ap₂ from_to (eqb-true s.source.0 t.source.0 both.0) (eqb-true s.target.0 t.target.0 both.1)
 
+-- a test that a result passed
+passed : {A : Type 0} (b : Bool) (x o : A) (f : SignatureFault) → cond b (Ok x) (Err f) ≡ Ok o → (b ≡ true) × (x ≡ o)
+passed true x o f h = (refl, same_value x o h)
+passed false x o f h = absurd (no_fault o f h)
+
+pub same_passed : {A : Type 0} (s t : Sig) (x o : A) (f : SignatureFault) → cond (same_ends s t) (Ok x) (Err f) ≡ Ok o → (s ≡ t) × (x ≡ o)
+same_passed s t x o f h = let both = passed (same_ends s t) x o f h in (same_from_ends s t both.0, both.1)
+
+pub meets_passed : {A : Type 0} (m n : ℕ) (x o : A) (f : SignatureFault) → cond (nat_eq m n) (Ok x) (Err f) ≡ Ok o → (m ≡ n) × (x ≡ o)
+meets_passed m n x o f h = let both = passed (nat_eq m n) x o f h in (eqb-true m n both.0, both.1)
+
+-- of several parts, those so far have a signature
+sum_from-fault : (f : SignatureFault) (parts : List Part) → signatures.sum_from (Err f) parts ≡ Err f
+sum_from-fault f [] = refl
+sum_from-fault f (p ∷ parts) = sum_from-fault f parts
+
+pub sum_passed : (r : Result (Option Sig) SignatureFault) (parts : List Part) (o : Option Sig) → signatures.sum_from r parts ≡ Ok o
+    → (x : Option Sig) × (r ≡ Ok x) × (signatures.sum_from (Ok x) parts ≡ Ok o)
+sum_passed (Ok x) parts o h = (x, refl, h)
+sum_passed (Err f) parts o h = absurd (no_fault o f (sym (sum_from-fault f parts) ∙ h))
+
+product_from-fault : (f : SignatureFault) (parts : List Part) → signatures.product_from (Err f) parts ≡ Err f
+product_from-fault f [] = refl
+product_from-fault f (p ∷ parts) = product_from-fault f parts
+
+pub product_passed : (r : Result (Option Sig) SignatureFault) (parts : List Part) (o : Option Sig) → signatures.product_from r parts ≡ Ok o
+    → (x : Option Sig) × (r ≡ Ok x) × (signatures.product_from (Ok x) parts ≡ Ok o)
+product_passed (Ok x) parts o h = (x, refl, h)
+product_passed (Err f) parts o h = absurd (no_fault o f (sym (product_from-fault f parts) ∙ h))
+
+-- the next factor, which fits those so far, and the factors after it
+pub record Joins (left : Sig) (part : Part) (parts : List Part) (o : Option Sig) : Type 0 where
+  pub right : Sig
+  pub is : part.1 ≡ Some right
+  pub meet : left.source.0 ≡ right.target.0
+  pub rest : signatures.product_from (Ok (Some (from_to right.source.0 left.target.0))) parts ≡ Ok o
+
+pub joins : (left : Sig) (part : Part) (parts : List Part) (o : Option Sig) → signatures.product_from (signatures.product_step (Ok (Some left)) part.0 part.1) parts ≡ Ok o
+    → Joins left part parts o
+joins left part parts o h = let next = product_passed _ parts o h in go part.1 refl next.0 next.1 next.2
+  where
+    go : (s : Option Sig) → part.1 ≡ s → (after : Option Sig) → signatures.product_step (Ok (Some left)) part.0 s ≡ Ok after → signatures.product_from (Ok after) parts ≡ Ok o
+        → Joins left part parts o
+    go None is after step rest = absurd (no_fault after _ step)
+    go (Some right) is after step rest =
+        let both = meets_passed left.source.0 right.target.0 _ _ _ step in
+        record { right = right; is = is; meet = both.0; rest = ap (λ s. signatures.product_from (Ok s) parts) both.1 ∙ rest }
+
 -- the paths of a signature
 module _ (q : Quiver) where
   -- an open expression has no words
@@ -39,7 +86,10 @@ module _ (q : Quiver) where
   IsPathOf None w = ⊥
   IsPathOf (Some s) w = is_path q s.source.0 s.target.0 w ≡ true
 
-  path-append : (u k v : ℕ) (l y : List ℕ) → is_path q k v l ≡ true → is_path q u k y ≡ true → is_path q u v (l ++ y) ≡ true
+  abbrev pub ArePathsOf : Option Sig → Poly → Type 0
+  ArePathsOf o p = Words (IsPathOf o) p
+
+  pub path-append : (u k v : ℕ) (l y : List ℕ) → is_path q k v l ≡ true → is_path q u k y ≡ true → is_path q u v (l ++ y) ≡ true
   path-append u k v [] y h m = absurd (cc)
   path-append u k v (a ∷ l) [] h m = absurd (cc)
   path-append u k v (a ∷ l) (b ∷ y) h m = leads-append q u k v (a ∷ l) (b ∷ y) h m
@@ -51,109 +101,64 @@ module _ (q : Quiver) where
   sum-left : (before : Option Sig) (at : Spot) (next after : Option Sig) → signatures.sum_step (Ok before) at next ≡ Ok after → (w : List ℕ) → IsPathOf before w → IsPathOf after w
   sum-left before at None after h w path = subst (λ s. IsPathOf s w) (same_value before after h) path
   sum-left None at (Some s) after h w path = absurd path
-  sum-left (Some before) at (Some s) after h w path = go (same_ends before s) h
-    where
-      go : (b : Bool) → cond b (Ok (Some before)) (Err (SumMismatch at before s)) ≡ Ok after → IsPathOf after w
-      go true k = subst (λ t. IsPathOf t w) (same_value (Some before) after k) path
-      go false k = absurd (no_fault after _ k)
+  sum-left (Some before) at (Some s) after h w path = subst (λ t. IsPathOf t w) (same_passed before s _ _ _ h).1 path
 
   sum-right : (before : Option Sig) (at : Spot) (next after : Option Sig) → signatures.sum_step (Ok before) at next ≡ Ok after → (w : List ℕ) → IsPathOf next w → IsPathOf after w
   sum-right before at None after h w path = absurd path
   sum-right None at (Some s) after h w path = subst (λ t. IsPathOf t w) (same_value (Some s) after h) path
-  sum-right (Some before) at (Some s) after h w path = go (same_ends before s) refl h
-    where
-      go : (b : Bool) → same_ends before s ≡ b → cond b (Ok (Some before)) (Err (SumMismatch at before s)) ≡ Ok after → IsPathOf after w
-      go true e k = subst (λ t. IsPathOf t w) (ap Some (sym (same_from_ends before s e)) ∙ same_value (Some before) after k) path
-      go false e k = absurd (no_fault after _ k)
-
-  sum_from-fault : (f : SignatureFault) (parts : List Part) → signatures.sum_from (Err f) parts ≡ Err f
-  sum_from-fault f [] = refl
-  sum_from-fault f (p ∷ parts) = sum_from-fault f parts
+  sum-right (Some before) at (Some s) after h w path = let both = same_passed before s _ _ _ h in subst (λ t. IsPathOf t w) (ap Some (sym both.0) ∙ both.1) path
 
   -- each summand is typed as its part says
-  abbrev pub AreSummands : List Part → List Summand → Type 0
-  AreSummands [] [] = Unit {0}
-  AreSummands [] (s ∷ ss) = ⊥
-  AreSummands (p ∷ parts) [] = ⊥
-  AreSummands (p ∷ parts) (s ∷ ss) = Words (IsPathOf p.1) s.1 × AreSummands parts ss
+  pub data AreSummands : List Part → List Summand → Type 0 where
+    no_summand : AreSummands [] []
+    one_summand : (p : Part) (s : Summand) (parts : List Part) (ss : List Summand) → Words (IsPathOf p.1) s.1 → AreSummands parts ss → AreSummands (p ∷ parts) (s ∷ ss)
 
-  typed-sum_from : (so_far : Option Sig) (sum : Poly) (parts : List Part) (ss : List Summand) (o : Option Sig) (r : Poly)
-      → Words (IsPathOf so_far) sum → AreSummands parts ss → signatures.sum_from (Ok so_far) parts ≡ Ok o → polynomials.sum_from sum ss ≡ Ok r → Words (IsPathOf o) r
-  typed-sum_from so_far sum [] [] o r h k e d = subst (Words (IsPathOf o)) (same_value sum r d) (subst (λ t. Words (IsPathOf t) sum) (same_value so_far o e) h)
-  typed-sum_from so_far sum [] (s ∷ ss) o r h k e d = absurd k
-  typed-sum_from so_far sum (p ∷ parts) [] o r h k e d = absurd k
-  typed-sum_from so_far sum (p ∷ parts) (s ∷ ss) o r h k e d =
+  typed-sum_from : (so_far : Option Sig) (sum : Poly) (parts : List Part) (ss : List Summand) → AreSummands parts ss → ArePathsOf so_far sum
+      → OfValues (signatures.sum_from (Ok so_far) parts) (polynomials.sum_from sum ss) ArePathsOf
+  typed-sum_from so_far sum _ _ no_summand h o e r d = values-ok ArePathsOf so_far sum h o e r d
+  typed-sum_from so_far sum _ _ (one_summand p s parts ss typed k) h o e r d =
       let step = bound (polynomials.sum_step sum s) (λ next. polynomials.sum_from next ss) r d in
-      go step.value step.is (signatures.sum_step (Ok so_far) p.0 p.1) refl e (λ next made rest. typed-sum_from next step.value parts ss o r made k.1 rest step.then)
-    where
-      go : (v : Poly) → polynomials.sum_step sum s ≡ Ok v → (x : Result (Option Sig) SignatureFault) → signatures.sum_step (Ok so_far) p.0 p.1 ≡ x → signatures.sum_from x parts ≡ Ok o
-          → ((next : Option Sig) → Words (IsPathOf next) v → signatures.sum_from (Ok next) parts ≡ Ok o → Words (IsPathOf o) r) → Words (IsPathOf o) r
-      go v sum_is (Err f) step rest more = absurd (no_fault o f (sym (sum_from-fault f parts) ∙ rest))
-      go v sum_is (Ok next) step rest more =
-          let on_left = weaker (IsPathOf so_far) (IsPathOf next) (sum-left so_far p.0 p.1 next step) sum h in
-          let on_right = weaker (IsPathOf p.1) (IsPathOf next) (sum-right so_far p.0 p.1 next step) s.1 k.0 in
-          more next (words-sum_step (IsPathOf next) sum s v on_left on_right sum_is) rest
+      let next = sum_passed (signatures.sum_step (Ok so_far) p.0 p.1) parts o e in
+      let on_left = weaker (IsPathOf so_far) (IsPathOf next.0) (sum-left so_far p.0 p.1 next.0 next.1) sum h in
+      let on_right = weaker (IsPathOf p.1) (IsPathOf next.0) (sum-right so_far p.0 p.1 next.0 next.1) s.1 typed in
+      typed-sum_from next.0 step.value parts ss k (words-sum_step (IsPathOf next.0) sum s on_left on_right step.value step.is) o next.2 r step.then
 
   first-sum_step : (at : Spot) (s : Option Sig) → signatures.sum_step (Ok None) at s ≡ Ok s
   first-sum_step at None = refl
   first-sum_step at (Some s) = refl
 
-  pub typed-total : (parts : List Part) (ss : List Summand) (o : Option Sig) (r : Poly) → AreSummands parts ss → signatures.sum_from (Ok None) parts ≡ Ok o → polynomials.total ss ≡ Ok r → Words (IsPathOf o) r
-  typed-total [] [] o r k e d = subst (Words (IsPathOf o)) (same_value [] r d) (All-nil _)
-  typed-total [] (s ∷ ss) o r k e d = absurd k
-  typed-total (p ∷ parts) [] o r k e d = absurd k
-  typed-total (p ∷ parts) (s ∷ ss) o r k e d =
-      typed-sum_from p.1 (signed s) parts ss o r (words-signed (IsPathOf p.1) s k.0) k.1 (ap (λ x. signatures.sum_from x parts) (sym (first-sum_step p.0 p.1)) ∙ e) d
+  pub typed-total : (parts : List Part) (ss : List Summand) → AreSummands parts ss → OfValues (signatures.sum_from (Ok None) parts) (polynomials.total ss) ArePathsOf
+  typed-total _ _ no_summand o e r d = values-ok ArePathsOf None [] (All-nil _) o e r d
+  typed-total _ _ (one_summand p s parts ss typed k) o e r d =
+      typed-sum_from p.1 (signed s) parts ss k (words-signed (IsPathOf p.1) s typed) o (ap (λ x. signatures.sum_from x parts) (sym (first-sum_step p.0 p.1)) ∙ e) r d
 
   -- a product
-  product_from-fault : (f : SignatureFault) (parts : List Part) → signatures.product_from (Err f) parts ≡ Err f
-  product_from-fault f [] = refl
-  product_from-fault f (p ∷ parts) = product_from-fault f parts
-
   -- each factor is typed as its part says
-  abbrev pub AreFactors : List Part → List Poly → Type 0
-  AreFactors [] [] = Unit {0}
-  AreFactors [] (p ∷ ps) = ⊥
-  AreFactors (part ∷ parts) [] = ⊥
-  AreFactors (part ∷ parts) (p ∷ ps) = Words (IsPathOf part.1) p × AreFactors parts ps
+  pub data AreFactors : List Part → List Poly → Type 0 where
+    no_factor : AreFactors [] []
+    one_factor : (part : Part) (p : Poly) (parts : List Part) (ps : List Poly) → Words (IsPathOf part.1) p → AreFactors parts ps → AreFactors (part ∷ parts) (p ∷ ps)
 
-  typed-product_from : (left : Sig) (product : Poly) (parts : List Part) (ps : List Poly) (o : Option Sig) (r : Poly)
-      → Words (IsPathOf (Some left)) product → AreFactors parts ps → signatures.product_from (Ok (Some left)) parts ≡ Ok o → polynomials.product_from product ps ≡ Ok r → Words (IsPathOf o) r
-  typed-product_from left product [] [] o r h k e d = subst (Words (IsPathOf o)) (same_value product r d) (subst (λ t. Words (IsPathOf t) product) (same_value (Some left) o e) h)
-  typed-product_from left product [] (p ∷ ps) o r h k e d = absurd k
-  typed-product_from left product (part ∷ parts) [] o r h k e d = absurd k
-  typed-product_from left product (part ∷ parts) (p ∷ ps) o r h k e d =
+  typed-product_from : (left : Sig) (product : Poly) (parts : List Part) (ps : List Poly) → AreFactors parts ps → ArePathsOf (Some left) product
+      → OfValues (signatures.product_from (Ok (Some left)) parts) (polynomials.product_from product ps) ArePathsOf
+  typed-product_from left product _ _ no_factor h o e r d = values-ok ArePathsOf (Some left) product h o e r d
+  typed-product_from left product _ _ (one_factor part p parts ps typed k) h o e r d =
       let step = bound (product_result product p) (λ next. polynomials.product_from next ps) r d in
-      go step.value step.is part.1 e k.0 (λ next made rest. typed-product_from next step.value parts ps o r made k.1 rest step.then)
+      let next = joins left part parts o e in
+      let right = next.right in
+      let both = from_to right.source.0 left.target.0 in
+      let factor = subst (λ s. ArePathsOf s p) next.is typed in
+      let joined : (v w : List ℕ) → IsPathOf (Some left) v → IsPathOf (Some right) w → IsPathOf (Some both) (v ++ w) =
+      λ v w on_left on_right. path-append right.source.0 left.source.0 left.target.0 v w on_left (subst (λ x. is_path q right.source.0 x w ≡ true) (sym next.meet) on_right) in
+      typed-product_from both step.value parts ps k (words-product (IsPathOf (Some left)) (IsPathOf (Some right)) (IsPathOf (Some both)) joined product p step.value h factor step.is) o next.rest r step.then
+
+  pub typed-product : (parts : List Part) (ps : List Poly) → AreFactors parts ps → OfValues (signatures.product_signature parts) (polynomials.product_poly ps) ArePathsOf
+  typed-product _ _ no_factor o e r d = values-ok ArePathsOf None [] (All-nil _) o e r d
+  typed-product _ _ (one_factor part p _ _ typed no_factor) o e r d = values-ok ArePathsOf part.1 p typed o e r d
+  typed-product _ _ (one_factor part p _ _ typed (one_factor next x parts ps later k)) o e r d = go part.1 e typed
     where
-      joined : (right : Sig) → left.source.0 ≡ right.target.0 → (v w : List ℕ) → IsPathOf (Some left) v → IsPathOf (Some right) w → IsPathOf (Some (from_to right.source.0 left.target.0)) (v ++ w)
-      joined right meet v w on_left on_right = path-append right.source.0 left.source.0 left.target.0 v w on_left (subst (λ x. is_path q right.source.0 x w ≡ true) (sym meet) on_right)
-
-      fits : (v : Poly) → product_result product p ≡ Ok v → (right : Sig) → Words (IsPathOf (Some right)) p
-          → ((next : Sig) → Words (IsPathOf (Some next)) v → signatures.product_from (Ok (Some next)) parts ≡ Ok o → Words (IsPathOf o) r)
-          → (b : Bool) → nat_eq left.source.0 right.target.0 ≡ b → signatures.product_from (cond b (Ok (Some (from_to right.source.0 left.target.0))) (Err (NotComposable part.0 left right))) parts ≡ Ok o → Words (IsPathOf o) r
-      fits v product_is right factor more true meet rest =
-          let next = from_to right.source.0 left.target.0 in
-          more next (words-product (IsPathOf (Some left)) (IsPathOf (Some right)) (IsPathOf (Some next)) (joined right (eqb-true left.source.0 right.target.0 meet)) product p v h factor product_is) rest
-      fits v product_is right factor more false meet rest = absurd (no_fault o _ (sym (product_from-fault _ parts) ∙ rest))
-
-      go : (v : Poly) → product_result product p ≡ Ok v → (s : Option Sig) → signatures.product_from (signatures.product_step (Ok (Some left)) part.0 s) parts ≡ Ok o → Words (IsPathOf s) p
-          → ((next : Sig) → Words (IsPathOf (Some next)) v → signatures.product_from (Ok (Some next)) parts ≡ Ok o → Words (IsPathOf o) r) → Words (IsPathOf o) r
-      go v product_is None rest factor more = absurd (no_fault o _ (sym (product_from-fault _ parts) ∙ rest))
-      go v product_is (Some right) rest factor more = fits v product_is right factor more (nat_eq left.source.0 right.target.0) refl rest
-
-  pub typed-product : (parts : List Part) (ps : List Poly) (o : Option Sig) (r : Poly) → AreFactors parts ps → signatures.product_signature parts ≡ Ok o → polynomials.product_poly ps ≡ Ok r → Words (IsPathOf o) r
-  typed-product [] [] o r k e d = subst (Words (IsPathOf o)) (same_value [] r d) (All-nil _)
-  typed-product [] (p ∷ ps) o r k e d = absurd k
-  typed-product (part ∷ []) [] o r k e d = absurd k
-  typed-product (part ∷ []) (p ∷ []) o r k e d = subst (Words (IsPathOf o)) (same_value p r d) (subst (λ s. Words (IsPathOf s) p) (same_value part.1 o e) k.0)
-  typed-product (part ∷ []) (p ∷ x ∷ ps) o r k e d = absurd k.1
-  typed-product (part ∷ next ∷ parts) [] o r k e d = absurd k
-  typed-product (part ∷ next ∷ parts) (p ∷ ps) o r k e d = go part.1 e k.0
-    where
-      go : (s : Option Sig) → signatures.product_from (signatures.product_step (Ok None) part.0 s) (next ∷ parts) ≡ Ok o → Words (IsPathOf s) p → Words (IsPathOf o) r
-      go None rest factor = absurd (no_fault o _ (sym (product_from-fault _ (next ∷ parts)) ∙ rest))
-      go (Some s) rest factor = typed-product_from s p (next ∷ parts) ps o r factor k.1 rest d
+      go : (s : Option Sig) → signatures.product_from (signatures.product_step (Ok None) part.0 s) (next ∷ parts) ≡ Ok o → ArePathsOf s p → ArePathsOf o r
+      go None rest factor = absurd (no_fault _ _ (product_passed _ (next ∷ parts) o rest).1)
+      go (Some s) rest factor = typed-product_from s p (next ∷ parts) (x ∷ ps) (one_factor next x parts ps later k) factor o rest r d
 
   -- marks
   turned-path : IsQuiver q → (s : Option Sig) (w : List ℕ) → IsPathOf s w → IsPathOf (option_map turned s) (adjoint_word q w)
@@ -163,25 +168,15 @@ module _ (q : Quiver) where
   -- what leads from an object to itself is repeated along paths
   repeated-path : (first caret : Spot) (s o : Option Sig) → repeated first caret s ≡ Ok o → (v w : List ℕ) → IsPathOf o v → IsPathOf o w → IsPathOf o (v ++ w)
   repeated-path first caret None o e v w h k = absurd (no_fault o _ e)
-  repeated-path first caret (Some s) o e v w h k = go (nat_eq s.source.0 s.target.0) refl e
-    where
-      joined : s.source.0 ≡ s.target.0 → IsPathOf (Some s) v → IsPathOf (Some s) w → IsPathOf (Some s) (v ++ w)
-      joined meet on_left on_right = path-append s.source.0 s.source.0 s.target.0 v w on_left (subst (λ x. is_path q s.source.0 x w ≡ true) (sym meet) on_right)
-
-      go : (b : Bool) → nat_eq s.source.0 s.target.0 ≡ b → cond b (Ok (Some s)) (Err (NotComposable caret s s)) ≡ Ok o → IsPathOf o (v ++ w)
-      go true meet r =
-          let same = same_value (Some s) o r in
-          let back = λ (x : List ℕ) (path : IsPathOf o x). subst (λ t. IsPathOf t x) (sym same) path in
-          subst (λ t. IsPathOf t (v ++ w)) same (joined (eqb-true s.source.0 s.target.0 meet) (back v h) (back w k))
-      go false meet r = absurd (no_fault o _ r)
+  repeated-path first caret (Some s) o e v w h k =
+      let both = meets_passed s.source.0 s.target.0 _ _ _ e in
+      let back = λ (x : List ℕ) (path : IsPathOf o x). subst (λ t. IsPathOf t x) (sym both.1) path in
+      subst (λ t. IsPathOf t (v ++ w)) both.1
+      (path-append s.source.0 s.source.0 s.target.0 v w (back v h) (subst (λ x. is_path q s.source.0 x w ≡ true) (sym both.0) (back w k)))
 
   repeated-same : (first caret : Spot) (s o : Option Sig) → repeated first caret s ≡ Ok o → s ≡ o
   repeated-same first caret None o e = absurd (no_fault o _ e)
-  repeated-same first caret (Some s) o e = go (nat_eq s.source.0 s.target.0) e
-    where
-      go : (b : Bool) → cond b (Ok (Some s)) (Err (NotComposable caret s s)) ≡ Ok o → Some s ≡ o
-      go true r = same_value (Some s) o r
-      go false r = absurd (no_fault o _ r)
+  repeated-same first caret (Some s) o e = (meets_passed s.source.0 s.target.0 _ _ _ e).1
 
   -- an exponent that repeats nothing
   power-once : (exponent : ℤ) (p : Poly) → is_repeated exponent ≡ false → power_poly exponent p ≡ Ok p
@@ -190,21 +185,19 @@ module _ (q : Quiver) where
   power-once (pos (suc (suc n))) p h = absurd (cc)
   power-once (negsuc n) p h = refl
 
-  typed-mark : IsQuiver q → (first : Spot) (m : Mark) (s o : Option Sig) (p r : Poly) → Words (IsPathOf s) p → mark_signature first m s ≡ Ok o → mark_poly q m p ≡ Ok r → Words (IsPathOf o) r
-  typed-mark quiver first Adjoint s o p r h e d =
-      subst (λ t. Words (IsPathOf t) r) (same_value (option_map turned s) o e)
+  typed-mark : IsQuiver q → (first : Spot) (m : Mark) (s : Option Sig) (p : Poly) → ArePathsOf s p → OfValues (mark_signature first m s) (mark_poly q m p) ArePathsOf
+  typed-mark quiver first Adjoint s p h o e r d =
+      subst (λ t. ArePathsOf t r) (same_value (option_map turned s) o e)
       (words-collection (IsPathOf (option_map turned s)) (adjoint_poly q p) r (words-adjoint (IsPathOf s) (IsPathOf (option_map turned s)) q (turned-path quiver s) p h) d)
-  typed-mark quiver first (Power caret exponent) s o p r h e d = go (is_repeated exponent.value) refl e
+  typed-mark quiver first (Power caret exponent) s p h o e r d = go (is_repeated exponent.value) refl e
     where
-      go : (b : Bool) → is_repeated exponent.value ≡ b → cond b (repeated first caret s) (Ok s) ≡ Ok o → Words (IsPathOf o) r
+      go : (b : Bool) → is_repeated exponent.value ≡ b → cond b (repeated first caret s) (Ok s) ≡ Ok o → ArePathsOf o r
       go true again k =
-          words-power_poly (IsPathOf o) (repeated-path first caret s o k) exponent.value p r (subst (λ t. Words (IsPathOf t) p) (repeated-same first caret s o k) h) d
+          words-power_poly (IsPathOf o) (repeated-path first caret s o k) exponent.value p (subst (λ t. ArePathsOf t p) (repeated-same first caret s o k) h) r d
       go false once k =
-          subst (Words (IsPathOf o)) (same_value p r (sym (power-once exponent.value p once) ∙ d)) (subst (λ t. Words (IsPathOf t) p) (same_value s o k) h)
+          subst (ArePathsOf o) (same_value p r (sym (power-once exponent.value p once) ∙ d)) (subst (λ t. ArePathsOf t p) (same_value s o k) h)
 
-  pub typed-marked : IsQuiver q → (first : Spot) (marks : List Mark) (s o : Option Sig) (p r : Poly) → Words (IsPathOf s) p → marked_signature first marks s ≡ Ok o → marked_poly q marks p ≡ Ok r → Words (IsPathOf o) r
-  typed-marked quiver first [] s o p r h e d = subst (λ t. Words (IsPathOf t) r) (same_value s o e) (subst (Words (IsPathOf s)) (same_value p r d) h)
-  typed-marked quiver first (m ∷ marks) s o p r h e d =
-      let signature = bound (mark_signature first m s) (marked_signature first marks) o e in
-      let poly = bound (mark_poly q m p) (marked_poly q marks) r d in
-      typed-marked quiver first marks signature.value o poly.value r (typed-mark quiver first m s signature.value p poly.value h signature.is poly.is) signature.then poly.then
+  pub typed-marked : IsQuiver q → (first : Spot) (marks : List Mark) (s : Option Sig) (p : Poly) → ArePathsOf s p → OfValues (marked_signature first marks s) (marked_poly q marks p) ArePathsOf
+  typed-marked quiver first [] s p h = values-ok ArePathsOf s p h
+  typed-marked quiver first (m ∷ marks) s p h =
+      values-bind ArePathsOf ArePathsOf (mark_signature first m s) (marked_signature first marks) (mark_poly q m p) (marked_poly q marks) (typed-mark quiver first m s p h) (typed-marked quiver first marks)

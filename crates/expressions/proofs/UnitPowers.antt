@@ -1,12 +1,12 @@
 -- The power of one term whose coefficient is 1 or -1: no product is too large.
 use Rattle.std.proofs.Common.{◌≡◌, ◌≢◌, ◌⊎◌, inl, inr, ℕ, zero, suc, ◌+◌, ◌-◌, ◌*◌, ◌%◌, ◌<◌, ◌≤◌, ◌^◌, ℤ, pos, negsuc, ◌*ℤ◌, Bool, true, false, nat_lt, [], ◌∷◌, length, replicate, unsigned_abs, Result, Ok, refl, sym, ap, ap₂, subst, ◌∙◌, arith}
-use Rattle.std.proofs.lemmas.Bool.Decides.{nat_tests}
-use Rattle.std.proofs.lemmas.Int.{ints}
+use Rattle.std.proofs.lemmas.Bool.{ltb-true, ltb-false}
 use Rattle.coef_int.specs.Range.{IsCoefficient}
 use Rattle.definitions.specs.Poly.{Poly, Term}
 use Rattle.nc_polynomial.specs.declared.fault.PolyFault.{PolyFault}
 use Rattle.nc_polynomial.specs.Faults.{Explains, size_fault}
 use Rattle.nc_polynomial.specs.Shape.{IsCanonical}
+use Rattle.nc_polynomial.proofs.Units.{one-*ℤ}
 use Rattle.expressions.specs.Polynomials.{product_from, product_poly}
 use Rattle.expressions.specs.Repeated.{repeated_word}
 use Rattle.expressions.proofs.RepeatedWords.{length-repeated}
@@ -18,61 +18,39 @@ unit_after u zero = pos 1
 unit_after u (suc n) = unit_after u n *ℤ u
 
 unit-next : (u : ℤ) (i : ℕ) → unit_after u (i + 1) ≡ unit_after u i *ℤ u
-unit-next u i = ap (unit_after u) next
-  where
-    next : i + 1 ≡ suc i
-    next = omega arith
+unit-next u i = let next : i + 1 ≡ suc i = omega arith in ap (unit_after u) next
 
 square : (u : ℤ) → unsigned_abs u ≡ 1 → u *ℤ u ≡ pos 1
 square (pos n) e = ap (λ k. pos k *ℤ pos k) e
-square (negsuc n) e = ap (λ k. negsuc k *ℤ negsuc k) (none e)
-  where
-    none : suc n ≡ 1 → n ≡ 0
-    none h = omega (arith, h)
-
-one_times : (u : ℤ) → pos 1 *ℤ u ≡ u
-one_times u = omega (arith, ints)
+square (negsuc n) e = let none : n ≡ 0 = omega (arith, e) in ap (λ k. negsuc k *ℤ negsuc k) none
 
 abbrev IsAfter : ℤ → ℕ → Type 0
 IsAfter u n = ((n % 2 ≡ 0) × (unit_after u n ≡ pos 1)) ⊎ ((n % 2 ≡ 1) × (unit_after u n ≡ u))
 
 by_turns : (u : ℤ) → unsigned_abs u ≡ 1 → (n : ℕ) → IsAfter u n
 by_turns u unit zero = inl (refl, refl)
-by_turns u unit (suc n) = step (by_turns u unit n)
-  where
-    odd_next : n % 2 ≡ 0 → suc n % 2 ≡ 1
-    odd_next h = omega (arith, h)
-
-    even_next : n % 2 ≡ 1 → suc n % 2 ≡ 0
-    even_next h = omega (arith, h)
-
-    step : IsAfter u n → IsAfter u (suc n)
-    step (inl (even, is)) = inr (odd_next even, ap (λ c. c *ℤ u) is ∙ one_times u)
-    step (inr (odd, is)) = inl (even_next odd, ap (λ c. c *ℤ u) is ∙ square u unit)
+by_turns u unit (suc n) = elim (by_turns u unit n) [
+  | inl (even, is) ↦ inr (omega (arith, even), ap (λ c. c *ℤ u) is ∙ one-*ℤ u)
+  | inr (odd, is) ↦ inl (omega (arith, odd), ap (λ c. c *ℤ u) is ∙ square u unit)
+]
 
 pub unit-even : (u : ℤ) → unsigned_abs u ≡ 1 → (n : ℕ) → n % 2 ≡ 0 → unit_after u n ≡ pos 1
-unit-even u unit n even = go (by_turns u unit n)
-  where
-    go : IsAfter u n → unit_after u n ≡ pos 1
-    go (inl (e, is)) = is
-    go (inr (odd, is)) = absurd (omega (arith, even, odd))
+unit-even u unit n even = elim (by_turns u unit n) [
+  | inl (e, is) ↦ is
+  | inr (odd, is) ↦ absurd (omega (arith, even, odd))
+]
 
 pub unit-odd : (u : ℤ) → unsigned_abs u ≡ 1 → (n : ℕ) → n % 2 ≢ 0 → unit_after u n ≡ u
-unit-odd u unit n odd = go (by_turns u unit n)
-  where
-    go : IsAfter u n → unit_after u n ≡ u
-    go (inl (even, is)) = absurd (odd even)
-    go (inr (e, is)) = is
+unit-odd u unit n odd = elim (by_turns u unit n) [
+  | inl (even, is) ↦ absurd (odd even)
+  | inr (e, is) ↦ is
+]
 
 unit_in : (u : ℤ) → unsigned_abs u ≡ 1 → (n : ℕ) → IsCoefficient (unit_after u n)
-unit_in u unit n = go (by_turns u unit n)
-  where
-    small : 1 < 2 ^ 127
-    small = omega arith
-
-    go : IsAfter u n → IsCoefficient (unit_after u n)
-    go (inl (e, is)) = subst IsCoefficient (sym is) small
-    go (inr (e, is)) = subst IsCoefficient (sym is) (subst (λ k. k < 2 ^ 127) (sym unit) small)
+unit_in u unit n = elim (by_turns u unit n) [
+  | inl (e, is) ↦ subst IsCoefficient (sym is) (let small : 1 < 2 ^ 127 = omega arith in small)
+  | inr (e, is) ↦ subst IsCoefficient (sym is) (let small : unsigned_abs u < 2 ^ 127 = omega (arith, unit) in small)
+]
 
 -- the power
 module _ (t : Term) (canonical : IsCanonical (t ∷ [])) (unit : unsigned_abs t.0 ≡ 1) (n : ℕ) where
@@ -101,41 +79,30 @@ module _ (t : Term) (canonical : IsCanonical (t ∷ [])) (unit : unsigned_abs t.
 
   -- the letters of a part of the power and of one more factor
   part : (i k : ℕ) → n ≡ i + suc k → length (repeated_word i t.1) + length t.1 ≤ n * length t.1
-  part i k e = subst (λ m. length (repeated_word i t.1) + length t.1 ≤ m * length t.1) (sym e) (go (length-repeated i t.1))
-    where
-      go : length (repeated_word i t.1) ≡ i * length t.1 → length (repeated_word i t.1) + length t.1 ≤ (i + suc k) * length t.1
-      go h = grind (arith, h)
+  part i k e =
+      let count : length (repeated_word i t.1) ≡ i * length t.1 = length-repeated i t.1 in
+      subst (λ m. length (repeated_word i t.1) + length t.1 ≤ m * length t.1) (sym e) (grind (arith, count))
 
   ends : (k i : ℕ) → n ≡ i + k → n * length t.1 ≤ 500 → Leads i → IsCanonical (after i) → (whole ≡ Ok (after n)) × IsCanonical (after n)
-  ends zero i e short leads so_far = (sym (subst (λ j. product_from (after j) (replicate (n - j) (t ∷ [])) ≡ whole) at leads) ∙ ap (λ m. product_from (after n) (replicate m (t ∷ []))) none, subst (λ j. IsCanonical (after j)) at so_far)
-    where
-      at : i ≡ n
-      at = omega (arith, e)
-
-      none : n - n ≡ 0
-      none = omega arith
+  ends zero i e short leads so_far =
+      let at : i ≡ n = omega (arith, e) in
+      let none : n - n ≡ 0 = omega arith in (
+        sym (subst (λ j. product_from (after j) (replicate (n - j) (t ∷ [])) ≡ whole) at leads) ∙ ap (λ m. product_from (after n) (replicate m (t ∷ []))) none,
+        subst (λ j. IsCanonical (after j)) at so_far,
+      )
   ends (suc k) i e short leads so_far =
+      let within : length (repeated_word i t.1) + length t.1 ≤ 500 = omega (arith, part i k e, short) in
       ends k (i + 1) (omega (arith, e)) short (leads-next i leads so_far (omega (arith, e)) within) (canonical-after i leads so_far (omega (arith, e)) within)
-    where
-      within : length (repeated_word i t.1) + length t.1 ≤ 500
-      within = omega (arith, part i k e, short)
 
   step : (i : ℕ) → Leads i → IsCanonical (after i) → i < n → (length (repeated_word i t.1) + length t.1 ≤ 500 → Explains whole (size_fault true))
       → (b : Bool) → nat_lt 500 (length (repeated_word i t.1) + length t.1) ≡ b → Explains whole (size_fault true)
-  step i leads so_far inside later true h = term-too_long t canonical n i (unit_after t.0 i) leads so_far inside (above (length (repeated_word i t.1) + length t.1) h)
-    where
-      above : (m : ℕ) → nat_lt 500 m ≡ true → 500 < m
-      above m h = grind (arith, nat_tests)
-  step i leads so_far inside later false h = later (under (length (repeated_word i t.1) + length t.1) h)
-    where
-      under : (m : ℕ) → nat_lt 500 m ≡ false → m ≤ 500
-      under m h = grind (arith, nat_tests)
+  step i leads so_far inside later true h = term-too_long t canonical n i (unit_after t.0 i) leads so_far inside (ltb-true 500 (length (repeated_word i t.1) + length t.1) h)
+  step i leads so_far inside later false h = later (ltb-false 500 (length (repeated_word i t.1) + length t.1) h)
 
   stops : (k i : ℕ) → n ≡ i + k → 500 < n * length t.1 → Leads i → IsCanonical (after i) → Explains whole (size_fault true)
-  stops zero i e long leads so_far = absurd (omega (arith, at, short-alone (unit_after t.0 i, repeated_word i t.1) so_far, length-repeated i t.1, long))
-    where
-      at : i * length t.1 ≡ n * length t.1
-      at = ap (λ m. m * length t.1) (omega (arith, e))
+  stops zero i e long leads so_far =
+      let at : i * length t.1 ≡ n * length t.1 = ap (λ m. m * length t.1) (omega (arith, e)) in
+      absurd (omega (arith, at, short-alone (unit_after t.0 i, repeated_word i t.1) so_far, length-repeated i t.1, long))
   stops (suc k) i e long leads so_far =
       let inside : i < n = omega (arith, e) in
       step i leads so_far inside
@@ -148,13 +115,10 @@ module _ (t : Term) (canonical : IsCanonical (t ∷ [])) (unit : unsigned_abs t.
   first = (unit_after t.0 1, repeated_word 1 t.1) ∷ []
 
   first_is : first ≡ t ∷ []
-  first_is = ap (λ c. (c, t.1) ∷ []) (one_times t.0)
+  first_is = ap (λ c. (c, t.1) ∷ []) (one-*ℤ t.0)
 
   begins : (n : ℕ) → product_from first (replicate (suc n - 1) (t ∷ [])) ≡ product_poly (replicate (suc n) (t ∷ []))
-  begins n = ap₂ (λ p m. product_from p (replicate m (t ∷ []))) first_is less
-    where
-      less : suc n - 1 ≡ n
-      less = omega arith
+  begins n = let less : suc n - 1 ≡ n = omega arith in ap₂ (λ p m. product_from p (replicate m (t ∷ []))) first_is less
 
   power : (n : ℕ) → 1 ≤ n → n * length t.1 ≤ 500
       → (product_poly (replicate n (t ∷ [])) ≡ Ok ((unit_after t.0 n, repeated_word n t.1) ∷ [])) × IsCanonical ((unit_after t.0 n, repeated_word n t.1) ∷ [])

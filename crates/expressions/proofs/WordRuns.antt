@@ -1,5 +1,6 @@
 -- Products with words: letters in a row are one word first.
 use Rattle.std.proofs.Common.{◌≡◌, ◌≢◌, ℕ, ◌+◌, ◌<◌, ◌≤◌, pos, ℤ, ◌*ℤ◌, Bool, true, false, cond, ◌||◌, nat_lt, List, [], ◌∷◌, ◌++◌, length, Result, Ok, Err, sym, refl, ap, ap₂, subst, ◌∙◌, arith, append-nil, append_assoc}
+use Rattle.std.proofs.lemmas.Bool.{le-ltb, ltb-true, ltb-false, or_right}
 use Rattle.std.proofs.lemmas.Bool.Decides.{nat_tests}
 use Rattle.std.proofs.lemmas.Int.{ints}
 use Rattle.std.proofs.lemmas.List.{length-append, length-map}
@@ -17,16 +18,9 @@ use Rattle.nc_polynomial.proofs.RunningSums.{not_long}
 use Rattle.nc_polynomial.proofs.Shapes.{all_middle}
 use Rattle.expressions.specs.Results.{◌>>=◌}
 
--- sizes
-short : (n : ℕ) → nat_lt word_limit n ≡ false → n ≤ word_limit
-short n h = grind (arith, nat_tests)
-
-few : (n : ℕ) → n ≤ term_limit → nat_lt term_limit n ≡ false
-few n h = grind (arith, nat_tests)
-
 -- with so few terms only a long word is refused
 by_words : (p : List Term) → length p ≤ term_limit → sized p ≡ cond (has_long_word p) (Err (size_fault true)) (Ok p)
-by_words p small = ap (λ b. cond (has_long_word p) (Err (size_fault true)) (cond b (Err (size_fault false)) (Ok p))) (few (length p) small)
+by_words p small = ap (λ b. cond (has_long_word p) (Err (size_fault true)) (cond b (Err (size_fault false)) (Ok p))) (le-ltb term_limit (length p) small)
 
 pub sized-canonical : (p : List Term) → IsCanonical p → sized p ≡ Ok p
 sized-canonical p canonical =
@@ -59,16 +53,13 @@ module _ (w : List ℕ) where
       → (b : Bool) → nat_lt word_limit (length (t.1 ++ w)) ≡ b → Made front (t ∷ more)
   step front t more left canonical later true over =
       let count : length (t.1 ++ w) ≡ length t.1 + length w = length-append t.1 w in
-      let larger : word_limit < length (t.1 ++ w) = above (length (t.1 ++ w)) over in
+      let larger : word_limit < length (t.1 ++ w) = ltb-true word_limit (length (t.1 ++ w)) over in
       let refused : sized (poly_between t.1 (y ∷ []) []) ≡ Err (size_fault true) = long_word y nonzero t (omega (arith, count, larger)) in
       ap (λ r. and_then (and_then r (λ moved. combined (pos 1) (times_term y front) t.0 moved)) (λ next. product_from next more (y ∷ []))) refused
       ∙ ap (λ b. cond (b || has_long_word (times_term y more)) (Err (size_fault true)) (Ok (times_term y front ++ times_term y (t ∷ more)))) (sym over)
-    where
-      above : (n : ℕ) → nat_lt word_limit n ≡ true → word_limit < n
-      above n h = grind (arith, nat_tests)
   step front t more left canonical later false under =
       let count : length (t.1 ++ w) ≡ length t.1 + length w = length-append t.1 w in
-      let small : length (t.1 ++ w) ≤ word_limit = short (length (t.1 ++ w)) under in
+      let small : length (t.1 ++ w) ≤ word_limit = ltb-false word_limit (length (t.1 ++ w)) under in
       let within : length t.1 + length w ≤ word_limit = omega (arith, count, small) in
       let fits : IsCoefficient (t.0 *ℤ pos 1) = subst IsCoefficient (sym (times_one t.0)) (all_middle (λ u. IsCoefficient u.0) front t more left.shaped.in_range) in
       let sum = times_term y front in
@@ -108,10 +99,6 @@ longer u v (t ∷ p) h = go (nat_lt word_limit (length (t.1 ++ u))) refl h (long
     long_after : (m n : ℕ) → nat_lt word_limit m ≡ true → m ≤ n → nat_lt word_limit n ≡ true
     long_after m n h k = grind (arith, nat_tests)
 
-    ends : (b : Bool) → (b || true) ≡ true
-    ends true = refl
-    ends false = refl
-
     go : (b : Bool) → nat_lt word_limit (length (t.1 ++ u)) ≡ b → (b || has_long_word (poly_between [] p u)) ≡ true
         → (has_long_word (poly_between [] p u) ≡ true → has_long_word (poly_between [] p (u ++ v)) ≡ true) → has_long_word (poly_between [] (t ∷ p) (u ++ v)) ≡ true
     go true over k rest =
@@ -119,7 +106,7 @@ longer u v (t ∷ p) h = go (nat_lt word_limit (length (t.1 ++ u))) refl h (long
         let second : length (t.1 ++ (u ++ v)) ≡ length t.1 + length (u ++ v) = length-append t.1 (u ++ v) in
         let third : length (u ++ v) ≡ length u + length v = length-append u v in
         ap (λ b. b || has_long_word (poly_between [] p (u ++ v))) (long_after (length (t.1 ++ u)) (length (t.1 ++ (u ++ v))) over (omega (arith, first, second, third)))
-    go false under k rest = ap (λ b. nat_lt word_limit (length (t.1 ++ (u ++ v))) || b) (rest k) ∙ ends (nat_lt word_limit (length (t.1 ++ (u ++ v))))
+    go false under k rest = ap (λ b. nat_lt word_limit (length (t.1 ++ (u ++ v))) || b) (rest k) ∙ or_right _ true refl
 
 module _ (u v : List ℕ) (p : List Term) (canonical : IsCanonical p) where
   abbrev pub moved : List Term

@@ -1,33 +1,24 @@
 -- What holds of the words of all operands holds of the words of a result.
-use Rattle.std.proofs.Common.{◌≡◌, ℕ, ℤ, pos, List, [], ◌∷◌, ◌++◌, Option, Some, None, Result, Ok, Err, get_or, sym, refl, subst}
+use Rattle.std.proofs.Common.{◌≡◌, ℕ, ℤ, pos, List, [], ◌∷◌, ◌++◌, Result, Ok, Err, get_or, sym, refl, subst}
 use Rattle.std.proofs.lemmas.List.{append-nil}
 use Rattle.std.proofs.lemmas.List.Elements.{All-nil, All-head, All-tail, All-map, All-replicate, All-weaker}
 use Rattle.std.specs.List.{All}
-use Rattle.coef_int.specs.declared.Overflow.{Overflow}
-use Rattle.coef_int.specs.Operations.{first_overflow}
 use Rattle.definitions.specs.Poly.{Poly, poly_between}
 use Rattle.definitions.specs.Quiver.{Quiver}
 use Rattle.definitions.specs.Generators.{adjoint_word, adjoint_poly}
 use Rattle.nc_polynomial.specs.declared.fault.PolyFault.{PolyFault}
 use Rattle.nc_polynomial.specs.declared.fault.PolyFault.TheVariants as fault
 use Rattle.nc_polynomial.specs.Terms.{scaled, products, negated, aligned, added, sums}
-use Rattle.nc_polynomial.specs.Faults.{unless_overflow, finished, sized}
+use Rattle.nc_polynomial.specs.Faults.{sized}
 use Rattle.nc_polynomial.specs.Arithmetic.{sum_result, difference_result, multiple_result, combined}
 use Rattle.nc_polynomial.specs.Collected.{collected, additions, collection_result}
 use Rattle.nc_polynomial.specs.Product.{and_then, product_step, product_from, product_result}
 use Rattle.nc_polynomial.proofs.Shapes.{all-scaled, all-totals, all-aligned}
-use Rattle.nc_polynomial.proofs.Chains.{no_error, sized-value}
+use Rattle.nc_polynomial.proofs.Chains.{no_error, sized-value, finished-value}
+use Rattle.expressions.proofs.Sequences.{same_value}
 
 abbrev pub Words : (List ℕ → Type 0) → Poly → Type 0
 Words P p = All (λ t. P t.1) p
-
--- a result is the value that was finished
-finished-value : (os : List Overflow) (p r : Poly) → finished os p ≡ Ok r → p ≡ r
-finished-value os p r h = go (first_overflow os) h
-  where
-    go : (o : Option Overflow) → unless_overflow o (sized p) ≡ Ok r → p ≡ r
-    go None k = sized-value p r k
-    go (Some o) k = absurd (no_error r (fault.Overflow o) (sym k))
 
 pub weaker : (P Q : List ℕ → Type 0) → ((w : List ℕ) → P w → Q w) → (p : Poly) → Words P p → Words Q p
 weaker P Q then p h = All-weaker (λ (t : ℤ × List ℕ). P t.1) (λ (t : ℤ × List ℕ). Q t.1) (λ t. then t.1) p h
@@ -80,10 +71,7 @@ module _ (P Q R : List ℕ → Type 0) (joined : (v w : List ℕ) → P v → Q 
       go (Err f) limits n = absurd (no_error r f (sym n))
 
   words-product_from : (sum p q r : Poly) → Words R sum → Words P p → Words Q q → product_from sum p q ≡ Ok r → Words R r
-  words-product_from sum [] q r h k m e = subst (Words R) (same e) h
-    where
-      same : ◌≡◌ {A = Result Poly PolyFault} (Ok sum) (Ok r) → sum ≡ r
-      same n = cc
+  words-product_from sum [] q r h k m e = subst (Words R) (same_value sum r e) h
   words-product_from sum (t ∷ p) q r h k m e = go (product_step sum t q) refl e (λ next made n. words-product_from next p q r made (All-tail (λ (u : ℤ × List ℕ). P u.1) t p k) m n)
     where
       go : (s : Result Poly PolyFault) → product_step sum t q ≡ s → and_then s (λ next. product_from next p q) ≡ Ok r

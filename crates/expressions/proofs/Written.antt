@@ -1,9 +1,8 @@
 -- The letters of an equation's polynomial are those that the equation writes.
-use Rattle.std.proofs.Common.{◌≡◌, ◌<◌, ℕ, true, ◌||◌, List, Ok, Some, sym, subst, ◌∙◌, arith}
+use Rattle.std.proofs.Common.{◌≡◌, ◌<◌, ℕ, true, ◌||◌, List, Some, sym, subst, ◌∙◌, arith}
+use Rattle.std.proofs.lemmas.Bool.{or_left, or_right}
 use Rattle.std.specs.List.{All}
-use Rattle.definitions.specs.Poly.{Poly}
 use Rattle.definitions.specs.Quiver.{star, letters}
-use Rattle.nc_polynomial.specs.Arithmetic.{difference_result}
 use Rattle.word_core.specs.declared.letter.Letter.{Letter}
 use Rattle.quiver.specs.declared.named.Named.TheVariants.{Map}
 use Rattle.quiver.specs.Declarations.{Declaration, named_in, object_count, letter_count, quiver_of, identity_in, ObjectsFirst, IsDeclared}
@@ -11,14 +10,13 @@ use Rattle.quiver.proofs.Counts.{letters-quiver_of}
 use Rattle.quiver.proofs.Found.{is_named}
 use Rattle.quiver.proofs.Identities.{identity_in_range, identity_is, is_quiver}
 use Rattle.statement_syntax.specs.declared.tree.Sum.{Sum}
-use Rattle.expressions.specs.Results.{◌>>=◌}
 use Rattle.abbreviations.specs.Names.{are_names}
 use Rattle.abbreviations.specs.Occurrences.{has_quote, has_identity}
 use Rattle.expressions.specs.Polynomials.{sum_poly, equation_poly}
 use Rattle.expressions.specs.Laws.{IsWritten, LettersAreWritten}
-use Rattle.expressions.proofs.Sequences.{bound}
-use Rattle.expressions.proofs.Words.{words-difference}
-use Rattle.expressions.proofs.Letters.{left_of, right_of, over-sum}
+use Rattle.expressions.proofs.Sequences.{OfValue, value-bind}
+use Rattle.expressions.proofs.Words.{Words, words-difference}
+use Rattle.expressions.proofs.Letters.{over-sum}
 use Rattle.expressions.proofs.Maps.{map_after_objects, map_before_adjoint}
 use Rattle.expressions.proofs.Range.{star_in_range}
 
@@ -55,14 +53,12 @@ module _ (ds : List Declaration) (declared : IsDeclared ds) (first : ObjectsFirs
         adjoint = λ _. occurs;
       }
 
-  letters_written : (p : Poly) → are_names ds left ≡ true → are_names ds right ≡ true → equation_poly ds left right ≡ Ok p → All (λ t. All (IsWritten ds left right) t.1) p
-  letters_written p left_names right_names e =
+  letters_written : are_names ds left ≡ true → are_names ds right ≡ true → OfValue (equation_poly ds left right) (λ p. All (λ t. All (IsWritten ds left right) t.1) p)
+  letters_written left_names right_names =
       let L = IsWritten ds left right in
-      let minuend = bound (sum_poly ds left) (λ m. sum_poly ds right >>= λ s. difference_result m s) p e in
-      let subtrahend = bound (sum_poly ds right) (λ s. difference_result minuend.value s) p minuend.then in
-      let on_left = over-sum ds L written_map left left_names (λ v below h. written_identity v below (left_of _ _ h)) (λ h. written_adjoint (left_of _ _ h)) minuend.value minuend.is in
-      let on_right = over-sum ds L written_map right right_names (λ v below h. written_identity v below (right_of _ _ h)) (λ h. written_adjoint (right_of _ _ h)) subtrahend.value subtrahend.is in
-      words-difference (All L) minuend.value subtrahend.value p on_left on_right subtrahend.then
+      value-bind (Words (All L)) (Words (All L)) (sum_poly ds left) _ (over-sum ds L written_map left left_names (λ v below h. written_identity v below (or_left _ _ h)) (λ h. written_adjoint (or_left _ _ h))) (λ m on_left.
+      value-bind (Words (All L)) (Words (All L)) (sum_poly ds right) _ (over-sum ds L written_map right right_names (λ v below h. written_identity v below (or_right _ _ h)) (λ h. written_adjoint (or_right _ _ h))) (λ n on_right.
+      λ p e. words-difference (All L) m n p on_left on_right e))
 
 pub letters_are_written : LettersAreWritten
-letters_are_written ds left right p declared first left_names right_names e = letters_written ds declared first left right p left_names right_names e
+letters_are_written ds left right p declared first left_names right_names e = letters_written ds declared first left right left_names right_names p e

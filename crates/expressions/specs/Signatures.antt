@@ -5,6 +5,7 @@ use Rattle.definitions.specs.Quiver.{Quiver, source, target}
 use Rattle.quiver.specs.declared.named.Sig.{Sig}
 use Rattle.quiver.specs.Declarations.{Declaration, quiver_of}
 use Rattle.statement_tokens.specs.declared.place.Spot.{Spot}
+use Rattle.statement_tokens.specs.declared.fault.Fault.TheVariants.{NotComposable, SumMismatch, OpenZero}
 use Rattle.statement_syntax.specs.declared.tree.Mark.{Mark}
 use Rattle.statement_syntax.specs.declared.tree.Mark.TheVariants.{Adjoint, Power}
 use Rattle.statement_syntax.specs.declared.tree.Primary.{Primary, Letter, Identity, Bracket}
@@ -12,9 +13,18 @@ use Rattle.statement_syntax.specs.declared.tree.Factor.{Factor}
 use Rattle.statement_syntax.specs.declared.tree.Term.{Term, Term', Row_of-Factor, end_of-Factor, more_of-Factor}
 use Rattle.statement_syntax.specs.declared.tree.Sum.{Sum, Sum', Row_of-Term, end_of-Term, more_of-Term}
 use Rattle.expressions.specs.declared.fault.SignatureFault.{SignatureFault}
-use Rattle.expressions.specs.declared.fault.SignatureFault.TheVariants.{NotComposable, SumMismatch, OpenZero}
 use Rattle.expressions.specs.Results.{◌>>=◌}
 use Rattle.abbreviations.specs.Names.{letter_of, object_of}
+
+-- the faults: two parts of a product that do not fit, two terms or sides that are not the same, and what is open
+abbrev pub not_composable : Spot → Sig → Sig → SignatureFault
+not_composable at left right = record { fault = NotComposable; at = at; sides = Some (left, right) }
+
+abbrev pub sum_mismatch : Spot → Sig → Sig → SignatureFault
+sum_mismatch at left right = record { fault = SumMismatch; at = at; sides = Some (left, right) }
+
+abbrev pub open_zero : Spot → SignatureFault
+open_zero at = record { fault = OpenZero; at = at; sides = None }
 
 -- from one object to another
 abbrev pub from_to : ℕ → ℕ → Sig
@@ -37,8 +47,8 @@ is_repeated exponent = false
 
 -- the base of such a power leads from an object to itself; the primary and the caret are at these places
 abbrev pub repeated : Spot → Spot → Option Sig → Result (Option Sig) SignatureFault
-repeated first caret None = Err (OpenZero first)
-repeated first caret (Some s) = if nat_eq s.source.0 s.target.0 then Ok (Some s) else Err (NotComposable caret s s)
+repeated first caret None = Err (open_zero first)
+repeated first caret (Some s) = if nat_eq s.source.0 s.target.0 then Ok (Some s) else Err (not_composable caret s s)
 
 -- a quote exchanges the ends, a caret leaves them
 abbrev pub mark_signature : Spot → Mark → Option Sig → Result (Option Sig) SignatureFault
@@ -61,12 +71,12 @@ Part = Spot × Option Sig
 -- the left part is applied after the right one, which is at this place
 abbrev pub composed : Spot → Sig → Sig → Result (Option Sig) SignatureFault
 composed at left right =
-    if nat_eq left.source.0 right.target.0 then Ok (Some (from_to right.source.0 left.target.0)) else Err (NotComposable at left right)
+    if nat_eq left.source.0 right.target.0 then Ok (Some (from_to right.source.0 left.target.0)) else Err (not_composable at left right)
 
 -- the signature of the factors so far, if any, or the first fault, with the next factor
 abbrev pub product_step : Result (Option Sig) SignatureFault → Spot → Option Sig → Result (Option Sig) SignatureFault
 product_step (Err fault) at s = Err fault
-product_step (Ok so_far) at None = Err (OpenZero at)
+product_step (Ok so_far) at None = Err (open_zero at)
 product_step (Ok None) at (Some s) = Ok (Some s)
 product_step (Ok (Some left)) at (Some right) = composed at left right
 
@@ -82,7 +92,7 @@ product_signature (p ∷ r ∷ parts) = product_from (Ok None) (p ∷ r ∷ part
 
 -- two signatures that have to be the same, of which the second one is at this place
 abbrev pub matched : Spot → Sig → Sig → Result (Option Sig) SignatureFault
-matched at before s = if same_ends before s then Ok (Some before) else Err (SumMismatch at before s)
+matched at before s = if same_ends before s then Ok (Some before) else Err (sum_mismatch at before s)
 
 -- the signature of the terms so far, if any, or the first fault, with the next term
 abbrev pub sum_step : Result (Option Sig) SignatureFault → Spot → Option Sig → Result (Option Sig) SignatureFault
@@ -133,10 +143,10 @@ factor_signature ds f = primary_signature ds f.primary >>= marked_signature f.at
 
 -- the sides of an equation: an open side takes the signature of the other
 abbrev pub sides_signature : Spot → Spot → Option Sig → Option Sig → Result Sig SignatureFault
-sides_signature at_left at_right None None = Err (OpenZero at_left)
+sides_signature at_left at_right None None = Err (open_zero at_left)
 sides_signature at_left at_right None (Some t) = Ok t
 sides_signature at_left at_right (Some s) None = Ok s
-sides_signature at_left at_right (Some s) (Some t) = if same_ends s t then Ok s else Err (SumMismatch at_right s t)
+sides_signature at_left at_right (Some s) (Some t) = if same_ends s t then Ok s else Err (sum_mismatch at_right s t)
 
 abbrev pub equation_signature : List Declaration → Sum → Sum → Result Sig SignatureFault
 equation_signature ds left right = do

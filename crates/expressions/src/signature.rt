@@ -6,7 +6,7 @@ ghost use Rattle.expressions.specs.Signatures.{HasObjects, turned, repeated, mar
 ghost use Rattle.expressions.specs.Signatures.{sum_signature, term_signature, factor_signature, primary_signature, sides_signature};
 ghost use Rattle.expressions.specs.Signatures.{equation_signature};
 
-use crate::SignatureFault;
+use crate::fault::{SignatureFault, not_composable, open_zero, sum_mismatch};
 use abbreviations::{letter_of, object_of};
 use quiver::{Quiver, Sig};
 use statement_syntax::{Factor, Mark, Primary, Sum, Term};
@@ -36,15 +36,11 @@ fn sides_signature(
     ensures { result ≡ sides_signature left_at right_at left right }
 {
     match (left, right) {
-        (None, None) => Err(SignatureFault::OpenZero { at: left_at }),
+        (None, None) => Err(open_zero(left_at)),
         (None, Some(s)) => Ok(s),
         (Some(s), None) => Ok(s),
         (Some(s), Some(t)) if s == t => Ok(s),
-        (Some(s), Some(t)) => Err(SignatureFault::SumMismatch {
-            at: right_at,
-            left: s,
-            right: t,
-        }),
+        (Some(s), Some(t)) => Err(sum_mismatch(right_at, s, t)),
     }
 }
 
@@ -74,7 +70,7 @@ fn sum_step(
         (before, None) => Ok(before),
         (None, Some(s)) => Ok(Some(s)),
         (Some(before), Some(s)) if before == s => Ok(Some(before)),
-        (Some(left), Some(right)) => Err(SignatureFault::SumMismatch { at, left, right }),
+        (Some(left), Some(right)) => Err(sum_mismatch(at, left, right)),
     }
 }
 
@@ -105,13 +101,13 @@ fn product_step(
     ensures { result ≡ product_step so_far at next }
 {
     match (so_far?, next) {
-        (_, None) => Err(SignatureFault::OpenZero { at }),
+        (_, None) => Err(open_zero(at)),
         (None, Some(s)) => Ok(Some(s)),
         (Some(left), Some(right)) if left.source == right.target => Ok(Some(Sig {
             source: right.source,
             target: left.target,
         })),
-        (Some(left), Some(right)) => Err(SignatureFault::NotComposable { at, left, right }),
+        (Some(left), Some(right)) => Err(not_composable(at, left, right)),
     }
 }
 
@@ -191,12 +187,8 @@ fn repeated(first: Spot, caret: Spot, signature: Option<Sig>) -> Result<Option<S
     ensures { result ≡ repeated first caret signature }
 {
     match signature {
-        None => Err(SignatureFault::OpenZero { at: first }),
+        None => Err(open_zero(first)),
         Some(s) if s.source == s.target => Ok(signature),
-        Some(s) => Err(SignatureFault::NotComposable {
-            at: caret,
-            left: s,
-            right: s,
-        }),
+        Some(s) => Err(not_composable(caret, s, s)),
     }
 }

@@ -6,7 +6,7 @@ use Rattle.std.specs.Option.{option_or, option_map}
 use Rattle.definitions.specs.Poly.{Poly}
 use Rattle.definitions.specs.Quiver.{IsQuiver}
 use Rattle.definitions.proofs.UnitSound.{all-append}
-use Rattle.signature_typing.specs.Types.{PolyFault, polynomial, Spot, Statement, Equation, NameFault, name, SignatureFault, signature, Parts, Problem}
+use Rattle.signature_typing.specs.Types.{PolyFault, polynomial, Spot, Statement, Equation, Placed, SignatureFault, Parts, Problem}
 use Rattle.signature_typing.specs.Types.{TypeFault}
 use Rattle.nc_polynomial.specs.Faults as poly
 use Rattle.nc_polynomial.specs.Shape.{IsCanonical}
@@ -21,6 +21,7 @@ use Rattle.statement_names.specs.Marked.{marked_of}
 use Rattle.statement_names.specs.Starred.{is_starred}
 use Rattle.statement_names.specs.Shapes.{shapes_of}
 use Rattle.statement_names.specs.Solved.{solved_of}
+use Rattle.statement_names.proofs.Apart.{both_none}
 use Rattle.statement_names.proofs.FileReady.{file_ready}
 use Rattle.expressions.proofs.Typed.{equations_are_typed}
 use Rattle.expressions.proofs.Written.{letters_are_written}
@@ -33,7 +34,6 @@ use Rattle.signature_typing.specs.Laws.{EachStatementHasAProblemOrAFault}
 use Rattle.signature_typing.proofs.Posed.{posed}
 use Rattle.signature_typing.proofs.Results.{Gives, equation_poly-gives}
 use Rattle.signature_typing.proofs.Generated.{Made, make, generators_exist}
-use Rattle.signature_typing.proofs.Values.{both_none}
 
 -- no fault is want of memory
 abbrev IsTold : Option TypeFault → Type 0
@@ -48,22 +48,13 @@ told-first : {A : Type 0} (f : A → Option TypeFault) → ((x : A) → IsTold (
 told-first f h [] = tt
 told-first f h (x ∷ xs) = told-or (f x) (first_among f xs) (h x) (told-first f h xs)
 
--- of names
-told-name : (f : NameFault) → IsMemory (told_name f) → ⊥
-told-name (name.Unknown at) = λ m. m
-told-name f = λ m. m
-
 -- of signatures
-told-signature : (ds : List Declaration) (f : SignatureFault) → IsMemory (told_signature ds f) → ⊥
-told-signature ds (signature.OpenZero at) = λ m. m
-told-signature ds f = λ m. m
-
 told-signatures : (ds : List Declaration) (e : Equation) → IsTold (signature_fault ds e)
 told-signatures ds e = go (signature_in ds e)
   where
     go : {A : Type 0} (r : Result A SignatureFault) → IsTold (fault_in (told_signature ds) r)
     go (Ok x) = tt
-    go (Err f) = told-signature ds f
+    go (Err f) = λ m. m
 
 -- of arithmetic
 told-arithmetic : (at : Spot) (f : PolyFault) → (poly.IsMemory f → ⊥) → IsMemory (told_polynomial at f) → ⊥
@@ -86,6 +77,28 @@ values-canonical ds quiver (e ∷ es) = all-append IsCanonical (value_in (polyno
     go : (r : Result Poly PolyFault) → Gives IsCanonical r → AllByRecursion IsCanonical (value_in r)
     go (Ok p) h = (h, tt)
     go (Err f) h = tt
+
+-- what is known of a file without a fault
+module _ (statements : List Statement) (fine : fault_of statements ≡ None) where
+  abbrev declared : List Declaration
+  declared = declarations_of statements
+
+  behind : (option_map told_name (name_fault_of statements) ≡ None) × (equation_fault declared statements ≡ None)
+  behind = both_none (option_map told_name (name_fault_of statements)) (equation_fault declared statements) fine
+
+  pub names_clean : name_fault_of statements ≡ None
+  names_clean = go (name_fault_of statements) behind.0
+    where
+      go : (o : Option Placed) → option_map told_name o ≡ None → o ≡ None
+      go None h = refl
+      go (Some f) h = absurd cc
+
+  pub none_wrong : (first_among (wrong_signature (declarations_of statements)) statements ≡ None) × (first_among (wrong_polynomial (declarations_of statements)) statements ≡ None)
+  none_wrong =
+      let polys = first_among (wrong_polynomial declared) statements in
+      let claims = wrong_claims (claims_of statements) in
+      let later = both_none (first_among (wrong_signature declared) statements) (option_or polys claims) behind.1 in
+      (later.0, (both_none polys claims later.1).0)
 
 -- a file whose names are in order
 module _ (statements : List Statement) (clean : name_fault_of statements ≡ None) where
@@ -112,14 +125,6 @@ module _ (statements : List Statement) (clean : name_fault_of statements ≡ Non
 
   -- where there is no other fault either
   module _ (fine : fault_of statements ≡ None) where
-    none_wrong : (first_among (wrong_signature ds) statements ≡ None) × (first_among (wrong_polynomial ds) statements ≡ None)
-    none_wrong =
-        let behind = both_none (option_map told_name (name_fault_of statements)) (equation_fault ds statements) fine in
-        let polys = first_among (wrong_polynomial ds) statements in
-        let claims = wrong_claims (claims_of statements) in
-        let later = both_none (first_among (wrong_signature ds) statements) (option_or polys claims) behind.1 in
-        (later.0, (both_none polys claims later.1).0)
-
     made : (es : List Equation) → Made (polynomials_of ds es)
     made es = make _ (values-canonical ds quiver es)
 
@@ -144,7 +149,7 @@ module _ (statements : List Statement) (clean : name_fault_of statements ≡ Non
     problem : (p : Problem) × IsProblemOf statements p
     unfolding parts
     problem =
-        let is_posed = posed equations_are_typed letters_are_written statements parts are_parts ready none_wrong.0 none_wrong.1 in
+        let is_posed = posed equations_are_typed letters_are_written statements parts are_parts ready (none_wrong statements fine).0 (none_wrong statements fine).1 in
         let g = generators_exist parts is_posed in (
           record {
             parts = parts;
@@ -159,19 +164,15 @@ module _ (statements : List Statement) (clean : name_fault_of statements ≡ Non
         )
 
 -- no fault of a file is want of memory
-file_told : (statements : List Statement) (o : Option NameFault) → name_fault_of statements ≡ o
+file_told : (statements : List Statement) (o : Option Placed) → name_fault_of statements ≡ o
     → IsTold (option_or (option_map told_name o) (equation_fault (declarations_of statements) statements))
 file_told statements None clean = told statements clean
-file_told statements (Some f) is = told-name f
-
-no_name_fault : (o : Option NameFault) (p : Option TypeFault) → option_or (option_map told_name o) p ≡ None → o ≡ None
-no_name_fault None p fine = refl
-no_name_fault (Some f) p fine = absurd cc
+file_told statements (Some f) is = λ m. m
 
 pub each_statement_has_a_problem_or_a_fault : EachStatementHasAProblemOrAFault
 each_statement_has_a_problem_or_a_fault statements = by (fault_of statements) refl (file_told statements (name_fault_of statements) refl)
   where
     by : (o : Option TypeFault) → fault_of statements ≡ o → IsTold o
         → ((fault : TypeFault) × (fault_of statements ≡ Some fault) × (IsMemory fault → ⊥)) ⊎ ((p : Problem) × IsProblemOf statements p)
-    by None fine h = inr (problem statements (no_name_fault (name_fault_of statements) (equation_fault (declarations_of statements) statements) fine) fine)
+    by None fine h = inr (problem statements (names_clean statements fine) fine)
     by (Some f) is h = inl (f, is, h)

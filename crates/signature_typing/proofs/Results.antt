@@ -15,7 +15,7 @@ use Rattle.nc_polynomial.specs.Terms.{scaled, products, negated, added, sums}
 use Rattle.nc_polynomial.specs.Faults.{unless_overflow, finished, sized, size_fault, has_long_word, IsMemory}
 use Rattle.nc_polynomial.specs.Arithmetic.{sum_result, difference_result, multiple_result, combined}
 use Rattle.nc_polynomial.specs.Collected.{collected, additions}
-use Rattle.nc_polynomial.specs.Product.{and_then, product_step, product_result}
+use Rattle.nc_polynomial.specs.Product.{product_step, product_result}
 use Rattle.nc_polynomial.specs.Product as product
 use Rattle.nc_polynomial.specs.Shape.{IsShaped, IsCanonical}
 use Rattle.nc_polynomial.proofs.Around.{shaped-between}
@@ -28,6 +28,7 @@ use Rattle.expressions.specs.Results.{◌>>=◌}
 use Rattle.abbreviations.specs.Names.{letter_of, object_of}
 use Rattle.expressions.specs.Polynomials.{letter_poly, power_poly, mark_poly, marked_poly, product_from, product_poly, scaled_by, Summand, signed, sum_step, sum_from, total, sum_poly, summands, term_poly, factor_polys, primary_poly, equation_poly}
 use Rattle.expressions.proofs.Canonical.{canonical-negated}
+use Rattle.expressions.proofs.Totals.{canonical-signed}
 use Rattle.expressions.proofs.TwoAdjoints.{canonical-adjoint}
 
 -- a value with a property, or a fault that isn't want of memory
@@ -146,10 +147,6 @@ module _ (ds : List Declaration) (quiver : IsQuiver (quiver_of ds)) where
   abbrev AreCanonical : List Summand → Type 0
   AreCanonical ss = AllByRecursion (λ s. IsCanonical s.1) ss
 
-  signed-canonical : (s : Summand) → IsCanonical s.1 → IsCanonical (signed s)
-  signed-canonical (false, p) h = h
-  signed-canonical (true, p) h = canonical-negated p h
-
   sum_step-gives : (p : Poly) (s : Summand) → IsCanonical p → IsCanonical s.1 → Gives IsCanonical (sum_step p s)
   sum_step-gives p (false, q) h k = sum-gives p q h k
   sum_step-gives p (true, q) h k = difference-gives p q h k
@@ -160,7 +157,7 @@ module _ (ds : List Declaration) (quiver : IsQuiver (quiver_of ds)) where
 
   total-gives : (ss : List Summand) → AreCanonical ss → Gives IsCanonical (total ss)
   total-gives [] h = canonical_none
-  total-gives (s ∷ ss) h = sum_from-gives (signed s) ss (signed-canonical s h.0) h.1
+  total-gives (s ∷ ss) h = sum_from-gives (signed s) ss (canonical-signed s h.0) h.1
 
   scaled_by-gives : (l : Option Number) (p : Poly) → IsCanonical p → Gives IsCanonical (scaled_by l p)
   scaled_by-gives None p h = h

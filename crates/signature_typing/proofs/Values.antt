@@ -1,11 +1,11 @@
 -- Results of which none is a fault, and their values.
-use Rattle.std.proofs.Common.{◌≡◌, List, [], ◌∷◌, ◌++◌, length, map, suc, Option, Some, None, Result, Ok, Err, refl, sym, ap, subst, ◌∙◌}
+use Rattle.std.proofs.Common.{◌≡◌, List, [], ◌∷◌, ◌++◌, length, map, suc, None, Result, Ok, Err, refl, sym, ap, subst, ◌∙◌}
 use Rattle.std.specs.List.{All, AllByRecursion, AllZip, flat_map}
 use Rattle.std.proofs.lemmas.List.Elements.{All-nil, All-cons, All-head, All-tail}
-use Rattle.std.specs.Option.{option_or}
 use Rattle.signature_typing.specs.Types.{TypeFault}
 use Rattle.signature_typing.specs.First.{first_among}
 use Rattle.signature_typing.specs.Typing.{fault_in, value_in}
+use Rattle.statement_names.proofs.Apart.{both_none}
 use Rattle.statement_names.proofs.Each.{Each-left, Each-right, Each-append}
 
 -- the result is no fault
@@ -20,10 +20,6 @@ value_of (Err e) is = absurd is
 is_value : {X E : Type 0} (told : E → TypeFault) (r : Result X E) → fault_in told r ≡ None → IsValue r
 is_value told (Ok x) none = tt
 is_value told (Err e) none = cc
-
-pub both_none : {B : Type 0} (o p : Option B) → option_or o p ≡ None → (o ≡ None) × (p ≡ None)
-both_none None p none = (refl, none)
-both_none (Some x) p none = cc
 
 module _ {A X E : Type 0} (f : A → Result X E) where
   -- none of them is a fault

@@ -1,22 +1,24 @@
 -- The faults of a file as they are returned.
 use Rattle.std.specs.Prelude.{◌≡◌, ℕ, List, Option, Some, None}
-use Rattle.signature_typing.specs.Types.{Spot, Sig, NameFault, name, Stop, stop, SignatureFault, signature, PolyFault, polynomial, TypeFault, Fault, Memory}
+use Rattle.signature_typing.specs.Types.{Spot, Sig, Placed, Stop, stop, SignatureFault, PolyFault, polynomial, TypeFault, Fault, Memory}
+use Rattle.std.specs.Option.{option_map}
+use Rattle.statement_tokens.specs.Fault.{code_of, limit_of, placed}
 use Rattle.quiver.specs.Declarations.{Declaration, object_name}
 
 -- a code at a place
 abbrev pub fault_at : ℕ → Spot → TypeFault
 fault_at code at = Fault code at.line at.column None None 0
 
+-- a fault at its place, with the names of the ends of two signatures that do not fit, where there are two
+abbrev pub told : Placed → Option (List ℕ × List ℕ) → Option (List ℕ × List ℕ) → TypeFault
+told p left right = Fault (code_of p.fault) p.at.line p.at.column left right (limit_of p.fault)
+
 -- of names, literals and counts
-abbrev pub told_name : NameFault → TypeFault
-told_name (name.Unknown at) = fault_at 6 at
-told_name (name.Double at) = fault_at 7 at
-told_name (name.TooMany at limit) = Fault 8 at.line at.column None None limit
-told_name (name.NotSquare at) = fault_at 9 at
-told_name (name.BadNumber at) = fault_at 16 at
+abbrev pub told_name : Placed → TypeFault
+told_name p = told p None None
 
 -- of the names of a file, or want of memory
-abbrev pub told_stop : Stop NameFault → TypeFault
+abbrev pub told_stop : Stop Placed → TypeFault
 told_stop (stop.Fault fault) = told_name fault
 told_stop (stop.Memory e) = Memory e
 
@@ -24,15 +26,9 @@ told_stop (stop.Memory e) = Memory e
 abbrev pub end_names : List Declaration → Sig → List ℕ × List ℕ
 end_names ds s = (object_name ds s.source.0, object_name ds s.target.0)
 
--- a code at a place, with two signatures that do not fit
-abbrev pub misfit_at : ℕ → List Declaration → Spot → Sig → Sig → TypeFault
-misfit_at code ds at left right = Fault code at.line at.column (Some (end_names ds left)) (Some (end_names ds right)) 0
-
--- of the signatures in an equation
+-- of the signatures in an equation, with those that do not fit
 abbrev pub told_signature : List Declaration → SignatureFault → TypeFault
-told_signature ds (signature.NotComposable at left right) = misfit_at 10 ds at left right
-told_signature ds (signature.SumMismatch at left right) = misfit_at 11 ds at left right
-told_signature ds (signature.OpenZero at) = fault_at 12 at
+told_signature ds f = told (placed f.fault f.at) (option_map (λ both. end_names ds both.0) f.sides) (option_map (λ both. end_names ds both.1) f.sides)
 
 -- of the arithmetic of an equation, whose statement begins at this place
 abbrev pub told_polynomial : Spot → PolyFault → TypeFault

@@ -1,5 +1,6 @@
 -- The types that definitions and proofs of the crate name. A type has a small name too where its variants are written after it.
 pub use Rattle.statement_tokens.specs.declared.place.Spot.{Spot}
+pub use Rattle.statement_tokens.specs.declared.fault.Placed.{Placed}
 pub use Rattle.statement_syntax.specs.declared.tree.Factor.{Factor}
 pub use Rattle.statement_syntax.specs.declared.tree.Mark.{Mark}
 pub use Rattle.statement_syntax.specs.declared.tree.Mark.TheVariants.{Adjoint, Power}
@@ -13,11 +14,9 @@ pub use Rattle.quiver.specs.declared.named.Named.{Named, Named as named}
 pub use Rattle.quiver.specs.declared.named.Sig.{Sig}
 pub use Rattle.nc_polynomial.specs.declared.fault.PolyFault.{PolyFault, PolyFault as polynomial}
 pub use Rattle.abbreviations.specs.declared.written.Equation.{Equation}
-pub use Rattle.expressions.specs.declared.fault.SignatureFault.{SignatureFault, SignatureFault as signature}
-pub use Rattle.expressions.specs.declared.fault.SignatureFault.TheVariants.{NotComposable, SumMismatch, OpenZero}
+pub use Rattle.expressions.specs.declared.fault.SignatureFault.{SignatureFault}
 pub use Rattle.adjoint_rules.specs.declared.parts.Parts.{Parts}
 pub use Rattle.adjoint_rules.specs.declared.problem.Problem.{Problem}
-pub use Rattle.statement_names.specs.declared.fault.NameFault.{NameFault, NameFault as name}
 pub use Rattle.lists.specs.declared.stop.Stop.{Stop, Stop as stop}
 pub use Rattle.signature_typing.specs.declared.fault.TypeFault.{TypeFault}
 pub use Rattle.signature_typing.specs.declared.fault.TypeFault.TheVariants.{Fault, Memory}

@@ -1,12 +1,11 @@
 //! Why a tree has no problem: the first fault with its code, its place and its values.
 
 ghost use Rattle.std.specs.Prelude.{◌≡◌};
-ghost use Rattle.signature_typing.specs.Fault.{IsMemory, fault_at, told_name, told_stop, told_polynomial, no_claim};
+ghost use Rattle.signature_typing.specs.Fault.{IsMemory, fault_at, told, told_stop, told_polynomial, no_claim};
 
 use lists::{Stop, Text};
 use nc_polynomial::PolyFault;
-use statement_names::NameFault;
-use statement_tokens::Spot;
+use statement_tokens::{Placed, Spot};
 use std::alloc::{AllocError, AllocFailed};
 use std::fmt;
 use thiserror::Error;
@@ -53,39 +52,37 @@ impl<T: Drop> From<AllocFailed<T>> for TypeFault {
     }
 }
 
-impl From<Stop<NameFault>> for TypeFault {
+impl From<Stop<Placed>> for TypeFault {
     ghost from_gives = { λ stopped told. told ≡ told_stop stopped };
 
-    fn from(stopped: Stop<NameFault>) -> TypeFault {
+    fn from(stopped: Stop<Placed>) -> TypeFault {
         match stopped {
-            Stop::Fault(fault) => name_fault(fault),
+            Stop::Fault(placed) => told(placed, None, None),
             Stop::Memory(failed) => TypeFault::Memory(failed),
         }
     }
 }
 
-// The fault of a name, a literal or a count.
-fn name_fault(fault: NameFault) -> TypeFault
-    ensures { result ≡ told_name fault }
+/// The fault at a place, with the names of the ends of two signatures that do not fit, where there are two.
+pub(crate) fn told(
+    placed: Placed,
+    left: Option<(Text, Text)>,
+    right: Option<(Text, Text)>,
+) -> TypeFault
+    ensures { result ≡ told placed left right }
 {
-    match fault {
-        NameFault::Unknown { at } => fault_at(6, at),
-        NameFault::Double { at } => fault_at(7, at),
-        NameFault::TooMany { at, limit } => TypeFault::Fault {
-            code: 8,
-            line: at.line,
-            column: at.column,
-            left: None,
-            right: None,
-            limit,
-        },
-        NameFault::NotSquare { at } => fault_at(9, at),
-        NameFault::BadNumber { at } => fault_at(16, at),
+    TypeFault::Fault {
+        code: placed.fault.code(),
+        line: placed.at.line,
+        column: placed.at.column,
+        left,
+        right,
+        limit: placed.fault.limit(),
     }
 }
 
-/// The fault with this code at a place.
-pub(crate) fn fault_at(code: u32, at: Spot) -> TypeFault
+// The fault with this code at a place.
+fn fault_at(code: u32, at: Spot) -> TypeFault
     ensures { result ≡ fault_at code at }
 {
     TypeFault::Fault {

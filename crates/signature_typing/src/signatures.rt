@@ -2,12 +2,12 @@
 
 ghost use Rattle.std.specs.Prelude.{◌≡◌, IfOk};
 ghost use Rattle.adjoint_rules.specs.Problem.{HasObjects};
-ghost use Rattle.signature_typing.specs.Fault.{end_names, misfit_at, told_signature};
+ghost use Rattle.signature_typing.specs.Fault.{end_names, told_signature};
 ghost use Rattle.signature_typing.specs.Typing.{signature_stage};
 ghost use Rattle.signature_typing.specs.Named.{HasFaultObjects};
 
 use crate::TypeFault;
-use crate::fault::fault_at;
+use crate::fault::told;
 use crate::stage::Stage;
 use expressions::{SignatureFault, equation_signature};
 use lists::Text;
@@ -26,29 +26,7 @@ fn end_names(alloc: Global, quiver: &Quiver, signature: Sig) -> Result<(Text, Te
     Ok((source, target))
 }
 
-// The fault with this code at a place, where two signatures do not fit.
-fn misfit_at(
-    alloc: Global,
-    quiver: &Quiver,
-    code: u32,
-    at: Spot,
-    left: Sig,
-    right: Sig,
-) -> Result<TypeFault, AllocError>
-    requires left_ends { HasObjects quiver.now left }
-    requires right_ends { HasObjects quiver.now right }
-    ensures { IfOk result (λ fault. fault ≡ misfit_at code quiver.now at left right) }
-{
-    Ok(TypeFault::Fault {
-        code,
-        line: at.line,
-        column: at.column,
-        left: Some(end_names(alloc, quiver, left)?),
-        right: Some(end_names(alloc, quiver, right)?),
-        limit: 0,
-    })
-}
-
+// The fault, with the names of the ends of its signatures.
 fn signature_fault(
     alloc: Global,
     quiver: &Quiver,
@@ -57,15 +35,13 @@ fn signature_fault(
     requires { HasFaultObjects quiver.now fault }
     ensures { IfOk result (λ told. told ≡ told_signature quiver.now fault) }
 {
-    match fault {
-        SignatureFault::NotComposable { at, left, right } => {
-            misfit_at(alloc, quiver, 10, at, left, right)
-        }
-        SignatureFault::SumMismatch { at, left, right } => {
-            misfit_at(alloc, quiver, 11, at, left, right)
-        }
-        SignatureFault::OpenZero { at } => Ok(fault_at(12, at)),
-    }
+    let placed = fault.fault.at(fault.at);
+    let Some((left, right)) = fault.sides else {
+        return Ok(told(placed, None, None));
+    };
+    let left = end_names(alloc, quiver, left)?;
+    let right = end_names(alloc, quiver, right)?;
+    Ok(told(placed, Some(left), Some(right)))
 }
 
 /// The signatures of equations.

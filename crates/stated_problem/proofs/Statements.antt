@@ -3,7 +3,8 @@ use Rattle.std.proofs.Common.{◌≡◌, ◌⊎◌, inl, inr, ℕ, List, Option,
 use Rattle.statement_tokens.specs.declared.place.Spot.{Spot}
 use Rattle.statement_syntax.specs.declared.tree.Statement.{Statement}
 use Rattle.statement_tokens.specs.declared.fault.Fault.{Fault}
-use Rattle.statement_syntax.specs.Fault.{IsFirstFault, code_of}
+use Rattle.statement_tokens.specs.Fault.{code_of}
+use Rattle.statement_syntax.specs.Fault.{IsFirstFault}
 use Rattle.statement_syntax.specs.Texts.{IsTreeOf}
 use Rattle.statement_syntax.proofs.EachText.{each_text_is_read}
 use Rattle.statement_syntax.proofs.Stopping.{no_first}

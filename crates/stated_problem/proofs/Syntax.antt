@@ -7,7 +7,6 @@ use Rattle.statement_tokens.specs.declared.place.Spot.{Spot}
 use Rattle.statement_syntax.specs.declared.tree.Statement.{Statement}
 use Rattle.statement_syntax.specs.declared.line.Line.TheVariants as line
 use Rattle.statement_tokens.specs.declared.fault.Fault.{Fault}
-use Rattle.statement_tokens.specs.declared.fault.Fault.TheVariants as fault
 use Rattle.statement_syntax.specs.Steps.{run}
 use Rattle.statement_syntax.specs.Lines.{file_step}
 use Rattle.statement_syntax.specs.Stages.{first_statements, begun, left, AllRead}
@@ -16,7 +15,7 @@ use Rattle.statement_tokens.specs.declared.language.Language.{Language}
 use Rattle.statement_tokens.specs.Language.{language_of}
 use Rattle.statement_syntax.specs.Grammar.{StatedLine, IsFileOf, file_tokens, FileFits}
 use Rattle.statement_syntax.specs.Tree.{file_tree}
-use Rattle.statement_syntax.specs.Fault.{GoesOn, GoesOnWithin, IsMisfit, IsFirstFault}
+use Rattle.statement_syntax.specs.Fault.{GoesOn, GoesOnWithin, IsMisfit, IsFirstFault, GoesOnPast, not_utf8, no_token, expected, too_deep}
 use Rattle.statement_syntax.specs.Texts.{IsStatements, IsTreeOf}
 use Rattle.statement_syntax.proofs.Run.{Upto}
 use Rattle.statement_syntax.proofs.FirstLine.{Behind, Divided, file_language, divided}
@@ -100,7 +99,7 @@ misfit_once bytes at at' m m' = by (splits m.front m.token m.rest m'.front m'.to
 
 -- tokens up to one misfit, and those up to the other
 module _ (bytes : List ℕ) (at at' : Spot) (m : IsMisfit bytes at) (m' : IsMisfit bytes at') where
-  goes_with : GoesOn (language_of (m'.front ++ m'.token ∷ m'.rest)) (m'.front ++ m'.token ∷ []) → GoesOn (language_of (m.front ++ m.token ∷ m.rest)) (m.front ++ m.token ∷ [])
+  goes_with : GoesOnPast bytes at' m' → GoesOnPast bytes at m
   goes_with on =
       let once = misfit_once bytes at at' m m' in
       subst (λ ts. GoesOn (language_of ts) (m.front ++ m.token ∷ [])) (sym once.whole)
@@ -111,28 +110,19 @@ abbrev pub SameFault : Fault → Spot → Fault → Spot → Type 0
 SameFault f at f' at' = (f ≡ f') × (at ≡ at')
 
 pub fault_once : (bytes : List ℕ) (f f' : Fault) (at at' : Spot) → IsFirstFault bytes f at → IsFirstFault bytes f' at' → SameFault f at f' at'
-fault_once bytes fault.NotUtf8 fault.NotUtf8 at at' one other = (refl, one.1 ∙ sym other.1)
-fault_once bytes fault.NotUtf8 fault.BadToken at at' one other = absurd (one.0 other.0)
-fault_once bytes fault.NotUtf8 fault.LiteralTooLarge at at' one other = absurd (one.0 other.0)
-fault_once bytes fault.NotUtf8 fault.Expected at at' one other = absurd (one.0 other.0.utf8)
-fault_once bytes fault.NotUtf8 fault.TooDeep at at' one other = absurd (one.0 other.0.utf8)
-fault_once bytes fault.BadToken fault.NotUtf8 at at' one other = absurd (other.0 one.0)
-fault_once bytes fault.BadToken fault.BadToken at at' one other = first_scan_faults_are_unique (chars bytes) _ _ at at' one.1 other.1
-fault_once bytes fault.BadToken fault.LiteralTooLarge at at' one other = first_scan_faults_are_unique (chars bytes) _ _ at at' one.1 other.1
-fault_once bytes fault.BadToken fault.Expected at at' one other = absurd (tokens_have_no_fault (chars bytes) _ _ at other.0.tokens one.1)
-fault_once bytes fault.BadToken fault.TooDeep at at' one other = absurd (tokens_have_no_fault (chars bytes) _ _ at other.0.tokens one.1)
-fault_once bytes fault.LiteralTooLarge fault.NotUtf8 at at' one other = absurd (other.0 one.0)
-fault_once bytes fault.LiteralTooLarge fault.BadToken at at' one other = first_scan_faults_are_unique (chars bytes) _ _ at at' one.1 other.1
-fault_once bytes fault.LiteralTooLarge fault.LiteralTooLarge at at' one other = first_scan_faults_are_unique (chars bytes) _ _ at at' one.1 other.1
-fault_once bytes fault.LiteralTooLarge fault.Expected at at' one other = absurd (tokens_have_no_fault (chars bytes) _ _ at other.0.tokens one.1)
-fault_once bytes fault.LiteralTooLarge fault.TooDeep at at' one other = absurd (tokens_have_no_fault (chars bytes) _ _ at other.0.tokens one.1)
-fault_once bytes fault.Expected fault.NotUtf8 at at' one other = absurd (other.0 one.0.utf8)
-fault_once bytes fault.Expected fault.BadToken at at' one other = absurd (tokens_have_no_fault (chars bytes) _ _ at' one.0.tokens other.1)
-fault_once bytes fault.Expected fault.LiteralTooLarge at at' one other = absurd (tokens_have_no_fault (chars bytes) _ _ at' one.0.tokens other.1)
-fault_once bytes fault.Expected fault.Expected at at' one other = (refl, (misfit_once bytes at at' one.0 other.0).place)
-fault_once bytes fault.Expected fault.TooDeep at at' one other = absurd (one.1 (goes_with bytes at at' one.0 other.0 other.1))
-fault_once bytes fault.TooDeep fault.NotUtf8 at at' one other = absurd (other.0 one.0.utf8)
-fault_once bytes fault.TooDeep fault.BadToken at at' one other = absurd (tokens_have_no_fault (chars bytes) _ _ at' one.0.tokens other.1)
-fault_once bytes fault.TooDeep fault.LiteralTooLarge at at' one other = absurd (tokens_have_no_fault (chars bytes) _ _ at' one.0.tokens other.1)
-fault_once bytes fault.TooDeep fault.Expected at at' one other = absurd (other.1 (goes_with bytes at' at other.0 one.0 one.1))
-fault_once bytes fault.TooDeep fault.TooDeep at at' one other = (refl, (misfit_once bytes at at' one.0 other.0).place)
+fault_once bytes f f' at at' (not_utf8 is bad place) (not_utf8 is' bad' place') = (is ∙ sym is', place ∙ sym place')
+fault_once bytes f f' at at' (not_utf8 is bad place) (no_token utf8 first) = absurd (bad utf8)
+fault_once bytes f f' at at' (not_utf8 is bad place) (expected is' m' ends) = absurd (bad m'.utf8)
+fault_once bytes f f' at at' (not_utf8 is bad place) (too_deep is' m' goes) = absurd (bad m'.utf8)
+fault_once bytes f f' at at' (no_token utf8 first) (not_utf8 is bad place) = absurd (bad utf8)
+fault_once bytes f f' at at' (no_token utf8 first) (no_token utf8' first') = first_scan_faults_are_unique (chars bytes) _ _ at at' first first'
+fault_once bytes f f' at at' (no_token utf8 first) (expected is m ends) = absurd (tokens_have_no_fault (chars bytes) _ _ at m.tokens first)
+fault_once bytes f f' at at' (no_token utf8 first) (too_deep is m goes) = absurd (tokens_have_no_fault (chars bytes) _ _ at m.tokens first)
+fault_once bytes f f' at at' (expected is m ends) (not_utf8 is' bad place) = absurd (bad m.utf8)
+fault_once bytes f f' at at' (expected is m ends) (no_token utf8 first) = absurd (tokens_have_no_fault (chars bytes) _ _ at' m.tokens first)
+fault_once bytes f f' at at' (expected is m ends) (expected is' m' ends') = (is ∙ sym is', (misfit_once bytes at at' m m').place)
+fault_once bytes f f' at at' (expected is m ends) (too_deep is' m' goes) = absurd (ends (goes_with bytes at at' m m' goes))
+fault_once bytes f f' at at' (too_deep is m goes) (not_utf8 is' bad place) = absurd (bad m.utf8)
+fault_once bytes f f' at at' (too_deep is m goes) (no_token utf8 first) = absurd (tokens_have_no_fault (chars bytes) _ _ at' m.tokens first)
+fault_once bytes f f' at at' (too_deep is m goes) (expected is' m' ends) = absurd (ends (goes_with bytes at' at m' m goes))
+fault_once bytes f f' at at' (too_deep is m goes) (too_deep is' m' goes') = (is ∙ sym is', (misfit_once bytes at at' m m').place)

@@ -3,7 +3,8 @@ use Rattle.std.specs.Prelude.{ℕ, ◌≡◌, List, Option, Some, None}
 use Rattle.statement_tokens.specs.declared.place.Spot.{Spot}
 use Rattle.statement_tokens.specs.declared.fault.Fault.{Fault}
 use Rattle.statement_syntax.specs.declared.tree.Statement.{Statement}
-use Rattle.statement_syntax.specs.Fault.{IsFirstFault, code_of}
+use Rattle.statement_tokens.specs.Fault.{code_of}
+use Rattle.statement_syntax.specs.Fault.{IsFirstFault}
 use Rattle.statement_syntax.specs.Texts.{IsTreeOf}
 use Rattle.adjoint_rules.specs.declared.problem.Problem.{Problem}
 use Rattle.signature_typing.specs.declared.fault.TypeFault.{TypeFault}

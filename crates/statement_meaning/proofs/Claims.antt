@@ -12,7 +12,7 @@ use Rattle.signature_typing.specs.Fault.{told_polynomial}
 use Rattle.signature_typing.specs.Typing.{polynomial_in, polynomials_of, IsProblemOf}
 use Rattle.signature_typing.proofs.Values.{all_values, length-values}
 use Rattle.statement_meaning.specs.Claims.{IsClaim}
-use Rattle.statement_meaning.proofs.Statements.{none_wrong}
+use Rattle.signature_typing.proofs.EachStatement.{none_wrong}
 
 there : (es : List Equation) (n : ℕ) → n < length es → (e : Equation) × (slice_get es n ≡ Some e)
 there [] n inside = absurd (omega arith)

@@ -1,5 +1,6 @@
 -- The polynomial of an equation is zero exactly where both sides have the same value.
-use Rattle.std.proofs.Common.{◌≡◌, ℕ, ◌<◌, negsuc, Bool, true, false, cond, ◌||◌, ◌↔◌, List, [], Option, Some, None, Ok, Err, refl, sym, ap, ap₂, subst, ◌∙◌, true≢false, eqb, eqb-true, eq-eqb}
+use Rattle.std.proofs.Common.{◌≡◌, ℕ, ◌<◌, negsuc, Bool, true, false, ◌||◌, ◌↔◌, List, [], Option, Some, None, Ok, refl, sym, ap, ap₂, subst, ◌∙◌, true≢false, eqb, eqb-true, eq-eqb}
+use Rattle.std.proofs.lemmas.Bool.{or_left, or_right}
 use Rattle.definitions.specs.Category.{Structure, IsArrow, PreadditiveLaws}
 use Rattle.definitions.specs.Poly.{Poly, poly_sum, poly_multiple}
 use Rattle.definitions.specs.Quiver.{Quiver, is_path, IsTyped}
@@ -16,15 +17,13 @@ use Rattle.quiver.specs.Declarations.{Declaration, quiver_of}
 use Rattle.quiver.proofs.Identities.{is_quiver}
 use Rattle.statement_syntax.specs.declared.tree.Sum.{Sum}
 use Rattle.abbreviations.specs.Occurrences.{has_quote}
-use Rattle.expressions.specs.declared.fault.SignatureFault.TheVariants.{SumMismatch}
 use Rattle.expressions.specs.Results.{◌>>=◌}
 use Rattle.expressions.specs.Signatures as signatures
-use Rattle.expressions.specs.Signatures.{same_ends, sides_signature, sum_at}
+use Rattle.expressions.specs.Signatures.{sides_signature, sum_at}
 use Rattle.expressions.specs.Polynomials as polynomials
 use Rattle.expressions.proofs.Sequences.{bound, same_value}
-use Rattle.expressions.proofs.TypedParts.{no_fault, same_from_ends}
+use Rattle.expressions.proofs.TypedParts.{no_fault, same_passed}
 use Rattle.expressions.proofs.Typed.{equations_are_typed}
-use Rattle.expressions.proofs.Letters.{left_of, right_of}
 use Rattle.statement_meaning.specs.Values.{Reading, sum_value, AreSame, Holds}
 use Rattle.statement_meaning.specs.Laws.{IsEquation, reading, EquationsAreRead, StarredEquationsAreRead}
 use Rattle.statement_meaning.proofs.Polynomials.{value_in, value-same, value-sum, value-multiple}
@@ -139,8 +138,8 @@ module _ {Object Arrow : Type 0} {s : Structure Object Arrow} (laws : Preadditiv
       let second = bound (signatures.sum_signature ds right) (λ j. sides_signature (sum_at left) (sum_at right) first.value j) e first.then in
       let minuend = bound (polynomials.sum_poly ds left) (λ m. polynomials.sum_poly ds right >>= λ n. difference_result m n) p equation.polynomial in
       let subtrahend = bound (polynomials.sum_poly ds right) (λ n. difference_result minuend.value n) p minuend.then in
-      let on_left = denotes-sum r laws equation.declared equation.objects_first rep left equation.left_names (λ h. adjoints (left_of (has_quote left) (has_quote right) h)) first.value first.is minuend.value minuend.is in
-      let on_right = denotes-sum r laws equation.declared equation.objects_first rep right equation.right_names (λ h. adjoints (right_of (has_quote left) (has_quote right) h)) second.value second.is subtrahend.value subtrahend.is in
+      let on_left = denotes-sum r laws equation.declared equation.objects_first rep left equation.left_names (λ h. adjoints (or_left (has_quote left) (has_quote right) h)) first.value first.is minuend.value minuend.is in
+      let on_right = denotes-sum r laws equation.declared equation.objects_first rep right equation.right_names (λ h. adjoints (or_right (has_quote left) (has_quote right) h)) second.value second.is subtrahend.value subtrahend.is in
       go first.value second.value second.then minuend.value subtrahend.value on_left on_right subtrahend.then
     where
       typed : IsTyped q e.source.0 e.target.0 p
@@ -158,14 +157,11 @@ module _ {Object Arrow : Type 0} {s : Structure Object Arrow} (laws : Preadditiv
       go (Some i) None k m n d h x =
           both_ways (other_way (at i (same_value i e k) d.source_below d.target_below))
           (left_alone laws q f rep i.source.0 i.target.0 d.source_below d.target_below m n p (sum_value r left) (sum_value r right) d.same h.0 h.1 x)
-      go (Some i) (Some j) k m n d h x = fits (same_ends i j) refl k
-        where
-          fits : (b : Bool) → same_ends i j ≡ b → cond b (Ok i) (Err (SumMismatch (sum_at right) i j)) ≡ Ok e → HasValueZero s q f p ↔ Holds r left right
-          fits true same y =
-              let here : DenotesAt s q f i n (sum_value r right) = subst (λ t. DenotesAt s q f t n (sum_value r right)) (sym (same_from_ends i j same)) h in
-              both_ways (other_way (at i (same_value i e y) d.source_below d.target_below))
-              (sides laws q f rep i.source.0 i.target.0 d.source_below d.target_below m n p (sum_value r left) (sum_value r right) d.same here.same x)
-          fits false same y = absurd (no_fault e _ y)
+      go (Some i) (Some j) k m n d h x =
+          let both = same_passed i j _ _ _ k in
+          let here : DenotesAt s q f i n (sum_value r right) = subst (λ t. DenotesAt s q f t n (sum_value r right)) (sym both.0) h in
+          both_ways (other_way (at i both.1 d.source_below d.target_below))
+          (sides laws q f rep i.source.0 i.target.0 d.source_below d.target_below m n p (sum_value r left) (sum_value r right) d.same here.same x)
 
 pub equations_are_read : {Object Arrow : Type 0} {s : Structure Object Arrow} → PreadditiveLaws s → EquationsAreRead s
 equations_are_read laws involution ds left right e p f equation unmarked rep =

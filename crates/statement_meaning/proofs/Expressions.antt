@@ -1,6 +1,6 @@
 -- The polynomial of an expression says its value.
 use Rattle.std.proofs.Common.{◌≡◌, ℕ, ◌<◌, ℤ, pos, negsuc, Bool, true, false, ◌||◌, List, [], ◌∷◌, Option, Some, None, Ok, refl, sym, ap, ap₂, subst, ◌∙◌, arith}
-use Rattle.std.proofs.lemmas.Bool.{and_parts}
+use Rattle.std.proofs.lemmas.Bool.{or_left, or_right, and_parts}
 use Rattle.std.proofs.lemmas.List.Elements.{All-replicate}
 use Rattle.std.specs.List.{list_any}
 use Rattle.std.specs.Option.{option_map}
@@ -30,16 +30,15 @@ use Rattle.expressions.specs.Signatures as signatures
 use Rattle.expressions.specs.Signatures.{Part, from_to, letter_signature, marked_signature}
 use Rattle.expressions.specs.Polynomials as polynomials
 use Rattle.expressions.specs.Polynomials.{letter_poly, marked_poly, scaled_by, Summand, signed}
-use Rattle.expressions.proofs.Sequences.{bound, same_value}
+use Rattle.expressions.proofs.Sequences.{bound, same_value, OfValues, values-ok, values-bind}
 use Rattle.expressions.proofs.TypedParts.{path-letter, IsPathOf}
 use Rattle.expressions.proofs.Typed.{typed-sum}
 use Rattle.expressions.proofs.Words.{Words, words-negated, words-multiple}
-use Rattle.expressions.proofs.Letters.{left_of, right_of}
 use Rattle.statement_meaning.specs.Values.{Reading, plus, composite, marks_value, scaled_value, signed_value, sum_value, terms_value, term_value, factor_values, primary_value}
 use Rattle.statement_meaning.proofs.Polynomials.{value_in, value-same, value-multiple, value-term}
 use Rattle.statement_meaning.proofs.Denoted.{value_of, Denotes}
-use Rattle.statement_meaning.proofs.Sums.{AreTerms, total_value, summed, total_is, denotes-summed}
-use Rattle.statement_meaning.proofs.Products.{AreFactors, denotes-product}
+use Rattle.statement_meaning.proofs.Sums.{AreTerms, no_term, one_term, total_value, summed, total_is, denotes-summed}
+use Rattle.statement_meaning.proofs.Products.{AreFactors, no_factor, one_factor, denotes-product}
 use Rattle.statement_meaning.proofs.Marks.{AdjointsAre, denotes-marked}
 
 module _ {Object Arrow : Type 0} (r : Reading Object Arrow) (laws : PreadditiveLaws r.category) (declared : IsDeclared r.names) (first : ObjectsFirst r.names)
@@ -169,66 +168,54 @@ module _ {Object Arrow : Type 0} (r : Reading Object Arrow) (laws : PreadditiveL
         let whole = denotes-summed laws q f rep parts.value polys.value (values terms) o (denotes-terms terms known adjoints parts.value parts.is polys.value polys.is) parts.then in
         subst (Denotes s q f o x) (sym (values-total terms)) (denotes-total o polys.value x (total_value s (values terms)) (typed-sum r.names declared first (Sum' at shape terms) known o e x d) whole polys.then)
 
-    denotes-terms : {m : _} (k : Row_of-Term m) → are_names_of_terms r.names k ≡ true → (has_quote_in_terms k ≡ true → Adjoints) → (parts : List Part) → signatures.terms_parts r.names k ≡ Ok parts
-        → (ss : List Summand) → polynomials.summands r.names k ≡ Ok ss → AreTerms laws q f rep parts ss (values k)
-    denotes-terms end_of-Term known adjoints parts e ss d =
-        subst (λ i. AreTerms laws q f rep i ss []) (same_value [] parts e) (subst (λ i. AreTerms laws q f rep [] i []) (same_value [] ss d) tt)
-    denotes-terms (more_of-Term t rest) known adjoints parts e ss d =
+    denotes-terms : {m : _} (k : Row_of-Term m) → are_names_of_terms r.names k ≡ true → (has_quote_in_terms k ≡ true → Adjoints)
+        → OfValues (signatures.terms_parts r.names k) (polynomials.summands r.names k) (λ parts ss. AreTerms laws q f rep parts ss (values k))
+    denotes-terms end_of-Term known adjoints = values-ok (λ parts ss. AreTerms laws q f rep parts ss []) [] [] no_term
+    denotes-terms (more_of-Term t rest) known adjoints =
         let names = and_parts (are_names_of_term r.names t) (are_names_of_terms r.names rest) known in
-        let part = bound _ (λ x. signatures.terms_parts r.names rest >>= λ xs. Ok (x ∷ xs)) parts e in
-        let later_parts = bound (signatures.terms_parts r.names rest) (λ xs. Ok (part.value ∷ xs)) parts part.then in
-        let signature = bound (signatures.term_signature r.names t) _ part.value part.is in
-        let summand = bound _ (λ x. polynomials.summands r.names rest >>= λ xs. Ok (x ∷ xs)) ss d in
-        let later_summands = bound (polynomials.summands r.names rest) (λ xs. Ok (summand.value ∷ xs)) ss summand.then in
-        let poly = bound (polynomials.term_poly r.names t) _ summand.value summand.is in
-        let here = denotes-term t names.0 (λ h. adjoints (left_of (has_quote_in_term t) (has_quote_in_terms rest) h)) signature.value signature.is poly.value poly.is in
-        let later = denotes-terms rest names.1 (λ h. adjoints (right_of (has_quote_in_term t) (has_quote_in_terms rest) h)) later_parts.value later_parts.is later_summands.value later_summands.is in
-        let placed : Denotes s q f part.value.1 (signed summand.value) (term_value r t) =
-        subst (λ x. Denotes s q f x.1 (signed summand.value) (term_value r t)) (same_value _ part.value signature.then) (subst (λ y. Denotes s q f signature.value (signed y) (term_value r t)) (same_value _ summand.value poly.then) here) in
-        subst (λ i. AreTerms laws q f rep i ss (term_value r t ∷ values rest)) (same_value _ parts later_parts.then)
-        (subst (λ i. AreTerms laws q f rep (part.value ∷ later_parts.value) i (term_value r t ∷ values rest)) (same_value _ ss later_summands.then) (placed, later))
+        let IsHere = λ (part : Part) (s' : Summand). Denotes s q f part.1 (signed s') (term_value r t) in
+        let AreAll = λ (parts : List Part) (ss : List Summand). AreTerms laws q f rep parts ss (term_value r t ∷ values rest) in
+        values-bind IsHere AreAll _ _ _ _
+        (values-bind (λ o x. IsHere (signatures.term_at t, o) (polynomials.is_negative t, x)) IsHere (signatures.term_signature r.names t) _ (polynomials.term_poly r.names t) _
+        (denotes-term t names.0 (λ h. adjoints (or_left (has_quote_in_term t) (has_quote_in_terms rest) h))) (λ o x. values-ok IsHere _ _))
+        (λ part s' here. values-bind (λ parts ss. AreTerms laws q f rep parts ss (values rest)) AreAll (signatures.terms_parts r.names rest) _ (polynomials.summands r.names rest) _
+        (denotes-terms rest names.1 (λ h. adjoints (or_right (has_quote_in_term t) (has_quote_in_terms rest) h)))
+        (λ parts ss later. values-ok AreAll (part ∷ parts) (s' ∷ ss) (one_term part s' (term_value r t) parts ss (values rest) here later)))
 
     -- a term, with its sign
-    denotes-term : (t : Term) → are_names_of_term r.names t ≡ true → (has_quote_in_term t ≡ true → Adjoints) → (o : Option Sig) → signatures.term_signature r.names t ≡ Ok o → (x : Poly) → polynomials.term_poly r.names t ≡ Ok x
-        → Denotes s q f o (signed (polynomials.is_negative t, x)) (term_value r t)
+    denotes-term : (t : Term) → are_names_of_term r.names t ≡ true → (has_quote_in_term t ≡ true → Adjoints)
+        → OfValues (signatures.term_signature r.names t) (polynomials.term_poly r.names t) (λ o x. Denotes s q f o (signed (polynomials.is_negative t, x)) (term_value r t))
     denotes-term (Term' at negative literal shape factors) known adjoints o e x d =
-        let parts = bound (signatures.factors_parts r.names factors) signatures.product_signature o e in
+        let vs = factor_values r factors in
         let product = bound (polynomials.factor_polys r.names factors >>= polynomials.product_poly) (scaled_by literal) x d in
-        let polys = bound (polynomials.factor_polys r.names factors) polynomials.product_poly product.value product.is in
-        let each = denotes-factors factors known adjoints parts.value parts.is polys.value polys.is in
-        let whole = denotes-product laws q f rep parts.value polys.value (factor_values r factors) o product.value each parts.then polys.then in
-        denotes-signed o negative x (scaled_value s literal (composite s (factor_values r factors))) (denotes-scaled o literal product.value x (composite s (factor_values r factors)) whole product.then)
+        let whole = values-bind (λ parts ps. AreFactors laws q f rep parts ps vs) (λ o x. Denotes s q f o x (composite s vs)) (signatures.factors_parts r.names factors) signatures.product_signature (polynomials.factor_polys r.names factors) polynomials.product_poly
+        (denotes-factors factors known adjoints) (λ parts ps each o e x d. denotes-product laws q f rep parts ps vs o x each e d) o e product.value product.is in
+        denotes-signed o negative x (scaled_value s literal (composite s vs)) (denotes-scaled o literal product.value x (composite s vs) whole product.then)
 
-    denotes-factors : {m : _} (k : Row_of-Factor m) → are_names_of_factors r.names k ≡ true → (has_quote_in_factors k ≡ true → Adjoints) → (parts : List Part) → signatures.factors_parts r.names k ≡ Ok parts
-        → (ps : List Poly) → polynomials.factor_polys r.names k ≡ Ok ps → AreFactors laws q f rep parts ps (factor_values r k)
-    denotes-factors end_of-Factor known adjoints parts e ps d =
-        subst (λ i. AreFactors laws q f rep i ps []) (same_value [] parts e) (subst (λ i. AreFactors laws q f rep [] i []) (same_value [] ps d) tt)
-    denotes-factors (more_of-Factor at primary marks rest) known adjoints parts e ps d =
+    denotes-factors : {m : _} (k : Row_of-Factor m) → are_names_of_factors r.names k ≡ true → (has_quote_in_factors k ≡ true → Adjoints)
+        → OfValues (signatures.factors_parts r.names k) (polynomials.factor_polys r.names k) (λ parts ps. AreFactors laws q f rep parts ps (factor_values r k))
+    denotes-factors end_of-Factor known adjoints = values-ok (λ parts ps. AreFactors laws q f rep parts ps []) [] [] no_factor
+    denotes-factors (more_of-Factor at primary marks rest) known adjoints =
         let names = and_parts (are_names_of_primary r.names primary) (are_names_of_factors r.names rest) known in
         let here = has_quote_in_primary primary || list_any is_adjoint marks in
-        let part = bound _ (λ x. signatures.factors_parts r.names rest >>= λ xs. Ok (x ∷ xs)) parts e in
-        let later_parts = bound (signatures.factors_parts r.names rest) (λ xs. Ok (part.value ∷ xs)) parts part.then in
-        let marked_part = bound (signatures.primary_signature r.names primary >>= marked_signature at marks) _ part.value part.is in
-        let signature = bound (signatures.primary_signature r.names primary) (marked_signature at marks) marked_part.value marked_part.is in
-        let poly = bound _ (λ x. polynomials.factor_polys r.names rest >>= λ xs. Ok (x ∷ xs)) ps d in
-        let later_polys = bound (polynomials.factor_polys r.names rest) (λ xs. Ok (poly.value ∷ xs)) ps poly.then in
-        let inner = bound (polynomials.primary_poly r.names primary) (marked_poly q marks) poly.value poly.is in
-        let in_front = λ (h : here ≡ true). adjoints (left_of here (has_quote_in_factors rest) h) in
-        let bare = denotes-primary primary names.0 (λ h. in_front (left_of (has_quote_in_primary primary) (list_any is_adjoint marks) h)) signature.value signature.is inner.value inner.is in
+        let in_front = λ (h : here ≡ true). adjoints (or_left here (has_quote_in_factors rest) h) in
         let value = marks_value r marks (primary_value r primary) in
-        let marked : Denotes s q f marked_part.value poly.value value =
-        denotes-marked r laws q quiver rep at marks (λ h. in_front (right_of (has_quote_in_primary primary) (list_any is_adjoint marks) h)) signature.value marked_part.value inner.value poly.value (primary_value r primary) bare signature.then inner.then in
-        let placed : Denotes s q f part.value.1 poly.value value = subst (λ x. Denotes s q f x.1 poly.value value) (same_value _ part.value marked_part.then) marked in
-        let later = denotes-factors rest names.1 (λ h. adjoints (right_of here (has_quote_in_factors rest) h)) later_parts.value later_parts.is later_polys.value later_polys.is in
-        subst (λ i. AreFactors laws q f rep i ps (value ∷ factor_values r rest)) (same_value _ parts later_parts.then)
-        (subst (λ i. AreFactors laws q f rep (part.value ∷ later_parts.value) i (value ∷ factor_values r rest)) (same_value _ ps later_polys.then) (placed, later))
+        let AreAll = λ (parts : List Part) (ps : List Poly). AreFactors laws q f rep parts ps (value ∷ factor_values r rest) in
+        values-bind (λ part p. Denotes s q f part.1 p value) AreAll _ _ _ _
+        (λ part e p d.
+        let marked = bound (signatures.primary_signature r.names primary >>= marked_signature at marks) _ part e in
+        subst (λ x. Denotes s q f x.1 p value) (same_value _ part marked.then)
+        (values-bind (λ o x. Denotes s q f o x (primary_value r primary)) (λ o x. Denotes s q f o x value) (signatures.primary_signature r.names primary) (marked_signature at marks) (polynomials.primary_poly r.names primary) (marked_poly q marks)
+        (denotes-primary primary names.0 (λ h. in_front (or_left (has_quote_in_primary primary) (list_any is_adjoint marks) h)))
+        (λ o x. denotes-marked r laws q quiver rep at marks (λ h. in_front (or_right (has_quote_in_primary primary) (list_any is_adjoint marks) h)) o x (primary_value r primary)) marked.value marked.is p d))
+        (λ part p first. values-bind (λ parts ps. AreFactors laws q f rep parts ps (factor_values r rest)) AreAll (signatures.factors_parts r.names rest) _ (polynomials.factor_polys r.names rest) _
+        (denotes-factors rest names.1 (λ h. adjoints (or_right here (has_quote_in_factors rest) h)))
+        (λ parts ps later. values-ok AreAll (part ∷ parts) (p ∷ ps) (one_factor part p value parts ps (factor_values r rest) first later)))
 
-    denotes-primary : (k : Primary) → are_names_of_primary r.names k ≡ true → (has_quote_in_primary k ≡ true → Adjoints) → (o : Option Sig) → signatures.primary_signature r.names k ≡ Ok o
-        → (x : Poly) → polynomials.primary_poly r.names k ≡ Ok x → Denotes s q f o x (primary_value r k)
-    denotes-primary (Letter n) known adjoints o e x d =
-        let a = f.arrow (letter_of r.names n) in
-        subst (λ i. Denotes s q f i x (Some a)) (same_value _ o e) (subst (λ p. Denotes s q f (Some (letter_signature q (letter_of r.names n))) p (Some a)) (same_value _ x d) (denotes-map (named_in r.names n.text) n.text refl known))
-    denotes-primary (Identity n) known adjoints o e x d =
-        let a = s.identity (f.object (object_of r.names n)) in
-        subst (λ i. Denotes s q f i x (Some a)) (same_value _ o e) (subst (λ p. Denotes s q f (Some (from_to (object_of r.names n) (object_of r.names n))) p (Some a)) (same_value _ x d) (denotes-identity (named_in r.names n.text) n.text refl known))
-    denotes-primary (Bracket k) known adjoints o e x d = denotes-sum k known adjoints o e x d
+    denotes-primary : (k : Primary) → are_names_of_primary r.names k ≡ true → (has_quote_in_primary k ≡ true → Adjoints)
+        → OfValues (signatures.primary_signature r.names k) (polynomials.primary_poly r.names k) (λ o x. Denotes s q f o x (primary_value r k))
+    denotes-primary (Letter n) known adjoints =
+        values-ok (λ o x. Denotes s q f o x (Some (f.arrow (letter_of r.names n)))) (Some (letter_signature q (letter_of r.names n))) _ (denotes-map (named_in r.names n.text) n.text refl known)
+    denotes-primary (Identity n) known adjoints =
+        values-ok (λ o x. Denotes s q f o x (Some (s.identity (f.object (object_of r.names n))))) (Some (from_to (object_of r.names n) (object_of r.names n))) _ (denotes-identity (named_in r.names n.text) n.text refl known)
+    denotes-primary (Bracket k) known adjoints = denotes-sum k known adjoints

@@ -1,5 +1,6 @@
 -- The value of a factor with quotes and carets.
-use Rattle.std.proofs.Common.{◌≡◌, ℕ, zero, suc, ◌<◌, ℤ, pos, negsuc, Bool, true, false, cond, nat_eq, List, [], ◌∷◌, replicate, Option, Some, None, Ok, Err, sym, refl, ap, subst, ◌∙◌, eqb-true}
+use Rattle.std.proofs.Common.{◌≡◌, ℕ, zero, suc, ◌<◌, ℤ, pos, negsuc, true, cond, List, [], ◌∷◌, replicate, Option, Some, None, Ok, sym, refl, ap, subst, ◌∙◌}
+use Rattle.std.proofs.lemmas.Bool.{or_left, or_right}
 use Rattle.std.specs.Option.{option_map}
 use Rattle.std.specs.List.{list_any}
 use Rattle.definitions.specs.Category.{Structure, IsArrow, PreadditiveLaws}
@@ -17,13 +18,11 @@ use Rattle.statement_tokens.specs.declared.place.Spot.{Spot}
 use Rattle.statement_syntax.specs.declared.tree.Mark.{Mark}
 use Rattle.statement_syntax.specs.declared.tree.Mark.TheVariants.{Adjoint, Power}
 use Rattle.abbreviations.specs.Occurrences.{is_adjoint}
-use Rattle.expressions.specs.declared.fault.SignatureFault.TheVariants.{NotComposable}
 use Rattle.expressions.specs.Signatures.{turned, is_repeated, repeated, mark_signature, marked_signature}
 use Rattle.expressions.specs.Polynomials.{product_from, product_poly, power_poly, mark_poly, marked_poly}
-use Rattle.expressions.proofs.Sequences.{bound, same_value}
-use Rattle.expressions.proofs.TypedParts.{no_fault}
+use Rattle.expressions.proofs.Sequences.{bound, same_value, OfValues, values-ok, values-bind}
+use Rattle.expressions.proofs.TypedParts.{no_fault, meets_passed}
 use Rattle.expressions.proofs.Words.{words-collection, words-adjoint}
-use Rattle.expressions.proofs.Letters.{left_of, right_of}
 use Rattle.statement_meaning.specs.Values.{Reading, iterated, power, marked, marks_value}
 use Rattle.statement_meaning.proofs.Polynomials.{ArePaths, value_in, value-same}
 use Rattle.statement_meaning.proofs.Denoted.{value_of, DenotesAt, Denotes}
@@ -109,22 +108,19 @@ module _ {Object Arrow : Type 0} (r : Reading Object Arrow) (laws : PreadditiveL
   denotes-power first caret (pos (suc zero)) o o' p x a d m e = denotes-unchanged o o' p x a (power s (pos (suc zero))) (λ y. refl) d (same_value o o' m) (same_value p x e)
   denotes-power first caret (negsuc n) o o' p x a d m e = denotes-unchanged o o' p x a (power s (negsuc n)) (λ y. refl) d (same_value o o' m) (same_value p x e)
   denotes-power first caret (pos (suc (suc n))) None o' p x a d m e = absurd (no_fault o' _ m)
-  denotes-power first caret (pos (suc (suc n))) (Some i) o' p x a d m e = go (nat_eq i.source.0 i.target.0) refl m
-    where
-      go : (b : Bool) → nat_eq i.source.0 i.target.0 ≡ b → cond b (Ok (Some i)) (Err (NotComposable caret i i)) ≡ Ok o' → Denotes s q f o' x (option_map (power s (pos (suc (suc n)))) a)
-      go true meet k = subst (λ t. Denotes s q f t x (option_map (power s (pos (suc (suc n)))) a)) (same_value (Some i) o' k) (repeated-loop n i (eqb-true i.source.0 i.target.0 meet) p x a d e)
-      go false meet k = absurd (no_fault o' _ k)
+  denotes-power first caret (pos (suc (suc n))) (Some i) o' p x a d m e =
+      let both = meets_passed i.source.0 i.target.0 _ _ _ m in
+      subst (λ t. Denotes s q f t x (option_map (power s (pos (suc (suc n)))) a)) both.1 (repeated-loop n i both.0 p x a d e)
 
-  denotes-mark : (first : Spot) (m : Mark) → (is_adjoint m ≡ true → AdjointsAre s r.involution q f) → (o o' : Option Sig) (p x : Poly) (a : Option Arrow) → Denotes s q f o p a
-      → mark_signature first m o ≡ Ok o' → mark_poly q m p ≡ Ok x → Denotes s q f o' x (option_map (marked r m) a)
-  denotes-mark first Adjoint adjoints o o' p x a d m e = subst (λ t. Denotes s q f t x (option_map r.involution a)) (same_value (option_map turned o) o' m) (denotes-turned (adjoints refl) o p x a d e)
-  denotes-mark first (Power caret exponent) adjoints o o' p x a d m e = denotes-power first caret exponent.value o o' p x a d m e
+  denotes-mark : (first : Spot) (m : Mark) → (is_adjoint m ≡ true → AdjointsAre s r.involution q f) → (o : Option Sig) (p : Poly) (a : Option Arrow) → Denotes s q f o p a
+      → OfValues (mark_signature first m o) (mark_poly q m p) (λ o' x. Denotes s q f o' x (option_map (marked r m) a))
+  denotes-mark first Adjoint adjoints o p a d o' m x e = subst (λ t. Denotes s q f t x (option_map r.involution a)) (same_value (option_map turned o) o' m) (denotes-turned (adjoints refl) o p x a d e)
+  denotes-mark first (Power caret exponent) adjoints o p a d o' m x e = denotes-power first caret exponent.value o o' p x a d m e
 
-  pub denotes-marked : (first : Spot) (marks : List Mark) → (list_any is_adjoint marks ≡ true → AdjointsAre s r.involution q f) → (o o' : Option Sig) (p x : Poly) (a : Option Arrow) → Denotes s q f o p a
-      → marked_signature first marks o ≡ Ok o' → marked_poly q marks p ≡ Ok x → Denotes s q f o' x (marks_value r marks a)
-  denotes-marked first [] adjoints o o' p x a d m e = subst (λ t. Denotes s q f t x a) (same_value o o' m) (subst (λ t. Denotes s q f o t a) (same_value p x e) d)
-  denotes-marked first (k ∷ marks) adjoints o o' p x a d m e =
-      let signature = bound (mark_signature first k o) (marked_signature first marks) o' m in
-      let poly = bound (mark_poly q k p) (marked_poly q marks) x e in
-      denotes-marked first marks (λ h. adjoints (right_of (is_adjoint k) (list_any is_adjoint marks) h)) signature.value o' poly.value x (option_map (marked r k) a)
-      (denotes-mark first k (λ h. adjoints (left_of (is_adjoint k) (list_any is_adjoint marks) h)) o signature.value p poly.value a d signature.is poly.is) signature.then poly.then
+  pub denotes-marked : (first : Spot) (marks : List Mark) → (list_any is_adjoint marks ≡ true → AdjointsAre s r.involution q f) → (o : Option Sig) (p : Poly) (a : Option Arrow) → Denotes s q f o p a
+      → OfValues (marked_signature first marks o) (marked_poly q marks p) (λ o' x. Denotes s q f o' x (marks_value r marks a))
+  denotes-marked first [] adjoints o p a d = values-ok (λ o' x. Denotes s q f o' x a) o p d
+  denotes-marked first (k ∷ marks) adjoints o p a d =
+      values-bind (λ o' x. Denotes s q f o' x (option_map (marked r k) a)) (λ o' x. Denotes s q f o' x (marks_value r (k ∷ marks) a))
+      (mark_signature first k o) (marked_signature first marks) (mark_poly q k p) (marked_poly q marks) (denotes-mark first k (λ h. adjoints (or_left _ _ h)) o p a d)
+      (λ o' x. denotes-marked first marks (λ h. adjoints (or_right _ _ h)) o' x (option_map (marked r k) a))

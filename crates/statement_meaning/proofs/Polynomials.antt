@@ -9,18 +9,13 @@ use Rattle.definitions.specs.Representation.{Representation, Represents, multipl
 use Rattle.definitions.proofs.Group.{IsGroup}
 use Rattle.definitions.proofs.Multiples.{times, times_in, times-*ℤ, times-add, times-none, additive-none, additive-times}
 use Rattle.definitions.proofs.Linear.{linear_in, linear-append, linear-scale, linear_same}
-use Rattle.definitions.proofs.Paths.{leads-append}
 use Rattle.definitions.proofs.Values.{multiple-times, word_at, word_at_is_arrow, word_value_is_arrow, group_at, value_at-linear}
 use Rattle.definitions.proofs.Rows.{path_value-append}
+use Rattle.expressions.proofs.TypedParts.{path-append}
 
 -- all words are paths of the signature (u, v)
 abbrev pub ArePaths : Quiver → ℕ → ℕ → Poly → Type 0
 ArePaths q u v p = All (λ t. is_path q u v t.1 ≡ true) p
-
-pub path-append : (q : Quiver) (u k v : ℕ) (l y : List ℕ) → is_path q k v l ≡ true → is_path q u k y ≡ true → is_path q u v (l ++ y) ≡ true
-path-append q u k v [] y h m = absurd (cc)
-path-append q u k v (a ∷ l) [] h m = absurd (cc)
-path-append q u k v (a ∷ l) (b ∷ y) h m = leads-append q u k v (a ∷ l) (b ∷ y) h m
 
 module _ {Object Arrow : Type 0} {s : Structure Object Arrow} (laws : PreadditiveLaws s) (q : Quiver) (f : Representation Object Arrow) (rep : Represents s q f) where
   abbrev pub zero_at : ℕ → ℕ → Arrow

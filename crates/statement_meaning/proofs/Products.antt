@@ -1,5 +1,5 @@
 -- The value of a product is the composite of the values of its factors.
-use Rattle.std.proofs.Common.{◌≡◌, ℕ, Bool, true, false, cond, nat_eq, List, [], ◌∷◌, Option, Some, None, Ok, Err, sym, refl, ap, ap₂, subst, ◌∙◌, eqb-true}
+use Rattle.std.proofs.Common.{◌≡◌, ℕ, true, List, [], ◌∷◌, Option, Some, None, Ok, sym, refl, ap, ap₂, subst, ◌∙◌}
 use Rattle.definitions.specs.Category.{Structure, IsArrow, PreadditiveLaws}
 use Rattle.definitions.specs.Poly.{Poly}
 use Rattle.definitions.specs.Quiver.{Quiver, is_path}
@@ -7,31 +7,22 @@ use Rattle.definitions.specs.Representation.{Representation, Represents}
 use Rattle.nc_polynomial.specs.Product.{product_result}
 use Rattle.nc_polynomial.proofs.Products.{product_value}
 use Rattle.quiver.specs.declared.named.Sig.{Sig}
-use Rattle.expressions.specs.declared.fault.SignatureFault.{SignatureFault}
-use Rattle.expressions.specs.declared.fault.SignatureFault.TheVariants.{NotComposable}
 use Rattle.expressions.specs.Signatures as signatures
 use Rattle.expressions.specs.Signatures.{Part, from_to}
 use Rattle.expressions.specs.Polynomials as polynomials
 use Rattle.expressions.proofs.Sequences.{bound, same_value}
-use Rattle.expressions.proofs.TypedParts.{no_fault}
+use Rattle.expressions.proofs.TypedParts.{path-append, no_fault, joins, product_passed}
 use Rattle.expressions.proofs.Words.{words-product}
 use Rattle.statement_meaning.specs.Values.{after, composite}
-use Rattle.statement_meaning.proofs.Polynomials.{ArePaths, path-append, value_in, value-same, value-product}
+use Rattle.statement_meaning.proofs.Polynomials.{ArePaths, value_in, value-same, value-product}
 use Rattle.statement_meaning.proofs.Denoted.{value_of, DenotesAt, Denotes}
-
-product_from-fault : (x : SignatureFault) (parts : List Part) → signatures.product_from (Err x) parts ≡ Err x
-product_from-fault x [] = refl
-product_from-fault x (p ∷ parts) = product_from-fault x parts
 
 module _ {Object Arrow : Type 0} {s : Structure Object Arrow} (laws : PreadditiveLaws s) (q : Quiver) (f : Representation Object Arrow) (rep : Represents s q f) where
   -- each factor is denoted by its polynomial
-  abbrev pub AreFactors : List Part → List Poly → List (Option Arrow) → Type 0
-  AreFactors [] [] [] = Unit {0}
-  AreFactors [] [] (v ∷ vs) = ⊥
-  AreFactors [] (p ∷ ps) vs = ⊥
-  AreFactors (part ∷ parts) [] vs = ⊥
-  AreFactors (part ∷ parts) (p ∷ ps) [] = ⊥
-  AreFactors (part ∷ parts) (p ∷ ps) (v ∷ vs) = Denotes s q f part.1 p v × AreFactors parts ps vs
+  pub data AreFactors : List Part → List Poly → List (Option Arrow) → Type 0 where
+    no_factor : AreFactors [] [] []
+    one_factor : (part : Part) (p : Poly) (v : Option Arrow) (parts : List Part) (ps : List Poly) (vs : List (Option Arrow)) → Denotes s q f part.1 p v → AreFactors parts ps vs
+        → AreFactors (part ∷ parts) (p ∷ ps) (v ∷ vs)
 
   -- two factors that fit
   pub denotes-after : (left right : Sig) (p r product : Poly) (a b : Option Arrow) → left.source.0 ≡ right.target.0 → DenotesAt s q f left p a → DenotesAt s q f right r b
@@ -66,35 +57,22 @@ module _ {Object Arrow : Type 0} {s : Structure Object Arrow} (laws : Preadditiv
   fitting : (left : Sig) (part : Part) (parts : List Part) (p : Poly) (v : Option Arrow) (o : Option Sig) {X : Type 0} → Denotes s q f part.1 p v
       → signatures.product_from (signatures.product_step (Ok (Some left)) part.0 part.1) parts ≡ Ok o
       → ((right : Sig) → left.source.0 ≡ right.target.0 → DenotesAt s q f right p v → signatures.product_from (Ok (Some (from_to right.source.0 left.target.0))) parts ≡ Ok o → X) → X
-  fitting left part parts p v o {X} d m then = first part.1 d m then
-    where
-      second : (right : Sig) → DenotesAt s q f right p v → (b : Bool) → nat_eq left.source.0 right.target.0 ≡ b
-          → signatures.product_from (cond b (Ok (Some (from_to right.source.0 left.target.0))) (Err (NotComposable part.0 left right))) parts ≡ Ok o
-          → ((right : Sig) → left.source.0 ≡ right.target.0 → DenotesAt s q f right p v → signatures.product_from (Ok (Some (from_to right.source.0 left.target.0))) parts ≡ Ok o → X) → X
-      second right k true meet r then = then right (eqb-true left.source.0 right.target.0 meet) k r
-      second right k false meet r then = absurd (no_fault o _ (sym (product_from-fault _ parts) ∙ r))
+  fitting left part parts p v o d m then =
+      let next = joins left part parts o m in
+      then next.right next.meet (subst (λ x. Denotes s q f x p v) next.is d) next.rest
 
-      first : (x : Option Sig) → Denotes s q f x p v → signatures.product_from (signatures.product_step (Ok (Some left)) part.0 x) parts ≡ Ok o
-          → ((right : Sig) → left.source.0 ≡ right.target.0 → DenotesAt s q f right p v → signatures.product_from (Ok (Some (from_to right.source.0 left.target.0))) parts ≡ Ok o → X) → X
-      first None k r then = absurd (no_fault o _ (sym (product_from-fault _ parts) ∙ r))
-      first (Some right) k r then = second right k (nat_eq left.source.0 right.target.0) refl r then
-
-  pub follows : (left : Sig) (part : Part) (parts : List Part) (p : Poly) (ps : List Poly) (v : Option Arrow) (vs : List (Option Arrow)) (o : Option Sig)
-      → AreFactors (part ∷ parts) (p ∷ ps) (v ∷ vs) → signatures.product_from (Ok (Some left)) (part ∷ parts) ≡ Ok o → Follows left o (composite s (v ∷ vs))
-  follows left part [] p [] v [] o h m =
-      fitting left part [] p v o h.0 m (λ right meet d r. record {
+  pub follows : (left : Sig) (part : Part) (p : Poly) (v : Option Arrow) (parts : List Part) (ps : List Poly) (vs : List (Option Arrow)) (o : Option Sig)
+      → Denotes s q f part.1 p v → AreFactors parts ps vs → signatures.product_from (Ok (Some left)) (part ∷ parts) ≡ Ok o → Follows left o (composite s (v ∷ vs))
+  follows left part p v _ _ _ o h no_factor m =
+      fitting left part [] p v o h m (λ right meet d r. record {
         source = right.source.0;
         arrow = value_of s q f right p;
         is = d.same;
         ends = subst (λ x. IsArrow s (f.object right.source.0) (f.object x) (value_of s q f right p)) (sym meet) (value_is_arrow right p v d);
       })
-  follows left part [] p [] v (w ∷ ws) o h m = absurd h.1
-  follows left part [] p (y ∷ ys) v vs o h m = absurd h.1
-  follows left part (x ∷ xs) p [] v vs o h m = absurd h.1
-  follows left part (x ∷ xs) p (y ∷ ys) v [] o h m = absurd h.1
-  follows left part (x ∷ xs) p (y ∷ ys) v (w ∷ ws) o h m =
-      fitting left part (x ∷ xs) p v o h.0 m (λ right meet d r.
-      let next = follows (from_to right.source.0 left.target.0) x xs y ys w ws o h.1 r in
+  follows left part p v _ _ _ o h (one_factor x y w xs ys ws here k) m =
+      fitting left part (x ∷ xs) p v o h m (λ right meet d r.
+      let next = follows (from_to right.source.0 left.target.0) x y w xs ys ws o here k r in
       record {
         source = next.source;
         arrow = s.compose (value_of s q f right p) next.arrow;
@@ -112,28 +90,20 @@ module _ {Object Arrow : Type 0} {s : Structure Object Arrow} (laws : Preadditiv
   denotes-product_from : (left : Sig) (product : Poly) (a : Option Arrow) (parts : List Part) (ps : List Poly) (vs : List (Option Arrow)) (o : Option Sig) (r : Poly)
       → DenotesAt s q f left product a → AreFactors parts ps vs → signatures.product_from (Ok (Some left)) parts ≡ Ok o → polynomials.product_from product ps ≡ Ok r
       → Denotes s q f o r (after_all a vs)
-  denotes-product_from left product a [] [] [] o r d h m e =
+  denotes-product_from left product a _ _ _ o r d no_factor m e =
       subst (λ x. Denotes s q f x r a) (same_value (Some left) o m) (subst (λ x. DenotesAt s q f left x a) (same_value product r e) d)
-  denotes-product_from left product a [] [] (v ∷ vs) o r d h m e = absurd h
-  denotes-product_from left product a [] (p ∷ ps) vs o r d h m e = absurd h
-  denotes-product_from left product a (part ∷ parts) [] vs o r d h m e = absurd h
-  denotes-product_from left product a (part ∷ parts) (p ∷ ps) [] o r d h m e = absurd h
-  denotes-product_from left product a (part ∷ parts) (p ∷ ps) (v ∷ vs) o r d h m e =
+  denotes-product_from left product a _ _ _ o r d (one_factor part p v parts ps vs here h) m e =
       let step = bound (product_result product p) (λ next. polynomials.product_from next ps) r e in
-      fitting left part parts p v o h.0 m (λ right meet k y.
-      subst (Denotes s q f o r) (regrouped right meet k parts ps vs h.1 y)
-      (denotes-product_from (from_to right.source.0 left.target.0) step.value (after s a v) parts ps vs o r (denotes-after left right product p step.value a v meet d k step.is) h.1 y step.then))
+      fitting left part parts p v o here m (λ right meet k y.
+      subst (Denotes s q f o r) (regrouped right meet k parts ps vs h y)
+      (denotes-product_from (from_to right.source.0 left.target.0) step.value (after s a v) parts ps vs o r (denotes-after left right product p step.value a v meet d k step.is) h y step.then))
     where
       -- a after v, after the others
       regrouped : (right : Sig) → left.source.0 ≡ right.target.0 → DenotesAt s q f right p v → (parts : List Part) (ps : List Poly) (vs : List (Option Arrow)) → AreFactors parts ps vs
           → signatures.product_from (Ok (Some (from_to right.source.0 left.target.0))) parts ≡ Ok o → after_all (after s a v) vs ≡ after s a (composite s (v ∷ vs))
-      regrouped right meet k [] [] [] n y = refl
-      regrouped right meet k [] [] (w ∷ ws) n y = absurd n
-      regrouped right meet k [] (x ∷ xs) ws n y = absurd n
-      regrouped right meet k (x ∷ xs) [] ws n y = absurd n
-      regrouped right meet k (x ∷ xs) (z ∷ zs) [] n y = absurd n
-      regrouped right meet k (x ∷ xs) (z ∷ zs) (w ∷ ws) n y =
-          let next = follows (from_to right.source.0 left.target.0) x xs z zs w ws o n y in
+      regrouped right meet k _ _ _ no_factor y = refl
+      regrouped right meet k _ _ _ (one_factor x z w xs zs ws first n) y =
+          let next = follows (from_to right.source.0 left.target.0) x z w xs zs ws o first n y in
           let one = value_of s q f left product in
           let two = value_of s q f right p in
           let one_in = value_in laws q f rep left.source.0 left.target.0 d.source_below d.target_below product in
@@ -147,18 +117,10 @@ module _ {Object Arrow : Type 0} {s : Structure Object Arrow} (laws : Preadditiv
   -- a product whose factors are denoted is denoted
   pub denotes-product : (parts : List Part) (ps : List Poly) (vs : List (Option Arrow)) (o : Option Sig) (r : Poly) → AreFactors parts ps vs
       → signatures.product_signature parts ≡ Ok o → polynomials.product_poly ps ≡ Ok r → Denotes s q f o r (composite s vs)
-  denotes-product [] [] [] o r h m e = subst (λ x. Denotes s q f x r None) (same_value None o m) (sym (same_value [] r e), refl)
-  denotes-product [] [] (v ∷ vs) o r h m e = absurd h
-  denotes-product [] (p ∷ ps) vs o r h m e = absurd h
-  denotes-product (part ∷ parts) [] vs o r h m e = absurd h
-  denotes-product (part ∷ parts) (p ∷ ps) [] o r h m e = absurd h
-  denotes-product (part ∷ []) (p ∷ []) (v ∷ []) o r h m e = subst (λ x. Denotes s q f o x v) (same_value p r e) (subst (λ x. Denotes s q f x p v) (same_value part.1 o m) h.0)
-  denotes-product (part ∷ []) (p ∷ []) (v ∷ w ∷ vs) o r h m e = absurd h.1
-  denotes-product (part ∷ []) (p ∷ x ∷ ps) (v ∷ vs) o r h m e = absurd h.1
-  denotes-product (part ∷ next ∷ parts) (p ∷ []) (v ∷ vs) o r h m e = absurd h.1
-  denotes-product (part ∷ next ∷ parts) (p ∷ x ∷ ps) (v ∷ []) o r h m e = absurd h.1
-  denotes-product (part ∷ next ∷ parts) (p ∷ x ∷ ps) (v ∷ w ∷ vs) o r h m e = go part.1 m h.0
+  denotes-product _ _ _ o r no_factor m e = subst (λ x. Denotes s q f x r None) (same_value None o m) (sym (same_value [] r e), refl)
+  denotes-product _ _ _ o r (one_factor part p v _ _ _ h no_factor) m e = subst (λ x. Denotes s q f o x v) (same_value p r e) (subst (λ x. Denotes s q f x p v) (same_value part.1 o m) h)
+  denotes-product _ _ _ o r (one_factor part p v _ _ _ h (one_factor next x w parts ps vs here k)) m e = go part.1 m h
     where
       go : (left : Option Sig) → signatures.product_from (signatures.product_step (Ok None) part.0 left) (next ∷ parts) ≡ Ok o → Denotes s q f left p v → Denotes s q f o r (composite s (v ∷ w ∷ vs))
-      go None y k = absurd (no_fault o _ (sym (product_from-fault _ (next ∷ parts)) ∙ y))
-      go (Some left) y k = denotes-product_from left p v (next ∷ parts) (x ∷ ps) (w ∷ vs) o r k h.1 y e
+      go None y d = absurd (no_fault _ _ (product_passed _ (next ∷ parts) o y).1)
+      go (Some left) y d = denotes-product_from left p v (next ∷ parts) (x ∷ ps) (w ∷ vs) o r d (one_factor next x w parts ps vs here k) y e

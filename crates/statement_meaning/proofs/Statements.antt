@@ -1,7 +1,6 @@
 -- The assumptions and the claims of a statement are zero exactly where its equations hold.
-use Rattle.std.proofs.Common.{◌≡◌, true, ◌↔◌, List, [], ◌∷◌, Option, Some, None, Result, Ok, Err, refl, sym, ap, subst, ◌∙◌, true≢false}
+use Rattle.std.proofs.Common.{◌≡◌, true, ◌↔◌, List, [], ◌∷◌, None, Result, Ok, Err, refl, sym, ap, subst, ◌∙◌, true≢false}
 use Rattle.std.specs.List.{All, AllByRecursion, AllZip}
-use Rattle.std.specs.Option.{option_or, option_map}
 use Rattle.definitions.specs.Category.{Structure, PreadditiveLaws}
 use Rattle.definitions.specs.Representation.{Representation, Represents}
 use Rattle.definitions.specs.Soundness.{HasValueZero}
@@ -15,18 +14,16 @@ use Rattle.abbreviations.specs.Written.{equations_of, assumptions_of, claims_in,
 use Rattle.expressions.specs.declared.fault.SignatureFault.{SignatureFault}
 use Rattle.adjoint_rules.specs.declared.problem.Problem.{Problem}
 use Rattle.adjoint_rules.specs.Problem.{polynomials}
-use Rattle.statement_names.specs.declared.fault.NameFault.{NameFault}
-use Rattle.statement_names.specs.Faults.{name_fault_of}
-use Rattle.statement_names.specs.Numbered.{declarations_of}
 use Rattle.statement_names.specs.Starred.{is_starred}
 use Rattle.statement_names.specs.Ready.{HasNames, IsReady}
 use Rattle.statement_names.proofs.FileReady.{file_ready}
 use Rattle.signature_typing.specs.First.{first_among}
-use Rattle.signature_typing.specs.Fault.{told_signature, told_polynomial, told_name}
-use Rattle.signature_typing.specs.Typing.{signature_in, polynomial_in, polynomials_of, wrong_signature, wrong_polynomial, wrong_claims, equation_fault, fault_of, IsProblemOf}
+use Rattle.signature_typing.specs.Fault.{told_signature, told_polynomial}
+use Rattle.signature_typing.specs.Typing.{signature_in, polynomial_in, polynomials_of, wrong_signature, wrong_polynomial, IsProblemOf}
+use Rattle.signature_typing.proofs.EachStatement.{names_clean, none_wrong}
 use Rattle.signature_typing.proofs.Each.{each_with_both}
 use Rattle.signature_typing.proofs.InPlay.{IsCounted, assumptions_counted, claims_counted}
-use Rattle.signature_typing.proofs.Values.{IsValue, AreValues, all_values, both_none, values, zipped}
+use Rattle.signature_typing.proofs.Values.{IsValue, AreValues, all_values, values, zipped}
 use Rattle.statement_meaning.specs.Values.{Holds}
 use Rattle.statement_meaning.specs.Laws.{reading, AreRead, IsRead, StatementsAreRead, StarredStatementsAreRead}
 use Rattle.statement_meaning.proofs.Adjoints.{value-adjoint}
@@ -86,28 +83,12 @@ module _ {Object Arrow : Type 0} {s : Structure Object Arrow} (laws : Preadditiv
         all (claims_of statements) problem.parts.claims ready.claims (claims_counted ds statements) signatures.1 polys.1 claimed,
       )
 
--- what is known of a file without a fault
-module _ (statements : List Statement) (fine : fault_of statements ≡ None) where
-  clean : name_fault_of statements ≡ None
-  clean = go (name_fault_of statements) fine
-    where
-      go : (o : Option NameFault) → option_or (option_map told_name o) (equation_fault (declarations_of statements) statements) ≡ None → o ≡ None
-      go None h = refl
-      go (Some x) h = absurd cc
-
-  pub none_wrong : (first_among (wrong_signature (declarations_of statements)) statements ≡ None) × (first_among (wrong_polynomial (declarations_of statements)) statements ≡ None)
-  none_wrong =
-      let ds = declarations_of statements in
-      let after_names = both_none (option_map told_name (name_fault_of statements)) (equation_fault ds statements) fine in
-      let later = both_none (first_among (wrong_signature ds) statements) (option_or (first_among (wrong_polynomial ds) statements) (wrong_claims (claims_of statements))) after_names.1 in
-      (later.0, (both_none (first_among (wrong_polynomial ds) statements) (wrong_claims (claims_of statements)) later.1).0)
-
 module _ {Object Arrow : Type 0} {s : Structure Object Arrow} (laws : PreadditiveLaws s) (involution : Arrow → Arrow) (statements : List Statement) (problem : Problem)
     (f : Representation Object Arrow) (stated : IsProblemOf statements problem) (rep : Represents s (quiver_of problem.parts.quiver) f) where
   pub problem_is_read : (is_starred statements ≡ true → AdjointsAre s involution (quiver_of problem.parts.quiver) f) → IsRead s involution f statements problem
   problem_is_read adjoints =
       let parts = stated.parts in
-      let ready : IsReady problem.parts.quiver statements = subst (λ ds. IsReady ds statements) (sym parts.quiver) (file_ready statements (clean statements stated.no_fault)) in
+      let ready : IsReady problem.parts.quiver statements = subst (λ ds. IsReady ds statements) (sym parts.quiver) (file_ready statements (names_clean statements stated.no_fault)) in
       let none = none_wrong statements stated.no_fault in
       let both =
       file_is_read laws involution problem.parts.quiver statements ready f rep adjoints problem refl parts.assumptions parts.claims

@@ -1,5 +1,5 @@
 -- The value of a sum is the sum of the values of its terms.
-use Rattle.std.proofs.Common.{◌≡◌, ◌<◌, Bool, true, false, cond, List, [], ◌∷◌, ◌++◌, Option, Some, None, Ok, Err, ◌⊎◌, inl, inr, sym, refl, ap, subst, ◌∙◌}
+use Rattle.std.proofs.Common.{◌≡◌, ◌<◌, true, false, List, [], ◌∷◌, ◌++◌, Option, Some, None, Ok, ◌⊎◌, inl, inr, sym, refl, ap, subst, ◌∙◌}
 use Rattle.std.proofs.lemmas.List.{append-nil, append_assoc}
 use Rattle.std.proofs.lemmas.List.Elements.{All-nil, All-append}
 use Rattle.definitions.specs.Category.{Structure, PreadditiveLaws}
@@ -10,14 +10,12 @@ use Rattle.definitions.proofs.Coefficients.{Same_refl, Same_trans, SamePolynomia
 use Rattle.nc_polynomial.specs.Terms.{negated}
 use Rattle.nc_polynomial.proofs.Units.{sum_value}
 use Rattle.quiver.specs.declared.named.Sig.{Sig}
-use Rattle.expressions.specs.declared.fault.SignatureFault.{SignatureFault}
-use Rattle.expressions.specs.declared.fault.SignatureFault.TheVariants.{SumMismatch}
 use Rattle.expressions.specs.Signatures as signatures
-use Rattle.expressions.specs.Signatures.{Part, same_ends}
+use Rattle.expressions.specs.Signatures.{Part}
 use Rattle.expressions.specs.Polynomials as polynomials
 use Rattle.expressions.specs.Polynomials.{Summand, signed}
 use Rattle.expressions.proofs.Sequences.{bound, same_value}
-use Rattle.expressions.proofs.TypedParts.{no_fault, same_from_ends}
+use Rattle.expressions.proofs.TypedParts.{same_passed, sum_passed}
 use Rattle.statement_meaning.specs.Values.{plus}
 use Rattle.statement_meaning.proofs.Polynomials.{ArePaths, value-sum}
 use Rattle.statement_meaning.proofs.Denoted.{value_of, DenotesAt, Denotes}
@@ -48,19 +46,12 @@ pub total_is : (ss : List Summand) (r : Poly) → polynomials.total ss ≡ Ok r 
 total_is [] r e = subst (λ x. SamePolynomial r x) (sym (same_value [] r e)) (Same_refl r)
 total_is (t ∷ ss) r e = sum_is (signed t) ss r e
 
-sum_from-fault : (x : SignatureFault) (parts : List Part) → signatures.sum_from (Err x) parts ≡ Err x
-sum_from-fault x [] = refl
-sum_from-fault x (p ∷ parts) = sum_from-fault x parts
-
 module _ {Object Arrow : Type 0} {s : Structure Object Arrow} (laws : PreadditiveLaws s) (q : Quiver) (f : Representation Object Arrow) (rep : Represents s q f) where
   -- each term is denoted by its signed polynomial
-  abbrev pub AreTerms : List Part → List Summand → List (Option Arrow) → Type 0
-  AreTerms [] [] [] = Unit {0}
-  AreTerms [] [] (v ∷ vs) = ⊥
-  AreTerms [] (t ∷ ss) vs = ⊥
-  AreTerms (part ∷ parts) [] vs = ⊥
-  AreTerms (part ∷ parts) (t ∷ ss) [] = ⊥
-  AreTerms (part ∷ parts) (t ∷ ss) (v ∷ vs) = Denotes s q f part.1 (signed t) v × AreTerms parts ss vs
+  pub data AreTerms : List Part → List Summand → List (Option Arrow) → Type 0 where
+    no_term : AreTerms [] [] []
+    one_term : (part : Part) (t : Summand) (v : Option Arrow) (parts : List Part) (ss : List Summand) (vs : List (Option Arrow)) → Denotes s q f part.1 (signed t) v → AreTerms parts ss vs
+        → AreTerms (part ∷ parts) (t ∷ ss) (v ∷ vs)
 
   -- what may be a sum of empty terms
   pub record Adds (e : Sig) (p : Poly) (a : Option Arrow) : Type 0 where
@@ -87,12 +78,8 @@ module _ {Object Arrow : Type 0} {s : Structure Object Arrow} (laws : Preadditiv
     -- after a term of this signature
     rest : (parts : List Part) (ss : List Summand) (vs : List (Option Arrow)) (o : Option Sig) → AreTerms parts ss vs
         → signatures.sum_from (Ok (Some e)) parts ≡ Ok o → (o ≡ Some e) × Adds e (summed ss) (total_value s vs)
-    rest [] [] [] o h m = (sym (same_value (Some e) o m), record { paths = All-nil _; same = inl (refl, refl) })
-    rest [] [] (v ∷ vs) o h m = absurd h
-    rest [] (t ∷ ss) vs o h m = absurd h
-    rest (part ∷ parts) [] vs o h m = absurd h
-    rest (part ∷ parts) (t ∷ ss) [] o h m = absurd h
-    rest (part ∷ parts) (t ∷ ss) (v ∷ vs) o h m = go part.1 h.0 m (rest parts ss vs o h.1)
+    rest _ _ _ o no_term m = (sym (same_value (Some e) o m), record { paths = All-nil _; same = inl (refl, refl) })
+    rest _ _ _ o (one_term part t v parts ss vs here h) m = go part.1 here m (rest parts ss vs o h)
       where
         go : (x : Option Sig) → Denotes s q f x (signed t) v → signatures.sum_from (signatures.sum_step (Ok (Some e)) part.0 x) parts ≡ Ok o
             → (signatures.sum_from (Ok (Some e)) parts ≡ Ok o → (o ≡ Some e) × Adds e (summed ss) (total_value s vs))
@@ -100,30 +87,23 @@ module _ {Object Arrow : Type 0} {s : Structure Object Arrow} (laws : Preadditiv
         go None d k more =
             let later = more k in
             (later.0, subst (λ p. Adds e (p ++ summed ss) (plus s v (total_value s vs))) (sym d.0) (subst (λ a. Adds e (summed ss) (plus s a (total_value s vs))) (sym d.1) later.1))
-        go (Some x) d k more = fits (same_ends e x) refl k
-          where
-            fits : (b : Bool) → same_ends e x ≡ b → signatures.sum_from (cond b (Ok (Some e)) (Err (SumMismatch part.0 e x))) parts ≡ Ok o
-                → (o ≡ Some e) × Adds e (signed t ++ summed ss) (plus s v (total_value s vs))
-            fits true same r =
-                let later = more r in
-                (later.0, adds (signed t) (summed ss) v (total_value s vs) (subst (λ y. DenotesAt s q f y (signed t) v) (sym (same_from_ends e x same)) d) later.1)
-            fits false same r = absurd (no_fault o _ (sym (sum_from-fault _ parts) ∙ r))
+        go (Some x) d k more =
+            let next = sum_passed (signatures.sum_step (Ok (Some e)) part.0 (Some x)) parts o k in
+            let both = same_passed e x _ _ _ next.1 in
+            let later = more (ap (λ t. signatures.sum_from (Ok t) parts) both.1 ∙ next.2) in
+            (later.0, adds (signed t) (summed ss) v (total_value s vs) (subst (λ y. DenotesAt s q f y (signed t) v) (sym both.0) d) later.1)
 
   -- a sum whose terms are denoted is denoted by its terms one after another
   pub denotes-summed : (parts : List Part) (ss : List Summand) (vs : List (Option Arrow)) (o : Option Sig) → AreTerms parts ss vs
       → signatures.sum_from (Ok None) parts ≡ Ok o → Denotes s q f o (summed ss) (total_value s vs)
-  denotes-summed [] [] [] o h m = subst (λ x. Denotes s q f x [] None) (same_value None o m) (refl, refl)
-  denotes-summed [] [] (v ∷ vs) o h m = absurd h
-  denotes-summed [] (t ∷ ss) vs o h m = absurd h
-  denotes-summed (part ∷ parts) [] vs o h m = absurd h
-  denotes-summed (part ∷ parts) (t ∷ ss) [] o h m = absurd h
-  denotes-summed (part ∷ parts) (t ∷ ss) (v ∷ vs) o h m = go part.1 h.0 m (denotes-summed parts ss vs o h.1)
+  denotes-summed _ _ _ o no_term m = subst (λ x. Denotes s q f x [] None) (same_value None o m) (refl, refl)
+  denotes-summed _ _ _ o (one_term part t v parts ss vs here h) m = go part.1 here m (denotes-summed parts ss vs o h)
     where
       go : (x : Option Sig) → Denotes s q f x (signed t) v → signatures.sum_from (signatures.sum_step (Ok None) part.0 x) parts ≡ Ok o
           → (signatures.sum_from (Ok None) parts ≡ Ok o → Denotes s q f o (summed ss) (total_value s vs))
           → Denotes s q f o (signed t ++ summed ss) (plus s v (total_value s vs))
       go None d k more = subst (λ p. Denotes s q f o (p ++ summed ss) (plus s v (total_value s vs))) (sym d.0) (subst (λ a. Denotes s q f o (summed ss) (plus s a (total_value s vs))) (sym d.1) (more k))
       go (Some x) d k more =
-          let later = rest x d.source_below d.target_below parts ss vs o h.1 k in
+          let later = rest x d.source_below d.target_below parts ss vs o h k in
           subst (λ y. Denotes s q f y (signed t ++ summed ss) (plus s v (total_value s vs))) (sym later.0)
           (added x d.source_below d.target_below (signed t) (summed ss) v (total_value s vs) d later.1)

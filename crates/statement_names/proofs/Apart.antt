@@ -37,11 +37,9 @@ bytes_equivalence = record {
   congr = λ xs ys zs same. ap (λ names. bytes_eq names zs) (same_bytes xs ys same);
 }
 
-pub none_first : {A : Type 0} (found other : Option A) → option_or found other ≡ None → found ≡ None
-none_first found other e = grind arith
-
-pub none_later : {A : Type 0} (found other : Option A) → option_or found other ≡ None → other ≡ None
-none_later found other e = grind arith
+pub both_none : {A : Type 0} (o p : Option A) → option_or o p ≡ None → (o ≡ None) × (p ≡ None)
+both_none None p none = (refl, none)
+both_none (Some x) p none = cc
 
 -- a new name after others
 pub Apart-none : Apart []

@@ -7,7 +7,7 @@ use Rattle.std.proofs.lemmas.Bool.Decides.{nat_tests}
 use Rattle.std.proofs.lemmas.List.{append-nil, length-append}
 use Rattle.std.proofs.lemmas.List.Sums.{fold-append, sum_by-cons, sum_by_push}
 use Rattle.quiver.specs.Limits.{object_limit}
-use Rattle.statement_names.specs.Types.{Statement, NameFault, Kind, Object, Map, Survey}
+use Rattle.statement_names.specs.Types.{Statement, Placed, Kind, Object, Map, Survey}
 use Rattle.adjoint_rules.specs.Limits.{assumption_limit, claim_limit, shape_limit}
 use Rattle.statement_names.specs.Limits.{map_limit_of}
 use Rattle.statement_names.specs.Occurrences.{occurrences_of, Occurrence, declares_object, declares_map, begins_order, begins_assumptions, begins_claim, begins_shape}
@@ -17,10 +17,10 @@ use Rattle.statement_names.proofs.KindsFound.{kind_in-with_kinds, take-with_kind
 use Rattle.statement_names.proofs.Clean.{head_clean, tail_clean, declared_push, new_name, or_else_none}
 
 -- there is room where no fault is
-enough : (room more : ℕ) (fault : NameFault) → short_of room more fault ≡ None → room - more + more ≡ room
+enough : (room more : ℕ) (fault : Placed) → short_of room more fault ≡ None → room - more + more ≡ room
 enough room more fault good = grind (arith, nat_tests)
 
-enough_behind : (there : Bool) (room : ℕ) (first fault : NameFault) → (if there then Some first else short_of room 1 fault) ≡ None → room - 1 + 1 ≡ room
+enough_behind : (there : Bool) (room : ℕ) (first fault : Placed) → (if there then Some first else short_of room 1 fault) ≡ None → room - 1 + 1 ≡ room
 enough_behind there room first fault good = grind (arith, nat_tests)
 
 taken : (s : Survey) (c : Counted) (o : Occurrence) → fault_at s o ≡ None → room_of (behind s o) c + amount c o ≡ room_of s c
@@ -110,7 +110,7 @@ first_same most_maps kind before s (o ∷ os) agrees =
     ap (λ found. option_or found (first_fault most_maps kind (before ++ o ∷ []) os)) (sym (fault_same most_maps kind before (o ∷ os) s agrees o))
     ∙ go (fault_at s o) refl (λ good. first_same most_maps kind (before ++ o ∷ []) (behind s o) os (behind_agrees most_maps kind before (o ∷ os) s agrees o os refl good))
   where
-    go : (found : Option NameFault) → fault_at s o ≡ found → (fault_at s o ≡ None → first_fault most_maps kind (before ++ o ∷ []) os ≡ result_err (run (behind s o) os))
+    go : (found : Option Placed) → fault_at s o ≡ found → (fault_at s o ≡ None → first_fault most_maps kind (before ++ o ∷ []) os ≡ result_err (run (behind s o) os))
         → option_or found (first_fault most_maps kind (before ++ o ∷ []) os) ≡ result_err (goes_on found (run (behind s o) os))
     go (Some fault) is rest = refl
     go None is rest = rest is

@@ -3,23 +3,23 @@ use Rattle.std.proofs.Common.{◌≡◌, ℕ, Bool, true, false, ◌&&◌, is_so
 use Rattle.std.proofs.lemmas.Grind.{flat_map-append}
 use Rattle.std.proofs.lemmas.List.{append-nil}
 use Rattle.definitions.specs.Moduli.{is_field_modulus}
-use Rattle.statement_names.specs.Types.{Statement, NameFault, Kind, Object, Map}
+use Rattle.statement_names.specs.Types.{Statement, Placed, Kind, Object, Map}
 use Rattle.statement_names.specs.Occurrences.{Occurrence, declares_object, declares_map, uses, lists, counts, modulus}
 use Rattle.statement_names.specs.Faults.{declared_by, declared_in, is_kind, are_two_objects, is_among, is_between, value_of, or_else, fault_of, known_behind, first_fault, kind_within}
-use Rattle.statement_names.proofs.Apart.{Apart, Apart-push, none_first, none_later}
+use Rattle.statement_names.proofs.Apart.{Apart, Apart-push, both_none}
 use Rattle.statement_names.proofs.Each.{Each}
 
 -- tests that let an occurrence through
-passed : (b : Bool) (fault : NameFault) → (if b then None else Some fault) ≡ None → b ≡ true
+passed : (b : Bool) (fault : Placed) → (if b then None else Some fault) ≡ None → b ≡ true
 passed b fault e = grind arith
 
-pub or_else_none : (found : Option NameFault) (wrong : Bool) (later : NameFault) → or_else found wrong later ≡ None → found ≡ None
+pub or_else_none : (found : Option Placed) (wrong : Bool) (later : Placed) → or_else found wrong later ≡ None → found ≡ None
 or_else_none found wrong later e = grind arith
 
-not_wrong : (found : Option NameFault) (wrong : Bool) (later : NameFault) → or_else found wrong later ≡ None → wrong ≡ false
+not_wrong : (found : Option Placed) (wrong : Bool) (later : Placed) → or_else found wrong later ≡ None → wrong ≡ false
 not_wrong found wrong later e = grind arith
 
-pub new_name : (found : Option Kind) (fault : NameFault) (rest : Option NameFault) → (if is_some found then Some fault else rest) ≡ None → found ≡ None
+pub new_name : (found : Option Kind) (fault : Placed) (rest : Option Placed) → (if is_some found then Some fault else rest) ≡ None → found ≡ None
 new_name found fault rest e = grind arith
 
 pub absent_from : (found : Option Kind) → is_some found ≡ false → found ≡ None
@@ -44,10 +44,10 @@ declared_push before o = sym (flat_map-append declared_by before (o ∷ []) ∙ 
 module _ (most_maps : ℕ) (kind : List ℕ → Option Kind) where
   pub head_clean : (before : List Occurrence) (o : Occurrence) (os : List Occurrence) → first_fault most_maps kind before (o ∷ os) ≡ None
       → fault_of (known_behind most_maps kind before) o ≡ None
-  head_clean before o os clean = none_first (fault_of (known_behind most_maps kind before) o) (first_fault most_maps kind (before ++ o ∷ []) os) clean
+  head_clean before o os clean = (both_none (fault_of (known_behind most_maps kind before) o) (first_fault most_maps kind (before ++ o ∷ []) os) clean).0
 
   pub tail_clean : (before : List Occurrence) (o : Occurrence) (os : List Occurrence) → first_fault most_maps kind before (o ∷ os) ≡ None → first_fault most_maps kind (before ++ o ∷ []) os ≡ None
-  tail_clean before o os clean = none_later (fault_of (known_behind most_maps kind before) o) (first_fault most_maps kind (before ++ o ∷ []) os) clean
+  tail_clean before o os clean = (both_none (fault_of (known_behind most_maps kind before) o) (first_fault most_maps kind (before ++ o ∷ []) os) clean).1
 
   good : (before : List Occurrence) (o : Occurrence) → fault_of (known_behind most_maps kind before) o ≡ None → IsGood kind o
   good before (declares_map n u v selfmade) clean = not_wrong _ _ _ clean

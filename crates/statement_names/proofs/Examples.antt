@@ -1,6 +1,6 @@
 -- What a file of the second language says.
 use Rattle.std.proofs.Common.{◌≡◌, ℕ, pos, true, false, List, [], ◌∷◌, Some, None, refl}
-use Rattle.statement_names.specs.Types.{Spot, Name, Adjoint, Power, Number, Statement, StatementKind, statement, Map, Block, Unknown, Double, BadNumber}
+use Rattle.statement_names.specs.Types.{Spot, Name, Adjoint, Power, Number, Statement, StatementKind, statement, Map, Block, Unknown, Double, BadNumber, placed}
 use Rattle.std.specs.List.{flat_map}
 use Rattle.statement_names.specs.Uses.{map_use}
 use Rattle.statement_names.specs.Faults.{kind_in, first_fault, name_fault_of}
@@ -48,7 +48,7 @@ unstarred = refl
 
 -- a name twice in one list
 twice : name_fault_of (line statement.Language ∷ line (statement.Objects (named 85 ∷ [])) ∷ line (statement.Maps (named 97 ∷ []) (named 85) (named 85) false)
-    ∷ line (statement.Eliminate (named 97 ∷ named 97 ∷ [])) ∷ []) ≡ Some (Double here)
+    ∷ line (statement.Eliminate (named 97 ∷ named 97 ∷ [])) ∷ []) ≡ Some (placed Double here)
 twice = refl
 
 -- an exponent of 501 is refused at its literal, after the name before it, and 500 is not
@@ -61,14 +61,14 @@ number n at = record { value = pos n; at = at }
 abbrev raised : ℕ → List Occurrence
 raised n = uses (map_use (named 97)) ∷ flat_map mark_occurrences (Power here (number 1 here) ∷ Adjoint ∷ Power here (number n there) ∷ [])
 
-too_much : first_fault 1000 (kind_in ((97 ∷ [], Map) ∷ [])) [] (raised 501) ≡ Some (BadNumber there)
+too_much : first_fault 1000 (kind_in ((97 ∷ [], Map) ∷ [])) [] (raised 501) ≡ Some (placed BadNumber there)
 too_much = refl
 
-unknown_first : first_fault 1000 (kind_in []) [] (raised 501) ≡ Some (Unknown here)
+unknown_first : first_fault 1000 (kind_in []) [] (raised 501) ≡ Some (placed Unknown here)
 unknown_first = refl
 
 most : first_fault 1000 (kind_in ((97 ∷ [], Map) ∷ [])) [] (raised 500) ≡ None
 most = refl
 
-none : first_fault 1000 (kind_in ((97 ∷ [], Map) ∷ [])) [] (raised 0) ≡ Some (BadNumber there)
+none : first_fault 1000 (kind_in ((97 ∷ [], Map) ∷ [])) [] (raised 0) ≡ Some (placed BadNumber there)
 none = refl

@@ -6,7 +6,7 @@ use Rattle.std.specs.Map.{lookup}
 use Rattle.std.specs.Option.{option_or}
 use Rattle.std.specs.Str.{bytes_eq}
 use Rattle.definitions.specs.Moduli.{is_field_modulus}
-use Rattle.statement_names.specs.Types.{Name, Statement, NameFault, Unknown, Double, TooMany, NotSquare, BadNumber, Kind, Object, Map}
+use Rattle.statement_names.specs.Types.{Name, Statement, Placed, placed, Unknown, Double, TooMany, NotSquare, BadNumber, Kind, Object, Map}
 use Rattle.statement_names.specs.Occurrences.{Occurrence, declares_object, declares_map, uses, lists, counts, modulus, begins_order}
 use Rattle.statement_names.specs.Occurrences.{begins_assumptions, begins_claim, begins_shape, occurrences_of}
 use Rattle.quiver.specs.Limits.{object_limit}
@@ -77,24 +77,24 @@ abbrev pub is_between : ℕ → ℕ → ℕ → Bool
 is_between least most n = nat_le least n && nat_le n most
 
 -- the fault where there is no room for this many more
-abbrev pub short_of : ℕ → ℕ → NameFault → Option NameFault
+abbrev pub short_of : ℕ → ℕ → Placed → Option Placed
 short_of room more fault = if nat_lt room more then Some fault else None
 
 -- a name that is declared already, or no room for it
-abbrev pub declared_fault : List (List ℕ × Kind) → ℕ → ℕ → Name → Option NameFault
+abbrev pub declared_fault : List (List ℕ × Kind) → ℕ → ℕ → Name → Option Placed
 declared_fault declared room limit name =
-    if is_some (kind_in declared name.text) then Some (Double name.at) else short_of room 1 (TooMany name.at limit)
+    if is_some (kind_in declared name.text) then Some (placed Double name.at) else short_of room 1 (placed (TooMany limit) name.at)
 
 -- a name that isn't declared, or is of the other kind
-abbrev pub used_fault : (List ℕ → Option Kind) → Use → Option NameFault
-used_fault kind u = if is_kind (kind u.name.text) u.kind then None else Some (Unknown u.name.at)
+abbrev pub used_fault : (List ℕ → Option Kind) → Use → Option Placed
+used_fault kind u = if is_kind (kind u.name.text) u.kind then None else Some (placed Unknown u.name.at)
 
 -- the first fault, or else the later one where something is wrong
-abbrev pub or_else : Option NameFault → Bool → NameFault → Option NameFault
+abbrev pub or_else : Option Placed → Bool → Placed → Option Placed
 or_else (Some fault) wrong later = Some fault
 or_else None wrong later = if wrong then Some later else None
 
-abbrev pub number_fault : Bool → NameFault → Option NameFault
+abbrev pub number_fault : Bool → Placed → Option Placed
 number_fault good fault = if good then None else Some fault
 
 -- What is known before an occurrence: how many maps the file may declare, what each of its names is declared as,
@@ -106,18 +106,18 @@ pub record Known : Type 0 where
   pub room : Counted → ℕ
 
 -- its fault
-abbrev pub fault_of : Known → Occurrence → Option NameFault
+abbrev pub fault_of : Known → Occurrence → Option Placed
 fault_of k (declares_object name) = declared_fault k.declared (k.room Objects) object_limit name
 fault_of k (declares_map name source target selfmade) =
-    or_else (declared_fault k.declared (k.room Maps) k.most_maps name) (selfmade && are_two_objects k.kind source target) (NotSquare name.at)
+    or_else (declared_fault k.declared (k.room Maps) k.most_maps name) (selfmade && are_two_objects k.kind source target) (placed NotSquare name.at)
 fault_of k (uses u) = used_fault k.kind u
-fault_of k (lists front u) = or_else (used_fault k.kind u) (is_among front u.name.text) (Double u.name.at)
-fault_of k (counts most n) = number_fault (is_between 1 most (value_of n.value)) (BadNumber n.at)
-fault_of k (modulus n) = number_fault (is_field_modulus (value_of n.value)) (BadNumber n.at)
-fault_of k (begins_order at) = short_of (k.room Orders) 1 (Double at)
-fault_of k (begins_assumptions count at) = short_of (k.room Assumptions) count (TooMany at assumption_limit)
-fault_of k (begins_claim at) = short_of (k.room Claims) 1 (TooMany at claim_limit)
-fault_of k (begins_shape at) = short_of (k.room Shapes) 1 (TooMany at shape_limit)
+fault_of k (lists front u) = or_else (used_fault k.kind u) (is_among front u.name.text) (placed Double u.name.at)
+fault_of k (counts most n) = number_fault (is_between 1 most (value_of n.value)) (placed BadNumber n.at)
+fault_of k (modulus n) = number_fault (is_field_modulus (value_of n.value)) (placed BadNumber n.at)
+fault_of k (begins_order at) = short_of (k.room Orders) 1 (placed Double at)
+fault_of k (begins_assumptions count at) = short_of (k.room Assumptions) count (placed (TooMany assumption_limit) at)
+fault_of k (begins_claim at) = short_of (k.room Claims) 1 (placed (TooMany claim_limit) at)
+fault_of k (begins_shape at) = short_of (k.room Shapes) 1 (placed (TooMany shape_limit) at)
 
 -- what is known after some occurrences, for which room was taken
 abbrev pub known_behind : ℕ → (List ℕ → Option Kind) → List Occurrence → Known
@@ -129,7 +129,7 @@ known_behind most_maps kind before = record {
 }
 
 -- the first fault of some occurrences, after all those before them
-abbrev pub first_fault : ℕ → (List ℕ → Option Kind) → List Occurrence → List Occurrence → Option NameFault
+abbrev pub first_fault : ℕ → (List ℕ → Option Kind) → List Occurrence → List Occurrence → Option Placed
 first_fault most_maps kind before [] = None
 first_fault most_maps kind before (o ∷ os) = option_or (fault_of (known_behind most_maps kind before) o) (first_fault most_maps kind (before ++ o ∷ []) os)
 
@@ -138,5 +138,5 @@ abbrev pub kind_within : List Statement → List ℕ → Option Kind
 kind_within statements = kind_in (declared_in (occurrences_of statements))
 
 -- the first fault of the file
-abbrev pub name_fault_of : List Statement → Option NameFault
+abbrev pub name_fault_of : List Statement → Option Placed
 name_fault_of statements = first_fault (map_limit_of statements) (kind_within statements) [] (occurrences_of statements)

@@ -1,7 +1,7 @@
 -- How the program finds the first fault: occurrence by occurrence, with how much more of each there may be.
 use Rattle.std.specs.Prelude.{ℕ, ◌+◌, ◌-◌, if◌then◌else◌, is_some, List, [], ◌∷◌, ◌++◌, map, fold, take}
 use Rattle.std.specs.Prelude.{Option, Some, None, Result, Ok, Err}
-use Rattle.statement_names.specs.Types.{NameFault, Kind, Object, Map, Survey, Name, StatementKind, statement}
+use Rattle.statement_names.specs.Types.{Placed, Kind, Object, Map, Survey, Name, StatementKind, statement}
 use Rattle.statement_names.specs.Occurrences.{Occurrence, declares_object, declares_map, begins_order, begins_assumptions, begins_claim, begins_shape}
 use Rattle.statement_names.specs.Faults.{kind_in, Counted, Objects, Maps, Orders, Assumptions, Claims, Shapes, fault_of}
 use Rattle.quiver.specs.Limits.{object_limit}
@@ -41,7 +41,7 @@ room_of s Claims = s.claims
 room_of s Shapes = s.shapes
 
 -- the fault of an occurrence
-abbrev pub fault_at : Survey → Occurrence → Option NameFault
+abbrev pub fault_at : Survey → Occurrence → Option Placed
 fault_at s o = fault_of (record { most_maps = s.map_limit; kind = kind_in s.kinds; declared = declared_before s; room = room_of s }) o
 
 -- the survey after it
@@ -54,17 +54,17 @@ behind s (begins_claim at) = record s { claims = s.claims - 1 }
 behind s (begins_shape at) = record s { shapes = s.shapes - 1 }
 behind s o = s
 
-abbrev pub goes_on : Option NameFault → Result Survey NameFault → Result Survey NameFault
+abbrev pub goes_on : Option Placed → Result Survey Placed → Result Survey Placed
 goes_on (Some fault) later = Err fault
 goes_on None later = later
 
 -- the survey after all of some occurrences, or their first fault
-abbrev pub run : Survey → List Occurrence → Result Survey NameFault
+abbrev pub run : Survey → List Occurrence → Result Survey Placed
 run s [] = Ok s
 run s (o ∷ os) = goes_on (fault_at s o) (run (behind s o) os)
 
 -- the survey that a search ends with, or its fault
-abbrev pub outcome : {A : Type 0} → Survey → Result A NameFault → Result Survey NameFault
+abbrev pub outcome : {A : Type 0} → Survey → Result A Placed → Result Survey Placed
 outcome s (Ok x) = Ok s
 outcome s (Err fault) = Err fault
 

@@ -17,8 +17,9 @@ pub use Rattle.word_orders.specs.declared.any.OrderSpec.TheVariants.{Degree, Wei
 pub use Rattle.quiver.specs.declared.named.Named.{Named, Named as named}
 pub use Rattle.abbreviations.specs.declared.written.Equation.{Equation}
 pub use Rattle.adjoint_rules.specs.declared.parts.Shape.{Shape}
-pub use Rattle.statement_names.specs.declared.fault.NameFault.{NameFault}
-pub use Rattle.statement_names.specs.declared.fault.NameFault.TheVariants.{Unknown, Double, TooMany, NotSquare, BadNumber}
+pub use Rattle.statement_tokens.specs.declared.fault.Fault.TheVariants.{Unknown, Double, TooMany, NotSquare, BadNumber}
+pub use Rattle.statement_tokens.specs.declared.fault.Placed.{Placed}
+pub use Rattle.statement_tokens.specs.Fault.{placed}
 pub use Rattle.lists.specs.declared.stop.Stop.{Stop, Stop as stop}
 pub use Rattle.statement_names.specs.declared.kinds.Kind.{Kind}
 pub use Rattle.statement_names.specs.declared.kinds.Kind.TheVariants.{Object, Map}

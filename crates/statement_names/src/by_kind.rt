@@ -6,14 +6,13 @@ ghost use Rattle.statement_names.specs.Occurrences.{declares_map, begins_assumpt
 ghost use Rattle.statement_names.specs.Survey.{run, outcome};
 ghost use Rattle.statement_names.specs.Uses.{use_of};
 
-use crate::fault::NameFault;
 use crate::kinds::Kind;
 use crate::literal::check_modulus;
 use crate::survey::Survey;
 use adjoint_rules::SHAPE_SIDE_LIMIT;
 use lists::Stop;
 use statement_syntax::{Name, Number, Statement, StatementKind, Sum};
-use statement_tokens::Spot;
+use statement_tokens::{Placed, Spot};
 use std::alloc::Global;
 use word_orders::WEIGHT_LIMIT;
 
@@ -23,7 +22,7 @@ impl Survey {
         &mut self,
         alloc: Global,
         statement: &Statement,
-    ) -> Result<(), Stop<NameFault>>
+    ) -> Result<(), Stop<Placed>>
         ensures { Gives (λ done. self.new) result (run self.old (statement_occurrences statement.now)) }
     {
         let at = statement.at;
@@ -63,7 +62,7 @@ impl Survey {
         source: &Name,
         target: &Name,
         selfmade: bool,
-    ) -> Result<(), NameFault>
+    ) -> Result<(), Placed>
         ensures { run self.old (map (λ name. declares_map name source.now.text target.now.text selfmade) names.now
             ++ used_names (use_of Kind.Object source.now ∷ use_of Kind.Object target.now ∷ [])) ≡ outcome self.new result }
     {
@@ -72,7 +71,7 @@ impl Survey {
     }
 
     // An assumption.
-    fn assumption(&mut self, at: Spot, left: &Sum, right: &Sum) -> Result<(), NameFault>
+    fn assumption(&mut self, at: Spot, left: &Sum, right: &Sum) -> Result<(), Placed>
         ensures { run self.old (kind_occurrences at (StatementKind.Assume left.now right.now)) ≡ outcome self.new result }
     {
         self.assumptions(1, at)?;
@@ -80,7 +79,7 @@ impl Survey {
     }
 
     // A claim.
-    fn claimed(&mut self, at: Spot, left: &Sum, right: &Sum) -> Result<(), NameFault>
+    fn claimed(&mut self, at: Spot, left: &Sum, right: &Sum) -> Result<(), Placed>
         ensures { run self.old (kind_occurrences at (StatementKind.Claim left.now right.now)) ≡ outcome self.new result }
     {
         self.claim(at)?;
@@ -94,7 +93,7 @@ impl Survey {
         at: Spot,
         first: &Name,
         second: &Name,
-    ) -> Result<(), NameFault>
+    ) -> Result<(), Placed>
         ensures { run self.old (begins_assumptions count at ∷ used_names (use_of Kind.Map first.now ∷ use_of Kind.Map second.now ∷ []))
             ≡ outcome self.new result }
     {
@@ -103,7 +102,7 @@ impl Survey {
     }
 
     // A projection.
-    fn projection(&mut self, at: Spot, name: &Name) -> Result<(), NameFault>
+    fn projection(&mut self, at: Spot, name: &Name) -> Result<(), Placed>
         ensures { run self.old (kind_occurrences at (StatementKind.Projection name.now)) ≡ outcome self.new result }
     {
         self.assumptions(2, at)?;
@@ -116,7 +115,7 @@ impl Survey {
         alloc: Global,
         at: Spot,
         weights: &[(Name, Number)],
-    ) -> Result<(), Stop<NameFault>>
+    ) -> Result<(), Stop<Placed>>
         ensures { Gives (λ done. self.new) result (run self.old (kind_occurrences at (StatementKind.Weight weights.now))) }
     {
         self.order(at)?;
@@ -124,7 +123,7 @@ impl Survey {
     }
 
     // An order by the maps that are eliminated.
-    fn eliminated(&mut self, alloc: Global, at: Spot, names: &[Name]) -> Result<(), Stop<NameFault>>
+    fn eliminated(&mut self, alloc: Global, at: Spot, names: &[Name]) -> Result<(), Stop<Placed>>
         ensures { Gives (λ done. self.new) result (run self.old (kind_occurrences at (StatementKind.Eliminate names.now))) }
     {
         self.order(at)?;
@@ -138,7 +137,7 @@ impl Survey {
         at: Spot,
         modulus: &Number,
         sides: &[(Name, Number)],
-    ) -> Result<(), Stop<NameFault>>
+    ) -> Result<(), Stop<Placed>>
         ensures { Gives (λ done. self.new) result (run self.old (kind_occurrences at (StatementKind.Shape modulus.now sides.now))) }
     {
         self.shape(at)?;

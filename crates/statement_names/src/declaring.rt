@@ -6,15 +6,15 @@ ghost use Rattle.statement_names.specs.Faults.{kind_in, are_two_objects};
 ghost use Rattle.statement_names.specs.Occurrences.{declares_object, declares_map};
 ghost use Rattle.statement_names.specs.Survey.{fault_at, behind, run, outcome, declared_before, declared_count};
 
-use crate::fault::NameFault;
 use crate::kinds::Kind;
 use crate::survey::{Survey, take_room};
 use quiver::OBJECT_LIMIT;
 use statement_syntax::Name;
+use statement_tokens::{Fault, Placed};
 
 impl Survey {
     // Objects that are declared.
-    pub(crate) fn objects(&mut self, names: &[Name]) -> Result<(), NameFault>
+    pub(crate) fn objects(&mut self, names: &[Name]) -> Result<(), Placed>
         ensures { run self.old (map (λ name. declares_object name) names.now) ≡ outcome self.new result }
     {
         for name in names {
@@ -30,7 +30,7 @@ impl Survey {
         source: &Name,
         target: &Name,
         selfmade: bool,
-    ) -> Result<(), NameFault>
+    ) -> Result<(), Placed>
         ensures { run self.old (map (λ name. declares_map name source.now.text target.now.text selfmade) names.now) ≡ outcome self.new result }
     {
         for name in names {
@@ -40,16 +40,16 @@ impl Survey {
     }
 
     // An object that is declared.
-    fn object(&mut self, name: &Name) -> Result<(), NameFault>
+    fn object(&mut self, name: &Name) -> Result<(), Placed>
         ensures answer { result_err result ≡ fault_at self.old (declares_object name.now) }
         ensures after { OnOk result (self.new ≡ behind self.old (declares_object name.now)) }
     {
         let at = name.at;
         if self.is_declared(name) {
-            return Err(NameFault::Double { at });
+            return Err(Fault::Double.at(at));
         }
         let limit = OBJECT_LIMIT;
-        take_room(&mut self.objects, 1, NameFault::TooMany { at, limit })
+        take_room(&mut self.objects, 1, Fault::TooMany { limit }.at(at))
     }
 
     // A map that is declared between two objects.
@@ -59,18 +59,18 @@ impl Survey {
         source: &Name,
         target: &Name,
         selfmade: bool,
-    ) -> Result<(), NameFault>
+    ) -> Result<(), Placed>
         ensures answer { result_err result ≡ fault_at self.old (declares_map name.now source.now.text target.now.text selfmade) }
         ensures after { OnOk result (self.new ≡ behind self.old (declares_map name.now source.now.text target.now.text selfmade)) }
     {
         let at = name.at;
         if self.is_declared(name) {
-            return Err(NameFault::Double { at });
+            return Err(Fault::Double.at(at));
         }
         let limit = self.map_limit;
-        take_room(&mut self.maps, 1, NameFault::TooMany { at, limit })?;
+        take_room(&mut self.maps, 1, Fault::TooMany { limit }.at(at))?;
         if selfmade && self.are_two_objects(source, target) {
-            return Err(NameFault::NotSquare { at });
+            return Err(Fault::NotSquare.at(at));
         }
         Ok(())
     }

@@ -4,7 +4,6 @@
 mod by_kind;
 mod declarations;
 mod declaring;
-mod fault;
 mod kinds;
 mod literal;
 mod marked;
@@ -16,7 +15,6 @@ mod starred;
 mod survey;
 mod used;
 
-pub use fault::NameFault;
 pub use names::{Names, read_names};
 pub use survey::FIRST_MAP_LIMIT;
 pub use used::EXPONENT_LIMIT;

@@ -12,7 +12,6 @@ ghost use Rattle.statement_names.specs.Shapes.{shapes_of};
 ghost use Rattle.statement_names.specs.Ready.{IsReady};
 
 use crate::declarations::declare_all;
-use crate::fault::NameFault;
 use crate::marked::read_marked;
 use crate::order::read_order;
 use crate::shapes::read_shapes;
@@ -23,6 +22,7 @@ use adjoint_rules::Shape;
 use lists::{Listing, Stop};
 use quiver::Quiver;
 use statement_syntax::{Statement, Tree};
+use statement_tokens::Placed;
 use std::alloc::{AllocError, Global};
 use word_core::{Letter, Object};
 use word_orders::OrderSpec;
@@ -45,7 +45,7 @@ pub struct Names {
 }
 
 /// What the names of a file stand for, or their first fault.
-pub fn read_names(alloc: Global, tree: &Tree) -> Result<Names, Stop<NameFault>>
+pub fn read_names(alloc: Global, tree: &Tree) -> Result<Names, Stop<Placed>>
     ensures sound { OnOk result (name_fault_of tree.now.statements ≡ None) }
     ensures fault { IfErr result (Explains (λ fault. name_fault_of tree.now.statements ≡ Some fault)) }
     ensures quiver { IfOk result (λ names. names.quiver ≡ declarations_of tree.now.statements) }

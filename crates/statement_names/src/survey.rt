@@ -8,13 +8,12 @@ ghost use Rattle.statement_names.specs.Limits.{map_limit_of};
 ghost use Rattle.statement_names.specs.Occurrences.{begins_order, begins_assumptions, begins_claim, begins_shape};
 ghost use Rattle.statement_names.specs.Survey.{fault_at, behind};
 
-use crate::fault::NameFault;
 use crate::kinds::{Kinds, kinds_of};
 use adjoint_rules::{ASSUMPTION_LIMIT, CLAIM_LIMIT, SHAPE_LIMIT};
 use lists::Stop;
 use quiver::{MAP_LIMIT, OBJECT_LIMIT};
 use statement_syntax::{Statement, StatementKind};
-use statement_tokens::Spot;
+use statement_tokens::{Fault, Placed, Spot};
 use std::alloc::Global;
 
 /// The greatest number of maps of a file of the first language.
@@ -35,7 +34,7 @@ pub struct Survey {
 
 /// Finds the first fault of the names, the literals and the numbers of statements.
 #[tactic(auto, using(std::proofs::lemmas::Grind::common_steps, crate::proofs::Runs::run_on))]
-pub fn check_names(alloc: Global, statements: &[Statement]) -> Result<(), Stop<NameFault>>
+pub fn check_names(alloc: Global, statements: &[Statement]) -> Result<(), Stop<Placed>>
     ensures ok { OnOk result (name_fault_of statements.now ≡ None) }
     ensures err { IfErr result (Explains (λ fault. name_fault_of statements.now ≡ Some fault)) }
 {
@@ -76,7 +75,7 @@ fn map_limit_of(statements: &[Statement]) -> u32
 }
 
 /// Takes room for this many more, or returns the fault and leaves the room as it was.
-pub fn take_room(room: &mut u32, more: u32, fault: NameFault) -> Result<(), NameFault>
+pub fn take_room(room: &mut u32, more: u32, fault: Placed) -> Result<(), Placed>
     ensures answer { result_err result ≡ short_of room.old more fault }
     ensures left { OnOk result (room.new ≡ room.old - more) }
     ensures unchanged { OnErr result (room.new ≡ room.old) }
@@ -90,46 +89,40 @@ pub fn take_room(room: &mut u32, more: u32, fault: NameFault) -> Result<(), Name
 
 impl Survey {
     // The first word of a statement of this many assumptions.
-    pub(crate) fn assumptions(&mut self, count: u32, at: Spot) -> Result<(), NameFault>
+    pub(crate) fn assumptions(&mut self, count: u32, at: Spot) -> Result<(), Placed>
         ensures answer { result_err result ≡ fault_at self.old (begins_assumptions count at) }
         ensures after { OnOk result (self.new ≡ behind self.old (begins_assumptions count at)) }
     {
-        let full = NameFault::TooMany {
-            at,
+        let full = Fault::TooMany {
             limit: ASSUMPTION_LIMIT,
-        };
+        }
+        .at(at);
         take_room(&mut self.assumptions, count, full)
     }
 
     // The first word of a claim.
-    pub(crate) fn claim(&mut self, at: Spot) -> Result<(), NameFault>
+    pub(crate) fn claim(&mut self, at: Spot) -> Result<(), Placed>
         ensures answer { result_err result ≡ fault_at self.old (begins_claim at) }
         ensures after { OnOk result (self.new ≡ behind self.old (begins_claim at)) }
     {
-        let full = NameFault::TooMany {
-            at,
-            limit: CLAIM_LIMIT,
-        };
+        let full = Fault::TooMany { limit: CLAIM_LIMIT }.at(at);
         take_room(&mut self.claims, 1, full)
     }
 
     // The first word of a shape.
-    pub(crate) fn shape(&mut self, at: Spot) -> Result<(), NameFault>
+    pub(crate) fn shape(&mut self, at: Spot) -> Result<(), Placed>
         ensures answer { result_err result ≡ fault_at self.old (begins_shape at) }
         ensures after { OnOk result (self.new ≡ behind self.old (begins_shape at)) }
     {
-        let full = NameFault::TooMany {
-            at,
-            limit: SHAPE_LIMIT,
-        };
+        let full = Fault::TooMany { limit: SHAPE_LIMIT }.at(at);
         take_room(&mut self.shapes, 1, full)
     }
 
     // The first word of an order.
-    pub(crate) fn order(&mut self, at: Spot) -> Result<(), NameFault>
+    pub(crate) fn order(&mut self, at: Spot) -> Result<(), Placed>
         ensures answer { result_err result ≡ fault_at self.old (begins_order at) }
         ensures after { OnOk result (self.new ≡ behind self.old (begins_order at)) }
     {
-        take_room(&mut self.orders, 1, NameFault::Double { at })
+        take_room(&mut self.orders, 1, Fault::Double.at(at))
     }
 }

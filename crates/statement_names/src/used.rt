@@ -10,12 +10,12 @@ ghost use Rattle.statement_names.specs.Occurrences.{factor_occurrences, term_occ
 ghost use Rattle.statement_names.specs.Survey.{fault_at, run, outcome, names_in};
 ghost use Rattle.statement_names.specs.Uses.{use_of};
 
-use crate::fault::NameFault;
 use crate::kinds::{Kind, Kinds};
 use crate::literal::check_count;
 use crate::survey::Survey;
 use lists::Stop;
 use statement_syntax::{Factor, Mark, Name, Number, Primary, Sum, Term};
+use statement_tokens::{Fault, Placed};
 use std::alloc::Global;
 
 /// The greatest exponent of a power.
@@ -30,11 +30,11 @@ impl Survey {
     }
 
     // A name that is used as an object or a map.
-    pub(crate) fn name(&self, name: &Name, kind: Kind) -> Result<(), NameFault>
+    pub(crate) fn name(&self, name: &Name, kind: Kind) -> Result<(), Placed>
         ensures { result_err result ≡ used_fault (kind_in self.now.kinds) (use_of kind name.now) }
     {
         if !self.is_of_kind(name, kind) {
-            return Err(NameFault::Unknown { at: name.at });
+            return Err(Fault::Unknown.at(name.at));
         }
         Ok(())
     }
@@ -46,7 +46,7 @@ impl Survey {
         listed: &mut Kinds,
         name: &Name,
         kind: Kind,
-    ) -> Result<(), Stop<NameFault>>
+    ) -> Result<(), Stop<Placed>>
         ensures ok { OnOk result (fault_at self.now (lists (names_in listed.old) (use_of kind name.now)) ≡ None) }
         ensures after { OnOk result (names_in listed.new ≡ names_in listed.old ++ name.now.text ∷ []) }
         ensures err { IfErr result (Explains (λ fault. fault_at self.now (lists (names_in listed.old) (use_of kind name.now)) ≡ Some fault)) }
@@ -54,14 +54,14 @@ impl Survey {
         self.name(name, kind)?;
         let text = name.text.as_str();
         if listed.kind_of(text).is_some() {
-            return Err(Stop::Fault(NameFault::Double { at: name.at }));
+            return Err(Stop::Fault(Fault::Double.at(name.at)));
         }
         listed.declare(text, kind)?;
         Ok(())
     }
 
     // A list of names of maps.
-    pub(crate) fn names(&self, alloc: Global, names: &[Name]) -> Result<(), Stop<NameFault>>
+    pub(crate) fn names(&self, alloc: Global, names: &[Name]) -> Result<(), Stop<Placed>>
         ensures { Gives (λ done. self.now) result (run self.now (names_behind Kind.Map [] names.now)) }
     {
         let mut listed = Kinds::new(alloc);
@@ -78,7 +78,7 @@ impl Survey {
         pairs: &[(Name, Number)],
         kind: Kind,
         most: u32,
-    ) -> Result<(), Stop<NameFault>>
+    ) -> Result<(), Stop<Placed>>
         ensures { Gives (λ done. self.now) result (run self.now (pairs_behind kind most [] pairs.now)) }
     {
         let mut listed = Kinds::new(alloc);
@@ -99,7 +99,7 @@ impl Survey {
     // The names and the exponents in an expression.
     #[cycle(expressions)]
     #[tactic(auto, using(std::proofs::lemmas::Grind::common_steps, crate::proofs::Runs::run_on, crate::proofs::Flat::sum_flat))]
-    pub(crate) fn sum(&self, sum: &Sum) -> Result<(), NameFault>
+    pub(crate) fn sum(&self, sum: &Sum) -> Result<(), Placed>
         ensures { run self.now (sum_occurrences sum.now) ≡ outcome self.now result }
     {
         for term in sum.terms.as_slice() {
@@ -110,7 +110,7 @@ impl Survey {
 
     #[cycle(expressions)]
     #[tactic(auto, using(std::proofs::lemmas::Grind::common_steps, crate::proofs::Runs::run_on, crate::proofs::Flat::term_flat))]
-    fn term(&self, term: &Term) -> Result<(), NameFault>
+    fn term(&self, term: &Term) -> Result<(), Placed>
         ensures { run self.now (term_occurrences term.now) ≡ outcome self.now result }
     {
         for factor in term.factors.as_slice() {
@@ -121,7 +121,7 @@ impl Survey {
 
     #[cycle(expressions)]
     #[tactic(auto, using(crate::proofs::Runs::run_on))]
-    fn factor(&self, factor: &Factor) -> Result<(), NameFault>
+    fn factor(&self, factor: &Factor) -> Result<(), Placed>
         ensures { run self.now (factor_occurrences factor.now) ≡ outcome self.now result }
     {
         self.primary(&factor.primary)?;
@@ -129,7 +129,7 @@ impl Survey {
     }
 
     #[cycle(expressions)]
-    fn primary(&self, primary: &Primary) -> Result<(), NameFault>
+    fn primary(&self, primary: &Primary) -> Result<(), Placed>
         ensures { run self.now (primary_occurrences primary.now) ≡ outcome self.now result }
     {
         match primary {
@@ -140,7 +140,7 @@ impl Survey {
     }
 
     // The exponents after a primary.
-    fn exponents(&self, marks: &[Mark]) -> Result<(), NameFault>
+    fn exponents(&self, marks: &[Mark]) -> Result<(), Placed>
         ensures { run self.now (flat_map mark_occurrences marks.now) ≡ outcome self.now result }
     {
         for mark in marks {
@@ -150,7 +150,7 @@ impl Survey {
     }
 
     // The exponent of a mark that is a power.
-    fn exponent(&self, mark: &Mark) -> Result<(), NameFault>
+    fn exponent(&self, mark: &Mark) -> Result<(), Placed>
         ensures { run self.now (mark_occurrences mark.now) ≡ outcome self.now result }
     {
         match mark {
@@ -161,7 +161,7 @@ impl Survey {
 
     // Both sides of an equation.
     #[tactic(auto, using(crate::proofs::Runs::run_on))]
-    pub(crate) fn sides(&self, left: &Sum, right: &Sum) -> Result<(), NameFault>
+    pub(crate) fn sides(&self, left: &Sum, right: &Sum) -> Result<(), Placed>
         ensures { run self.now (sides_occurrences left.now right.now) ≡ outcome self.now result }
     {
         self.sum(left)?;
@@ -169,7 +169,7 @@ impl Survey {
     }
 
     // Two names that are used.
-    pub(crate) fn two(&self, first: &Name, second: &Name, kind: Kind) -> Result<(), NameFault>
+    pub(crate) fn two(&self, first: &Name, second: &Name, kind: Kind) -> Result<(), Placed>
         ensures { run self.now (used_names (use_of kind first.now ∷ use_of kind second.now ∷ [])) ≡ outcome self.now result }
     {
         self.name(first, kind)?;

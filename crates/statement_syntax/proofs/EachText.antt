@@ -10,7 +10,7 @@ use Rattle.statement_tokens.specs.Language.{language_of}
 use Rattle.statement_tokens.specs.Tokens.{AreTokens}
 use Rattle.statement_tokens.specs.Laws.{HasTokensOrFault}
 use Rattle.statement_tokens.proofs.TokenLaws.{each_text_has_tokens_or_fault}
-use Rattle.statement_syntax.specs.Fault.{IsFirstFault, TellsFirstFault, fault_at}
+use Rattle.statement_syntax.specs.Fault.{IsFirstFault, not_utf8, TellsFirstFault, fault_at}
 use Rattle.statement_syntax.specs.Texts.{IsTreeOf}
 use Rattle.statement_syntax.specs.Stages.{begun, left, StoppedAt, AllRead}
 use Rattle.statement_syntax.specs.Laws.{EachTextIsRead}
@@ -56,4 +56,4 @@ each_text_is_read bytes = by (is_utf8 bytes) refl
   where
     by : (b : Bool) → is_utf8 bytes ≡ b → IsRead bytes
     by true is = by_tokens bytes (IsUtf8-from_is_utf8 bytes is) (each_text_has_tokens_or_fault (chars bytes))
-    by false is = inr (fault.NotUtf8, (record { line = 0; column = utf8_valid_len bytes }, ((λ utf8. true≢false (sym (is_utf8-from_IsUtf8 bytes utf8) ∙ is)), refl)))
+    by false is = inr (fault.NotUtf8, (record { line = 0; column = utf8_valid_len bytes }, not_utf8 refl (λ utf8. true≢false (sym (is_utf8-from_IsUtf8 bytes utf8) ∙ is)) refl))

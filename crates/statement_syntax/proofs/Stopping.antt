@@ -11,10 +11,10 @@ use Rattle.statement_tokens.specs.Tokens.{AreTokens, IsFirstScanFault}
 use Rattle.statement_syntax.specs.Grammar.{sign_token, StatedLine, IsFileOf, file_tokens, FileFits}
 use Rattle.statement_syntax.specs.Tree.{stated_tree, file_tree}
 use Rattle.statement_syntax.specs.Lines.{line_end, ended, file_step}
-use Rattle.statement_syntax.specs.Fault.{GoesOn, GoesOnWithin, IsMisfit, IsFirstFault, TellsFirstFault, IsWantOfMemory, fault_at}
+use Rattle.statement_syntax.specs.Fault.{GoesOn, GoesOnWithin, IsMisfit, IsFirstFault, no_token, not_utf8, expected, too_deep, TellsFirstFault, IsWantOfMemory, fault_at}
 use Rattle.statement_syntax.specs.Texts.{IsStatements, IsTreeOf}
 use Rattle.statement_syntax.specs.Stages.{first_statements, begun, left, StoppedAt, AllRead, Refused, IsRefusal}
-use Rattle.statement_tokens.proofs.TokenLaws.{begins_scanned, read_are, tokens_are_unique, tokens_have_no_fault}
+use Rattle.statement_tokens.proofs.TokenLaws.{read_are, tokens_are_unique, tokens_have_no_fault}
 use Rattle.statement_syntax.proofs.Run.{IfDeep, if_deep, bind_ok, ok_is, run-append, run_front, one_step, upto_ok}
 use Rattle.statement_syntax.proofs.LastToken.{EndsWell, ends_from, rest_ends}
 use Rattle.statement_syntax.proofs.LineReads.{LineReads}
@@ -162,9 +162,10 @@ module _ (ts : List Token) (refused : SyntaxFault) (loop : StoppedAt ts refused)
   tells_by bytes Expected utf8 read is = (
     fault.Expected,
     refl,
-    (misfit_of bytes utf8 read, λ on. let deep = (stuck on.0 on.1 (subst (λ l. IsFileOf l on.1) (sym (ap language_of all)) on.2) on.3).1 in absurd cc),
+    expected refl (misfit_of bytes utf8 read) (λ on. let deep = (stuck on.0 on.1 (subst (λ l. IsFileOf l on.1) (sym (ap language_of all)) on.2) on.3).1 in absurd cc),
   )
-  tells_by bytes TooDeep utf8 read is = (fault.TooDeep, refl, (misfit_of bytes utf8 read, subst (λ l. GoesOn l (front ++ loop.token ∷ [])) (ap language_of all) (deeper TooDeep is)))
+  tells_by bytes TooDeep utf8 read is =
+      (fault.TooDeep, refl, too_deep refl (misfit_of bytes utf8 read) (subst (λ l. GoesOn l (front ++ loop.token ∷ [])) (ap language_of all) (deeper TooDeep is)))
   tells_by bytes f utf8 read is = absurd (deeper f is)
 
 pub is_first : (bytes : List ℕ) (ts : List Token) (refused : SyntaxFault) → IsUtf8 bytes → AreTokens (chars bytes) ts → Refused ts refused → TellsFirstFault bytes refused
@@ -174,9 +175,7 @@ is_first bytes ts (refusal.Fault code l c) utf8 read loop =
 
 -- the first fault of the characters is that of the bytes
 pub told_scanned : (bytes : List ℕ) (told : SyntaxFault) (f : Fault) (at : Spot) → told ≡ fault_at f at → IsUtf8 bytes → IsFirstScanFault (chars bytes) f at → TellsFirstFault bytes told
-told_scanned bytes told fault.BadToken at is utf8 first = subst (TellsFirstFault bytes) (sym is) (fault.BadToken, refl, (utf8, first))
-told_scanned bytes told fault.LiteralTooLarge at is utf8 first = subst (TellsFirstFault bytes) (sym is) (fault.LiteralTooLarge, refl, (utf8, first))
-told_scanned bytes told f at is utf8 first = absurd (begins_scanned _ _ f first.faulty)
+told_scanned bytes told f at is utf8 first = subst (TellsFirstFault bytes) (sym is) (f, refl, no_token utf8 first)
 
 -- statements have no fault
 no_misfit : (bytes : List ℕ) (lines : List StatedLine) (at : Spot) → IsMisfit bytes at → IsStatements bytes lines → ⊥
@@ -186,10 +185,10 @@ no_misfit bytes lines at m is =
     m.there (m.rest, lines, subst (λ l. IsFileOf l lines) (sym language) is.speaks, is.fits, append_assoc m.front (m.token ∷ []) m.rest ∙ all)
 
 pub no_first : (bytes : List ℕ) (lines : List StatedLine) (f : Fault) (at : Spot) → IsFirstFault bytes f at → IsStatements bytes lines → ⊥
-no_first bytes lines fault.NotUtf8 at first is = first.0 is.utf8
-no_first bytes lines fault.BadToken at first is = tokens_have_no_fault (chars bytes) _ _ at is.tokens first.1
-no_first bytes lines fault.LiteralTooLarge at first is = tokens_have_no_fault (chars bytes) _ _ at is.tokens first.1
-no_first bytes lines f at first is = no_misfit bytes lines at first.0 is
+no_first bytes lines f at (not_utf8 is_fault bad place) is = bad is.utf8
+no_first bytes lines f at (no_token utf8 first) is = tokens_have_no_fault (chars bytes) _ _ at is.tokens first
+no_first bytes lines f at (expected is_fault m ends) is = no_misfit bytes lines at m is
+no_first bytes lines f at (too_deep is_fault m goes) is = no_misfit bytes lines at m is
 
 pub want_alone : (bytes : List ℕ) (lines : List StatedLine) (refused : SyntaxFault) → TellsFirstFault bytes refused → IsStatements bytes lines → IsWantOfMemory refused
 want_alone bytes lines (refusal.Memory e) tells is = tt

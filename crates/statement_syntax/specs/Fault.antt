@@ -3,17 +3,10 @@ use Rattle.std.specs.Prelude.{◌≡◌, ℕ, List, [], ◌∷◌, ◌++◌}
 use Rattle.std.specs.Str.{IsUtf8, chars}
 use Rattle.std.specs.Str.Lossy.{utf8_valid_len}
 use Rattle.statement_syntax.specs.Types.{Spot, Token, Fault, Fault as fault, Placed, Stop, stop, SyntaxFault, SyntaxFault as refusal, Language}
+use Rattle.statement_tokens.specs.Fault.{code_of}
 use Rattle.statement_tokens.specs.Language.{language_of}
 use Rattle.statement_tokens.specs.Tokens.{AreTokens, IsFirstScanFault}
 use Rattle.statement_syntax.specs.Grammar.{StatedLine, IsFileOf, file_tokens, FileFits}
-
--- the number that is printed for a fault
-abbrev pub code_of : Fault → ℕ
-code_of fault.NotUtf8 = 1
-code_of fault.BadToken = 2
-code_of fault.Expected = 3
-code_of fault.LiteralTooLarge = 4
-code_of fault.TooDeep = 5
 
 -- the tokens are a prefix of some file of the language
 abbrev pub GoesOn : Language → List Token → Type 0
@@ -34,16 +27,18 @@ pub record IsMisfit (bytes : List ℕ) (at : Spot) : Type 0 where
   pub before : GoesOnWithin (language_of (front ++ token ∷ rest)) front
   pub there : GoesOnWithin (language_of (front ++ token ∷ rest)) (front ++ token ∷ []) → ⊥
 
--- the fault is the first of the bytes, at this place
-abbrev pub IsFirstFault : List ℕ → Fault → Spot → Type 0
--- the place is the number of valid bytes
-IsFirstFault bytes fault.NotUtf8 at = (IsUtf8 bytes → ⊥) × (at ≡ record { line = 0; column = utf8_valid_len bytes })
-IsFirstFault bytes fault.BadToken at = IsUtf8 bytes × IsFirstScanFault (chars bytes) fault.BadToken at
-IsFirstFault bytes fault.LiteralTooLarge at = IsUtf8 bytes × IsFirstScanFault (chars bytes) fault.LiteralTooLarge at
--- no file of the language has the tokens up to this one as a prefix, whatever the limit
-IsFirstFault bytes fault.Expected at = (m : IsMisfit bytes at) × (GoesOn (language_of (m.front ++ m.token ∷ m.rest)) (m.front ++ m.token ∷ []) → ⊥)
--- some file has, but none within the limit
-IsFirstFault bytes fault.TooDeep at = (m : IsMisfit bytes at) × GoesOn (language_of (m.front ++ m.token ∷ m.rest)) (m.front ++ m.token ∷ [])
+-- after the token of the misfit too the tokens are a prefix of some file of the language, whatever the limit
+abbrev pub GoesOnPast : (bytes : List ℕ) (at : Spot) → IsMisfit bytes at → Type 0
+GoesOnPast bytes at m = GoesOn (language_of (m.front ++ m.token ∷ m.rest)) (m.front ++ m.token ∷ [])
+
+-- The fault is the first of the bytes, at this place.
+pub data IsFirstFault (bytes : List ℕ) (f : Fault) (at : Spot) : Type 0 where
+  -- the place is the number of valid bytes
+  not_utf8 : f ≡ fault.NotUtf8 → (IsUtf8 bytes → ⊥) → at ≡ record { line = 0; column = utf8_valid_len bytes } → IsFirstFault bytes f at
+  -- a bad token, or a literal that is too large
+  no_token : IsUtf8 bytes → IsFirstScanFault (chars bytes) f at → IsFirstFault bytes f at
+  expected : f ≡ fault.Expected → (m : IsMisfit bytes at) → (GoesOnPast bytes at m → ⊥) → IsFirstFault bytes f at
+  too_deep : f ≡ fault.TooDeep → (m : IsMisfit bytes at) → GoesOnPast bytes at m → IsFirstFault bytes f at
 
 -- the refusal has the first fault of the bytes
 abbrev pub TellsFirstFault : List ℕ → SyntaxFault → Type 0

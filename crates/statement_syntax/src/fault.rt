@@ -43,15 +43,8 @@ impl<T: Drop> From<AllocFailed<T>> for SyntaxFault {
 pub fn fault_at(fault: Fault, at: Spot) -> SyntaxFault
     ensures { result ≡ fault_at fault at }
 {
-    let code = match fault {
-        Fault::NotUtf8 => 1,
-        Fault::BadToken => 2,
-        Fault::Expected => 3,
-        Fault::LiteralTooLarge => 4,
-        Fault::TooDeep => 5,
-    };
     SyntaxFault::Fault {
-        code,
+        code: fault.code(),
         line: at.line,
         column: at.column,
     }

@@ -1,17 +1,14 @@
 -- Each text has one list of tokens or one first fault, and the scanner reads them.
-use Rattle.std.proofs.Common.{◌≡◌, ℕ, ◌≤◌, ◌&&◌, Bool, true, false, zero, suc, List, [], ◌∷◌, ◌++◌, length, Option}
+use Rattle.std.proofs.Common.{◌≡◌, ℕ, ◌≤◌, ◌&&◌, true, false, zero, suc, List, [], ◌∷◌, ◌++◌, length, Option}
 use Rattle.std.proofs.Common.{Some, None, Result, Ok, Err, refl, sym, ap, subst, ◌∙◌, append_assoc, append-nil, length-append, arith, inl, inr}
-use Rattle.std.specs.Prelude.{◌^◌, nat_le, nat_lt, if◌then◌else◌, IfSome}
-use Rattle.std.specs.Str.{encode_utf8_all}
 use Rattle.std.proofs.lemmas.Bool.{and_right}
-use Rattle.statement_tokens.specs.Types.{Spot, Token, TokenKind as kind, Language, First, Fault, BadToken, LiteralTooLarge, Placed, Scanner}
+use Rattle.statement_tokens.specs.Types.{Spot, Token, TokenKind as kind, Fault, BadToken, Placed, Scanner}
 use Rattle.statement_tokens.specs.Types.{Stop, stop}
-use Rattle.statement_tokens.specs.Limits.{name_limit}
 use Rattle.statement_tokens.specs.Language.{is_language_word, is_two, language_of}
 use Rattle.statement_tokens.specs.Pieces.{Piece, line_feed, name, literal}
 use Rattle.statement_tokens.specs.Pieces.{sign, sign_text, piece_text, pieces_text, is_some, is_piece, IsLongest, BeginsNone}
 use Rattle.statement_tokens.specs.Tokens.{behind, place_behind, tokens_with, past_behind, tokens_at, sign_fault, fault_of, AreGood, AreTokens}
-use Rattle.statement_tokens.specs.Tokens.{Begins, value_from, end_of}
+use Rattle.statement_tokens.specs.Tokens.{Begins, end_of}
 use Rattle.statement_tokens.specs.Laws.{HasTokensOrFault, EachTextHasTokensOrFault, TokensAreUnique, FirstScanFaultsAreUnique, TokensHaveNoFault}
 use Rattle.statement_tokens.specs.Scanned.{TellsBehind, Tells, Leaves, Hands, with_front}
 use Rattle.statement_tokens.proofs.Reading.{tokens_from, tokens_of, unread, HandsRead}
@@ -38,26 +35,6 @@ same_fault before more (sign kind.Caret) at past =
     ap (λ ts. sign_fault kind.Caret (language_of ts)) (append_assoc before (record { at = at; kind = kind.Caret } ∷ []) more)
     ∙ ap (sign_fault kind.Caret) (same_language before more at)
 same_fault before more piece at past = refl
-
--- the fault of a piece is that it is no token, or a literal that is too large
-abbrev pub IsScanFault : Fault → Type 0
-IsScanFault BadToken = Unit {0}
-IsScanFault LiteralTooLarge = Unit {0}
-IsScanFault f = ⊥
-
-by_test : (b : Bool) (f : Fault) → IsScanFault f → IfSome (if b then None else Some f) IsScanFault
-by_test true f is = tt
-by_test false f is = is
-
-fault_scanned : (piece : Piece) (language : Language) → IfSome (fault_of language piece) IsScanFault
-fault_scanned (name cs) language = by_test (nat_le (length (encode_utf8_all cs)) name_limit) BadToken tt
-fault_scanned (literal cs) language = by_test (nat_lt (value_from 0 cs) (2 ^ 127)) LiteralTooLarge tt
-fault_scanned (sign kind.Caret) First = tt
-fault_scanned piece language = tt
-
-pub begins_scanned : (language : Language) (text : List ℕ) (f : Fault) → Begins language text f → IsScanFault f
-begins_scanned language text f (inl (piece, rest, cut, longest, has)) = subst (λ o. IfSome o IsScanFault) has (fault_scanned piece language)
-begins_scanned language text f (inr (c, rest, cut, none, is)) = rw is tt
 
 abbrev past_after : List Piece → Spot → ℕ → ℕ
 past_after [] at past = past

@@ -1,4 +1,5 @@
 pub mod Types
+pub mod Fault
 pub mod Limits
 pub mod Language
 pub mod Pieces

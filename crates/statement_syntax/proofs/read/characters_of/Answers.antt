@@ -1,0 +1,7 @@
+use Rattle.std.proofs.Common.{rules, refl}
+use Rattle.statement_tokens.specs.declared.fault.Fault.TheVariants.{NotUtf8}
+use Rattle.statement_syntax.specs.Fault.{not_utf8}
+use Rattle.statement_syntax.proofs.read.characters_of.Goals as goal
+
+pub returns-in-Err : goal.returns-in-Err
+returns-in-Err c = rw c.fault_at.ensures (NotUtf8, refl, not_utf8 refl (search rules) (search rules))
