@@ -38,6 +38,8 @@ use Rattle.outcome_laws.specs.Existence.{HasRound}
 use Rattle.confluence.proofs.Ends.{Gives, normal_form_gives}
 use Rattle.outcome_laws.proofs.Evidence.{IsExact, expansion_exact, gathered_exact}
 use Rattle.outcome_laws.proofs.Rounds.{has_cause, has_round}
+use Rattle.outcome_laws.proofs.OpenRuns.{open_run}
+use Rattle.outcome_laws.proofs.RoundEnds.{zero_ends}
 
 -- evidence
 expansion_cause : (e : ExpandFault) → (expanding.IsMemory e → ⊥) → (c : Cause) × IsCauseOfExpansion e c
@@ -66,27 +68,18 @@ proved : (form : Format) (number : ℕ) (at : Place) (made : List Made) (claim :
 proved format.Plain number at made claim = expands number at (expansion_of made claim) (expansion_exact made claim)
 proved format.Lemmas number at made claim = gathers at (gathered_of number made claim) (gathered_exact number made claim)
 
--- round 0 closes no run
-not_closed : (treated : List Ambiguity) (r : Result Recorded ReduceFault) → Ends 0 None treated r closed → ⊥
-not_closed treated (Ok r) is = cc
-not_closed treated (Err e) given = cc (given.stops)
-
 module _ (setting : Setting) (claim : List Term) where
-  open_run : (n : ℕ) (s : RunState) → IsOpen setting claim n s → IsRunState setting n s
-  open_run zero s is_open = is_open.1
-  open_run (suc n) s is_open = record { before = is_open.before; is_before = open_run n is_open.before is_open.is_before; round = is_open.round }
-
   -- the state with which a claim gets its outcome is one of the run
   pub run_of : (form : Format) (number rounds : ℕ) (s : RunState) (o : Outcome) → GetsOutcome setting form number claim rounds s o → IsRunState setting rounds s
   run_of form number rounds s o (at_once no_terms none_yet at_start is) = subst (λ n. IsRunState setting n s) (sym none_yet) at_start
   run_of form number rounds s o (after_round n before more is_open round done) =
-      subst (λ k. IsRunState setting k s) (sym more) (record { before = before; is_before = open_run n before is_open; round = round })
-  run_of form number rounds s o (by_closing is_open round closes) = open_run rounds s is_open
-  run_of form number rounds s o (by_stop halt is_open round is) = open_run rounds s is_open
+      subst (λ k. IsRunState setting k s) (sym more) (record { before = before; is_before = open_run setting claim n before is_open; round = round })
+  run_of form number rounds s o (by_closing is_open round closes) = open_run setting claim rounds s is_open
+  run_of form number rounds s o (by_stop halt is_open round is) = open_run setting claim rounds s is_open
 
   -- a run that closes leaves a rest of a claim that is open
   left_at_closing : (n : ℕ) (s : RunState) → IsOpen setting claim n s → IsRound setting n s closed → (rest : List Term) × IsLeft setting s.rules claim rest
-  left_at_closing zero s is_open round = absurd (not_closed s.treated round.result round.ends)
+  left_at_closing zero s is_open round = absurd (zero_ends setting s closed round)
   left_at_closing (suc n) s is_open round = (is_open.rest, is_open.left)
 
   module _ (canonical : IsCanonical claim) where
@@ -134,7 +127,7 @@ module _ (setting : Setting) (claim : List Term) where
         -- An open claim gets its outcome, since there are no more rounds than the first number allows.
         got_from : (fuel n : ℕ) (s : RunState) → IsOpen setting claim n s → suc (suc setting.budget.pairs) ≤ n + fuel → Got
         got_from zero n s is_open enough =
-            let bounded = states_bounded setting n s (open_run n s is_open) in
+            let bounded = states_bounded setting n s (open_run setting claim n s is_open) in
             absurd (omega (arith, enough, bounded.few_rounds, bounded.few_treated))
         got_from (suc fuel) n s is_open enough = go (has_round setting generators letters rank laws n s) (λ t still_open. got_from fuel (suc n) t still_open (omega (arith, enough)))
           where

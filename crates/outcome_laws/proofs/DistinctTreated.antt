@@ -13,9 +13,9 @@ use Rattle.ambiguities.specs.Listed.{IsBefore}
 use Rattle.ambiguities.specs.declared.waiting.Waiting.{Waiting}
 use Rattle.ambiguities.specs.Order.{IsWaitingBefore}
 use Rattle.traced_completion.specs.Pending.{AreAllPending, ambiguities_of}
-use Rattle.traced_completion.specs.PlainRun.{Setting, RunState, IsRunState, taken_count}
+use Rattle.traced_completion.specs.PlainRun.{went, Setting, RunState, IsRunState, taken_count}
 use Rattle.outcome_laws.proofs.Listed.{none_listed, value_of}
-use Rattle.outcome_laws.proofs.TreatedRounds.{took_first, zero_treats_none}
+use Rattle.outcome_laws.proofs.RoundEnds.{zero_ends, later_ends}
 
 module _ {X : Type 0} (R : X → X → Type 0) where
   pairs_rest : (x : X) (xs : List X) → AllPairs R (x ∷ xs) → AllPairs R xs
@@ -74,13 +74,13 @@ module _ (letters : ℕ) (compare : Compare) (rank : List ℕ → List ℕ) (law
   pub distinct_treated : (setting : Setting) → setting.compare ≡ compare → (n : ℕ) (s : RunState) → IsRunState setting n s → AllPairs (λ (a b : Ambiguity). a ≢ b) s.treated
   distinct_treated setting order zero s is = subst (λ (x : RunState). AllPairs (λ (a b : Ambiguity). a ≢ b) x.treated) (sym is) (λ i j d before inside. absurd (omega (arith, inside)))
   distinct_treated setting order (suc zero) s is =
-      subst (AllPairs (λ (a b : Ambiguity). a ≢ b)) (sym (zero_treats_none setting is.before s is.round)) (distinct_treated setting order zero is.before is.is_before)
+      subst (AllPairs (λ (a b : Ambiguity). a ≢ b)) (sym (zero_ends setting is.before (went s) is.round).1) (distinct_treated setting order zero is.before is.is_before)
   distinct_treated setting order (suc (suc n)) s is =
       let before = is.before in
-      let round = took_first setting n before s is.round in
-      let pending = round.first ∷ round.others in
+      let round = later_ends setting before (suc n) (went s) is.round in
+      let pending = round.takes.first ∷ round.takes.others in
       let count = taken_count setting.budget before pending in
-      let all : AreAllPending compare before.rules before.treated pending = subst (λ c. AreAllPending c before.rules before.treated pending) order round.all_pending in
+      let all : AreAllPending compare before.rules before.treated pending = subst (λ c. AreAllPending c before.rules before.treated pending) order round.takes.all_pending in
       subst (AllPairs (λ (a b : Ambiguity). a ≢ b)) (sym round.treated)
       (pairs_append (λ (a b : Ambiguity). a ≢ b) before.treated (ambiguities_of (take count pending)) (distinct_treated setting order (suc n) before is.is_before)
       (firsts_apart before.rules count pending (λ w at. ((all.members w).0 at).overlap) all.ascending)

@@ -29,8 +29,7 @@ use Rattle.cofactor_trace.specs.Ranges.{IsRanged}
 use Rattle.cofactor_trace.proofs.Divisors.{quotient_positive, product_positive, content-first, content-positive, common_multiple-positive}
 use Rattle.cofactor_trace.proofs.GatheredParts.{parts, each_part, lemma_record_each}
 use Rattle.cofactor_trace.proofs.Passes.{each_with}
-use Rattle.outcome_laws.proofs.Results.{fits_first, none_append}
-use Rattle.outcome_laws.proofs.RunsKept.{same_value}
+use Rattle.outcome_laws.proofs.Results.{same_value, fits_first, none_append}
 use Rattle.outcome_laws.proofs.EvidenceWords.{needed_each}
 
 -- a quotient is no larger

@@ -1,11 +1,10 @@
 pub use Rattle.word_orders.proofs.AskedOrders
 pub mod Adding
 pub mod RunsKept
-pub mod LaterRounds
+pub mod RoundEnds
+pub mod Walks
 pub mod WholeRuns
 pub mod Turns
-pub mod RangedReductions
-pub mod RangedRuns
 pub mod ProblemPolynomials
 pub mod OpenRuns
 pub mod Derivations
@@ -16,7 +15,6 @@ pub mod SPolynomialFaults
 pub mod CertificateFaults
 pub mod DistinctTreated
 pub mod ReductionCauses
-pub mod MadeRules
 pub mod RoundFaults
 pub mod MadeStates
 pub mod RoundCauses
@@ -48,7 +46,6 @@ pub mod Squares
 pub mod Cells
 pub mod LettersInPlay
 pub mod Counting
-pub mod TreatedRounds
 pub mod FewTreated
 pub mod Stops
 pub mod Outcomes

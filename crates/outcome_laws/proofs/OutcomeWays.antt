@@ -22,6 +22,7 @@ use Rattle.traced_completion.specs.PlainRun.{Setting, RunState, stopped, IsRound
 use Rattle.claim_decider.specs.declared.outcome.Outcome.{Outcome}
 use Rattle.claim_decider.specs.declared.outcome.Outcome.TheVariants as outcome
 use Rattle.claim_decider.specs.Outcomes.{IsHalted, record_of, certificate_of, Expands, Gathers, IsProved, evidence_of_zero, IsLeft, IsDoneWith, IsDoneBy, IsDone, IsOpen, GetsOutcome, at_once, after_round, by_closing, by_stop}
+use Rattle.outcome_laws.proofs.OpenRuns.{open_run}
 
 -- The claim is reduced to zero by the rules of a state.
 pub record IsProvedBy (setting : Setting) (claim : List Term) : Type 0 where
@@ -75,13 +76,8 @@ module _ (setting : Setting) (form : Format) (number : ℕ) (claim : List Term) 
       go (Ok reduced) ends is = with_rest reduced ends reduced.rest refl is
       go (Err e) ends is = halted_way _ (place.Claim round) is
 
-  -- an open claim's rounds are those of the run
-  open_run : (n : ℕ) (s : RunState) → IsOpen setting claim n s → IsRunState setting n s
-  open_run zero s open_yet = open_yet.1
-  open_run (suc n) s open_yet = record { before = open_yet.before; is_before = open_run n open_yet.before open_yet.is_before; round = open_yet.round }
-
   pub way : (rounds : ℕ) (s : RunState) → GetsOutcome setting form number claim rounds s o → Ways
   way rounds s (at_once none none_yet at_start is) = no_terms is
-  way rounds s (after_round n before more is_open round done) = done_way n (suc n) s (record { before = before; is_before = open_run n before is_open; round = round }) done
-  way rounds s (by_closing is_open round closes) = left_over rounds s (open_run rounds s is_open) closes.rest closes.left closes.closes
-  way rounds s (by_stop halt is_open round is) = with_run rounds s halt (open_run rounds s is_open) round is
+  way rounds s (after_round n before more is_open round done) = done_way n (suc n) s (record { before = before; is_before = open_run setting claim n before is_open; round = round }) done
+  way rounds s (by_closing is_open round closes) = left_over rounds s (open_run setting claim rounds s is_open) closes.rest closes.left closes.closes
+  way rounds s (by_stop halt is_open round is) = with_run rounds s halt (open_run setting claim rounds s is_open) round is

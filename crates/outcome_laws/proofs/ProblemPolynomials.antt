@@ -83,8 +83,8 @@ module _ (problem : Problem) where
       all_typed (quiver_of problem.parts.quiver) (letter_count problem.parts.quiver) (letters-quiver_of problem.parts.quiver) problem.generators
       (generators_have_signatures problem.parts problem.posed problem.generators problem.closed)
 
-  pub generators_shaped : (n : ℕ) → IsShaped (generator_at (polynomials problem.generators) n)
-  generators_shaped n = (one_typed (quiver_of problem.parts.quiver) (letter_count problem.parts.quiver) (letters-quiver_of problem.parts.quiver) (polynomials problem.generators) generators_are n).shaped
+  pub generator_is : (n : ℕ) → IsGenerator (quiver_of problem.parts.quiver) any_letter (letter_count problem.parts.quiver) (generator_at (polynomials problem.generators) n)
+  generator_is = one_typed (quiver_of problem.parts.quiver) (letter_count problem.parts.quiver) (letters-quiver_of problem.parts.quiver) (polynomials problem.generators) generators_are
 
   pub claim_is : (number : ℕ) → IsGenerator (quiver_of problem.parts.quiver) any_letter (letter_count problem.parts.quiver) (claim_at problem number)
   claim_is number =

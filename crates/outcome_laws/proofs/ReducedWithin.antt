@@ -29,8 +29,7 @@ use Rattle.rule_reduce.proofs.Chosen.{found}
 use Rattle.rule_reduce.proofs.Numbers.{rule_at-all}
 use Rattle.rule_reduce.proofs.Runs.{move_result-value}
 use Rattle.nc_polynomial.specs.Limits.{word_limit, term_limit}
-use Rattle.outcome_laws.proofs.Results.{fits_first, none_append}
-use Rattle.outcome_laws.proofs.RunsKept.{same_value}
+use Rattle.outcome_laws.proofs.Results.{same_value, fits_first, none_append}
 use Rattle.outcome_laws.proofs.EvidenceRanges.{quotient_in_range}
 
 -- no word has more letters than the limit, and the integers are coefficients
