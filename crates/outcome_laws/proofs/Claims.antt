@@ -1,5 +1,5 @@
 -- Each claim has an outcome, since its run is finite.
-use Rattle.std.proofs.Common.{◌≡◌, ◌⊎◌, inl, inr, ◌≤◌, ◌+◌, ℕ, zero, suc, true, List, [], ◌∷◌, length, None, Result, Ok, Err, refl, sym, ap, subst, arith}
+use Rattle.std.proofs.Common.{◌≡◌, ◌⊎◌, inl, inr, ◌≤◌, ◌+◌, ℕ, zero, suc, true, List, [], ◌∷◌, length, Result, Ok, Err, refl, sym, ap, subst, arith}
 use Rattle.definitions.specs.Poly.{Term}
 use Rattle.definitions.specs.Combination.{generator_at}
 use Rattle.word_orders.specs.Admissible.{IsAdmissible}
@@ -27,9 +27,7 @@ use Rattle.rule_reduce.specs.declared.rule.Rule.{Rule}
 use Rattle.rule_reduce.specs.declared.state.State.{State}
 use Rattle.rule_reduce.specs.declared.fault.ReduceFault.{ReduceFault}
 use Rattle.rule_reduce.specs.NormalForms.{normal_form_of}
-use Rattle.ambiguities.specs.declared.ambiguity.Ambiguity.{Ambiguity}
-use Rattle.rule_making.specs.Making.{Recorded}
-use Rattle.traced_completion.specs.PlainRun.{Setting, RunState, Outcome as RoundOutcome, start, went, closed, stopped, IsCauseOf, Ends, IsRound, IsRunState}
+use Rattle.traced_completion.specs.PlainRun.{Setting, RunState, Outcome as RoundOutcome, start, went, closed, stopped, IsCauseOf, IsRound, IsRunState}
 use Rattle.traced_completion.proofs.RunStates.{states_bounded}
 use Rattle.claim_decider.specs.declared.outcome.Outcome.{Outcome}
 use Rattle.claim_decider.specs.declared.outcome.Outcome.TheVariants as outcome

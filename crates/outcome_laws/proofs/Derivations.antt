@@ -1,14 +1,11 @@
 -- What is made of a claim that a run reduces to zero: evidence that adds up, or a halt, and it follows in any case.
 use Rattle.std.proofs.Common.{◌≡◌, ℕ, List, [], length, Ok, sym, ap, ◌∙◌, subst, append-nil}
-use Rattle.std.proofs.lemmas.List.Elements.{All-weaker}
 use Rattle.definitions.specs.Poly.{Term, coefficient_of, poly_sum}
 use Rattle.definitions.specs.Combination.{IsCombination, InRationalIdeal}
-use Rattle.traced_rows.specs.declared.Row.{Row}
-use Rattle.traced_rows.specs.declared.Made.{Made}
 use Rattle.traced_rows.specs.declared.certificate.Cofactors.{Cofactors}
 use Rattle.traced_rows.specs.declared.evidence.LemmaCertificate.{LemmaCertificate}
 use Rattle.traced_rows.specs.Traces.{traced_sum}
-use Rattle.cofactor_trace.specs.Needed.{IsAmongFirst, IsRecord, AreRecords, expansion_of}
+use Rattle.cofactor_trace.specs.Needed.{IsRecord, AreRecords, expansion_of}
 use Rattle.cofactor_trace.specs.Lemmas.{gathered_of}
 use Rattle.cofactor_trace.specs.Laws.{Traces}
 use Rattle.traced_rows.specs.Rows.{rows_of}

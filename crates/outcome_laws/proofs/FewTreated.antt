@@ -28,7 +28,7 @@ use Rattle.traced_completion.specs.Limits.{round_limit}
 use Rattle.traced_completion.specs.declared.budget.Budget.{Budget}
 use Rattle.ambiguities.specs.declared.waiting.Waiting.{Waiting}
 use Rattle.traced_completion.specs.Pending.{AreAllPending, ambiguities_of}
-use Rattle.traced_completion.specs.PlainRun.{went, Setting, RunState, IsRunState, taken_count, setting_of}
+use Rattle.traced_completion.specs.PlainRun.{went, Setting, RunState, taken_count, setting_of}
 use Rattle.ambiguities.proofs.Ascending.{contains-first}
 use Rattle.traced_completion.proofs.StoreLemmas.{pending-over}
 use Rattle.claim_decider.specs.Outcomes.{IsOpen}
@@ -37,11 +37,10 @@ use Rattle.outcome_laws.proofs.RunsKept.{BeginsWith}
 use Rattle.outcome_laws.proofs.WholeRuns.{first_is_least_pending}
 use Rattle.word_orders.proofs.AskedOrders.{asked_rank}
 use Rattle.outcome_laws.proofs.OpenRuns.{open_run, open_not_below}
-use Rattle.outcome_laws.proofs.ProblemPolynomials.{turns_in_range}
 use Rattle.outcome_laws.specs.Enough.{letters_in_play, enough_pairs, IsShownBelow, OpenRunsTreatFew}
 use Rattle.outcome_laws.proofs.Cells.{HaveDistinctLeads, IsShort, short_are_few}
 use Rattle.outcome_laws.proofs.Counting.{HasFirsts, none_taken, firsts_weaker, distinct_more, asked_more, firsts_more}
-use Rattle.outcome_laws.proofs.LettersInPlay.{problem_play, generators_in_play, all_in}
+use Rattle.outcome_laws.proofs.LettersInPlay.{problem_play, all_in}
 use Rattle.outcome_laws.proofs.ProblemStates.{order_laws, state_kept, rules_begin}
 use Rattle.outcome_laws.proofs.RoundEnds.{zero_ends, later_ends}
 

@@ -1,5 +1,5 @@
 -- The rules of each state of the run of a problem are made one after another, and its records are theirs.
-use Rattle.std.proofs.Common.{◌≡◌, ◌≤◌, ℕ, zero, suc, Bool, true, false, List, [], ◌∷◌, ◌++◌, map, length, take, nat_le, Some, None, Result, Ok, Err, refl, sym, ap, subst, arith, append-nil}
+use Rattle.std.proofs.Common.{ℕ, List, [], ◌∷◌, refl, sym, subst, arith}
 use Rattle.std.proofs.lemmas.List.{length-map}
 use Rattle.definitions.specs.Poly.{Term}
 use Rattle.definitions.specs.Combination.{generator_at}
@@ -7,11 +7,10 @@ use Rattle.word_orders.specs.Admissible.{Compare}
 use Rattle.word_orders.specs.Specified.{asked_cmp}
 use Rattle.word_orders.proofs.AskedOrders.{asked_rank}
 use Rattle.nc_polynomial.specs.Shape.{IsShaped}
-use Rattle.quiver.specs.Declarations.{letter_count, quiver_of}
+use Rattle.quiver.specs.Declarations.{letter_count}
 use Rattle.traced_rows.specs.declared.Row.{Row}
 use Rattle.rule_reduce.specs.declared.rule.Rule.{Rule}
 use Rattle.rule_reduce.specs.declared.state.State.{State}
-use Rattle.rule_reduce.specs.NormalForms.{normal_form_of}
 use Rattle.ambiguities.specs.declared.ambiguity.Ambiguity.{Ambiguity}
 use Rattle.ambiguities.proofs.Balance.{s_polynomials_balance}
 use Rattle.adjoint_rules.specs.declared.problem.Problem.{Problem}
@@ -19,7 +18,6 @@ use Rattle.adjoint_rules.specs.Problem.{polynomials}
 use Rattle.confluence.proofs.ShapeLaws.{normal_forms_are_shaped, s_polynomials_are_shaped}
 use Rattle.rule_making.specs.Making.{Recorded, rest_with, leads_negative, Adds}
 use Rattle.traced_completion.specs.declared.budget.Budget.{Budget}
-use Rattle.outcome_laws.specs.ReductionSteps.{unreduced, Leaves}
 use Rattle.outcome_laws.specs.Causes.{IsFirstReduction, IsLeftBy, from_generator, from_ambiguity, AreMade, no_rule, one_more}
 use Rattle.outcome_laws.proofs.ProblemPolynomials.{generator_is}
 use Rattle.outcome_laws.proofs.ReductionFaults.{normal_form_leaves}

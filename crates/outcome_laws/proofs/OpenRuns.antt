@@ -1,5 +1,5 @@
 -- What holds of a run while a claim is open, where it closes, and where it stops.
-use Rattle.std.proofs.Common.{◌≡◌, ◌<◌, ℕ, zero, suc, Bool, true, false, List, [], ◌∷◌, ◌++◌, length, nat_le, take, Option, Some, None, Result, Ok, Err, sym, ap, ◌∙◌, subst, arith}
+use Rattle.std.proofs.Common.{◌≡◌, ◌<◌, ℕ, zero, suc, List, [], ◌∷◌, length, Some, None, Ok, sym, ap, ◌∙◌, subst, arith}
 use Rattle.definitions.specs.Poly.{Term}
 use Rattle.definitions.specs.Combination.{InRationalIdeal}
 use Rattle.nc_polynomial.specs.Shape.{IsShaped}
@@ -11,9 +11,7 @@ use Rattle.word_orders.specs.Specified.{asked_cmp}
 use Rattle.quiver.specs.Declarations.{letter_count, quiver_of}
 use Rattle.rule_reduce.specs.declared.rule.Rule.{Rule}
 use Rattle.rule_reduce.specs.declared.state.State.{State}
-use Rattle.rule_reduce.specs.declared.fault.ReduceFault.{ReduceFault}
 use Rattle.rule_reduce.specs.NormalForms.{normal_form_of}
-use Rattle.ambiguities.specs.declared.ambiguity.Ambiguity.{Ambiguity}
 use Rattle.ambiguities.specs.Resolved.{ComesBelow}
 use Rattle.adjoint_rules.specs.declared.problem.Problem.{Problem}
 use Rattle.adjoint_rules.specs.Problem.{polynomials}
@@ -25,13 +23,12 @@ use Rattle.confluence.proofs.OutsideIdeals.{nonzero_is_outside, nonzero_is_not_b
 use Rattle.confluence.proofs.ShapeLaws.{normal_forms_are_shaped}
 use Rattle.traced_completion.specs.declared.budget.Budget.{Budget}
 use Rattle.ambiguities.specs.declared.waiting.Waiting.{Waiting}
-use Rattle.rule_making.specs.Making.{Recorded}
-use Rattle.traced_completion.specs.Pending.{AreAllPending, ambiguities_of}
-use Rattle.traced_completion.specs.PlainRun.{Setting, RunState, went, closed, stopped, Ends, taken_count, TreatsFirst, TreatsPending, IsRound, IsRunState, setting_of}
+use Rattle.traced_completion.specs.Pending.{AreAllPending}
+use Rattle.traced_completion.specs.PlainRun.{Setting, RunState, closed, stopped, IsRound, IsRunState, setting_of}
 use Rattle.claim_decider.specs.Outcomes.{IsLeft, IsOpen}
 use Rattle.outcome_laws.proofs.Adding.{nonzero}
 use Rattle.outcome_laws.proofs.RunsKept.{letters_below}
-use Rattle.outcome_laws.proofs.ProblemPolynomials.{any_letter, generators_are, claim_is, claim_letters, turns_in_range, all_have_turns}
+use Rattle.outcome_laws.proofs.ProblemPolynomials.{any_letter, generators_are, claim_is, claim_letters, all_have_turns}
 use Rattle.word_orders.proofs.AskedOrders.{asked_rank}
 use Rattle.outcome_laws.proofs.ProblemStates.{order_laws, state_kept}
 use Rattle.outcome_laws.proofs.RoundEnds.{StopsLater, pairs_spent, gives_up, zero_ends, later_ends}

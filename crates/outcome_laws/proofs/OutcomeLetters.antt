@@ -1,11 +1,9 @@
 -- The letters of outcomes and of last rules are letters of the quiver.
-use Rattle.std.proofs.Common.{◌≡◌, ◌<◌, ℕ, List, get_or, Option, Some, None, Ok, refl, sym, subst, arith}
+use Rattle.std.proofs.Common.{◌≡◌, ◌<◌, ℕ, List, Option, Some, None, Ok, refl, sym, subst}
 use Rattle.std.specs.List.{All}
-use Rattle.std.proofs.lemmas.Bool.Decides.{nat_tests}
 use Rattle.std.proofs.lemmas.List.Elements.{All-nil, All-append, All-map, All-pop, All-weaker}
 use Rattle.definitions.specs.Poly.{Term}
 use Rattle.word_core.specs.Letters.{IsOver}
-use Rattle.nc_polynomial.specs.declared.poly.Poly.{Poly}
 use Rattle.traced_rows.specs.declared.certificate.Cofactors.{Cofactors}
 use Rattle.traced_rows.specs.declared.certificate.CertRow.{CertRow}
 use Rattle.traced_rows.specs.declared.evidence.LemmaRow.{LemmaRow}
@@ -21,16 +19,11 @@ use Rattle.rule_reduce.specs.declared.rule.Rule.{Rule}
 use Rattle.rule_reduce.specs.RuleLists.{IsRule}
 use Rattle.quiver.specs.Declarations.{Declaration, letter_count}
 use Rattle.adjoint_rules.specs.declared.problem.Problem.{Problem}
-use Rattle.adjoint_rules.specs.Problem.{polynomials, HasLettersInPlay, IsInPlay, numbers}
 use Rattle.adjoint_rules.specs.Claims.{claim_at}
 use Rattle.certificate_text.specs.Evidence.{IsRowOver, IsLemmaRowOver}
 use Rattle.certificate_text.specs.Written.{IsLemmaOver, IsEvidenceOver}
 use Rattle.traced_completion.specs.declared.budget.Budget.{Budget}
-use Rattle.traced_completion.specs.Reductions.{IsReducible}
-use Rattle.traced_completion.specs.RunLaws.{HasWords}
 use Rattle.traced_completion.specs.PlainRun.{Setting, RunState, IsRunState, setting_of}
-use Rattle.traced_completion.proofs.ReducibleGenerators.{generators_reducible}
-use Rattle.traced_completion.proofs.RunStates.{states_rules}
 use Rattle.claim_decider.specs.declared.outcome.Outcome.{Outcome}
 use Rattle.claim_decider.specs.Outcomes.{evidence_of_zero, record_of, certificate_of}
 use Rattle.quiver.specs.Over.{IsPolyOver}
@@ -38,9 +31,8 @@ use Rattle.report_text.specs.Report.{IsLeastOver}
 use Rattle.outcome_laws.specs.OutcomeLetters.{IsOutcomeOver, OutcomesHaveLetters, LastRulesHaveLetters}
 use Rattle.outcome_laws.proofs.EvidenceWords.{expanded_words, gathered_words}
 use Rattle.outcome_laws.proofs.OutcomeWays.{Way, no_terms, expanded, gathered, left_over, given_up, with_run, way, IsProvedBy}
-use Rattle.ambiguities.proofs.OverLetters.{AreOver, IsOverRow, reduced_over}
+use Rattle.ambiguities.proofs.OverLetters.{IsOverRow, reduced_over}
 use Rattle.outcome_laws.proofs.OverRuns.{records_over, least_over}
-use Rattle.outcome_laws.proofs.Results.{generator_all}
 use Rattle.outcome_laws.proofs.ProblemPolynomials.{claim_is}
 use Rattle.outcome_laws.proofs.ProblemStates.{state_kept}
 

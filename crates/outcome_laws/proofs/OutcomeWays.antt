@@ -1,5 +1,5 @@
 -- In what ways a claim gets its outcome: each with the state of the run by whose rules and records it comes.
-use Rattle.std.proofs.Common.{◌≡◌, ℕ, zero, suc, List, [], ◌∷◌, None, Result, Ok, Err, refl}
+use Rattle.std.proofs.Common.{◌≡◌, ℕ, suc, List, [], ◌∷◌, None, Result, Ok, Err, refl}
 use Rattle.definitions.specs.Poly.{Term}
 use Rattle.nc_polynomial.specs.declared.poly.Poly.{Poly}
 use Rattle.traced_rows.specs.declared.certificate.Cofactors.{Cofactors}
@@ -21,7 +21,7 @@ use Rattle.rule_reduce.specs.NormalForms.{normal_form_of}
 use Rattle.traced_completion.specs.PlainRun.{Setting, RunState, stopped, IsRound, IsRunState}
 use Rattle.claim_decider.specs.declared.outcome.Outcome.{Outcome}
 use Rattle.claim_decider.specs.declared.outcome.Outcome.TheVariants as outcome
-use Rattle.claim_decider.specs.Outcomes.{IsHalted, record_of, certificate_of, Expands, Gathers, IsProved, evidence_of_zero, IsLeft, IsDoneWith, IsDoneBy, IsDone, IsOpen, GetsOutcome, at_once, after_round, by_closing, by_stop}
+use Rattle.claim_decider.specs.Outcomes.{IsHalted, record_of, certificate_of, Expands, Gathers, IsProved, evidence_of_zero, IsLeft, IsDoneWith, IsDoneBy, IsDone, GetsOutcome, at_once, after_round, by_closing, by_stop}
 use Rattle.outcome_laws.proofs.OpenRuns.{open_run}
 
 -- The claim is reduced to zero by the rules of a state.

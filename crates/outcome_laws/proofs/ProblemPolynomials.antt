@@ -11,7 +11,6 @@ use Rattle.definitions.specs.Soundness.{HasSignature}
 use Rattle.definitions.proofs.Paths.{step}
 use Rattle.word_core.specs.Letters.{IsOver}
 use Rattle.nc_polynomial.specs.declared.poly.Poly.{Poly}
-use Rattle.nc_polynomial.specs.Shape.{IsShaped}
 use Rattle.nc_polynomial.proofs.Distinct.{distinct-descending, words_listed}
 use Rattle.nc_polynomial.proofs.Shapes.{IsDescending-from_recursion, recursion_from_IsDescending}
 use Rattle.quiver.specs.Declarations.{letter_count, quiver_of}

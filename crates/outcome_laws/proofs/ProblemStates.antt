@@ -1,5 +1,5 @@
 -- The run of a problem satisfies the premises of the laws of runs.
-use Rattle.std.proofs.Common.{◌⊎◌, inl, inr, ℕ, suc, List, [], Contains, Ok, arith, refl}
+use Rattle.std.proofs.Common.{◌⊎◌, inl, inr, ℕ, suc, List, Contains, Ok, arith, refl}
 use Rattle.std.proofs.lemmas.List.{length-map}
 use Rattle.std.proofs.lemmas.List.Elements.{All-contains}
 use Rattle.word_orders.specs.Admissible.{Compare, IsAdmissible}
@@ -8,7 +8,7 @@ use Rattle.word_orders.proofs.AskedOrders.{asked_rank, asked_cmp-admissible}
 use Rattle.quiver.specs.Declarations.{letter_count, quiver_of}
 use Rattle.definitions.specs.Combination.{generator_at}
 use Rattle.ambiguities.specs.declared.ambiguity.Ambiguity.{Ambiguity}
-use Rattle.ambiguities.specs.Ambiguities.{IsAmbiguity, overlap_word_of}
+use Rattle.ambiguities.specs.Ambiguities.{IsAmbiguity}
 use Rattle.adjoint_rules.specs.declared.problem.Problem.{Problem}
 use Rattle.adjoint_rules.specs.Problem.{polynomials}
 use Rattle.confluence.specs.Kept.{IsReached}
@@ -16,7 +16,6 @@ use Rattle.confluence.proofs.Inside.{rules_are_inside}
 use Rattle.confluence.proofs.OutsideIdeals.{listed_or_not, resolved_where_closed, resolved_below_pending}
 use Rattle.traced_completion.specs.declared.budget.Budget.{Budget}
 use Rattle.rule_making.specs.Making.{Recorded}
-use Rattle.traced_completion.specs.Pending.{AreAllPending}
 use Rattle.traced_completion.specs.PlainRun.{RunState, recorded, setting_of, IsRunState}
 use Rattle.outcome_laws.specs.KeptRuns.{IsKeptState, done_after}
 use Rattle.outcome_laws.specs.ProblemStates.{IsTreatedOrPending, StatesAreKept, GeneratorsAreReached}

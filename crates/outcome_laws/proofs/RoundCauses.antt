@@ -1,7 +1,6 @@
 -- What the cause of a round that stops says.
-use Rattle.std.proofs.Common.{◌≡◌, ◌⊎◌, inl, inr, ◌≤◌, ℕ, zero, suc, Bool, true, false, List, [], ◌∷◌, ◌++◌, map, length, take, nat_le, Option, Some, None, Result, Ok, Err, refl, sym, ap, ◌∙◌, subst, arith, append-nil}
-use Rattle.std.specs.List.{All, Contains}
-use Rattle.std.proofs.lemmas.Bool.{leb-true}
+use Rattle.std.proofs.Common.{◌≡◌, ◌⊎◌, inl, inr, ◌≤◌, ℕ, zero, suc, List, ◌∷◌, length, Option, Some, None, Err, refl, sym, ap, ◌∙◌, subst, arith}
+use Rattle.std.specs.List.{Contains}
 use Rattle.std.proofs.lemmas.List.{length-map}
 use Rattle.std.proofs.lemmas.List.Elements.{Contains-append_cases}
 use Rattle.coef_int.specs.declared.Overflow.{Overflow}
@@ -10,7 +9,6 @@ use Rattle.definitions.specs.Poly.{Term}
 use Rattle.definitions.specs.Combination.{generator_at}
 use Rattle.word_orders.specs.Admissible.{Compare}
 use Rattle.word_orders.specs.Specified.{asked_cmp}
-use Rattle.nc_polynomial.specs.Shape.{IsShaped}
 use Rattle.quiver.specs.Declarations.{letter_count, quiver_of}
 use Rattle.traced_rows.specs.declared.Row.{Row}
 use Rattle.cofactor_trace.specs.declared.halt.Cause.{Cause}
@@ -23,9 +21,7 @@ use Rattle.rule_reduce.specs.declared.state.State.{State}
 use Rattle.rule_reduce.specs.declared.fault.ReduceFault.{ReduceFault}
 use Rattle.rule_reduce.specs.declared.fault.ReduceFault.TheVariants as fault
 use Rattle.rule_reduce.specs.Steps.{row_operations}
-use Rattle.rule_reduce.specs.NormalForms.{normal_form_of}
 use Rattle.ambiguities.specs.declared.ambiguity.Ambiguity.{Ambiguity}
-use Rattle.ambiguities.specs.Ambiguities.{IsAmbiguity}
 use Rattle.ambiguities.proofs.Balance.{s_polynomials_balance}
 use Rattle.adjoint_rules.specs.declared.problem.Problem.{Problem}
 use Rattle.adjoint_rules.specs.Problem.{polynomials}
@@ -36,10 +32,9 @@ use Rattle.confluence.proofs.ShapeLaws.{s_polynomials_are_shaped}
 use Rattle.rule_making.specs.Making.{Recorded}
 use Rattle.traced_completion.specs.declared.budget.Budget.{Budget}
 use Rattle.ambiguities.specs.declared.waiting.Waiting.{Waiting}
-use Rattle.traced_completion.specs.Results.{each_in_turn}
-use Rattle.traced_completion.specs.Works.{First, first_of, first_rows, rows_operations, InTurn, InTwoPasses, generator_work}
-use Rattle.traced_completion.specs.Pending.{AreAllPending, ambiguities_of}
-use Rattle.traced_completion.specs.PlainRun.{Setting, RunState, stopped, IsCauseOf, recorded, Ends, taken_count, TreatsFirst, TreatsPending, IsRound, IsRunState, setting_of}
+use Rattle.traced_completion.specs.Works.{First, first_rows, rows_operations}
+use Rattle.traced_completion.specs.Pending.{AreAllPending}
+use Rattle.traced_completion.specs.PlainRun.{Setting, RunState, stopped, IsCauseOf, recorded, IsRound, IsRunState, setting_of}
 use Rattle.traced_completion.proofs.RunStates.{states_bounded}
 use Rattle.word_orders.proofs.AskedOrders.{asked_rank}
 use Rattle.outcome_laws.specs.KeptRuns.{done_after}
@@ -57,7 +52,7 @@ use Rattle.outcome_laws.proofs.ProblemStates.{order_laws, state_kept}
 use Rattle.outcome_laws.proofs.RoundEnds.{Takes, ZeroTurns, LaterTurns, taken_by, taken_are, StopsLater, pairs_spent, gives_up, zero_ends, later_ends}
 use Rattle.outcome_laws.proofs.RoundFaults.{FirstFails, not_made, not_reduced, first_fails, SecondStops, in_steps, in_products, second_stops}
 use Rattle.outcome_laws.proofs.RunsKept.{BeginsWith, IsFirst, first_with}
-use Rattle.outcome_laws.proofs.Walks.{AtAmbiguity, LaterFails, in_first, in_second, zero_turns, later_turns, run}
+use Rattle.outcome_laws.proofs.Walks.{LaterFails, in_first, in_second, zero_turns, later_turns, run}
 use Rattle.outcome_laws.proofs.WholeRuns.{first_is_least_pending}
 
 -- a product of the rows of a rule that a second reduction makes

@@ -1,24 +1,23 @@
 -- Where a round that stops has its fault: in the reduction of a generator, of an S-polynomial, or of what is left of one.
-use Rattle.std.proofs.Common.{◌≡◌, ◌≤◌, ℕ, Bool, List, [], ◌∷◌, ◌++◌, map, length, Option, Some, None, Result, Ok, Err, refl, sym, ap, ◌∙◌, subst}
-use Rattle.std.specs.List.{All, AllByRecursion}
-use Rattle.std.proofs.lemmas.List.Elements.{All-head, All-tail, All-replicate, All-take}
+use Rattle.std.proofs.Common.{◌≡◌, ℕ, List, [], ◌∷◌, Option, Some, None, Result, Ok, Err, refl, sym, ap, subst}
+use Rattle.std.specs.List.{All}
+use Rattle.std.proofs.lemmas.List.Elements.{All-head, All-tail}
 use Rattle.coef_int.specs.declared.Overflow.{Overflow}
 use Rattle.coef_int.specs.Operations.{first_overflow}
 use Rattle.definitions.specs.Poly.{Term}
-use Rattle.word_orders.specs.Admissible.{Compare, IsAdmissible}
+use Rattle.word_orders.specs.Admissible.{Compare}
 use Rattle.nc_polynomial.specs.declared.fault.PolyFault.{PolyFault}
 use Rattle.rule_reduce.specs.declared.rule.Rule.{Rule}
 use Rattle.rule_reduce.specs.declared.state.State.{State}
 use Rattle.rule_reduce.specs.declared.fault.ReduceFault.{ReduceFault}
 use Rattle.rule_reduce.specs.declared.fault.ReduceFault.TheVariants as fault
-use Rattle.rule_reduce.specs.RuleLists.{IsRule}
 use Rattle.rule_reduce.specs.NormalForms.{halt_of, normal_form_of}
 use Rattle.ambiguities.specs.declared.ambiguity.Ambiguity.{Ambiguity}
 use Rattle.ambiguities.specs.Ambiguities.{IsAmbiguity}
 use Rattle.ambiguities.specs.SPolynomials.{s_rows_of, s_polynomial_of}
-use Rattle.rule_making.specs.Making.{Recorded, Rest, rest_with}
+use Rattle.rule_making.specs.Making.{rest_with}
 use Rattle.traced_completion.specs.Results.{and_then, halted, unless_overflow, each_in_turn}
-use Rattle.traced_completion.specs.Works.{generator_rows, generator_work, First, first_of, rows_operations, second_rows, second_rest, second_reduction, second_work, Goes, InTurn}
+use Rattle.traced_completion.specs.Works.{First, first_of, rows_operations, second_rows, second_rest, second_reduction, second_work}
 use Rattle.outcome_laws.proofs.Results.{failed_first, halted_value}
 
 -- the first result has the fault, or the next one

@@ -1,6 +1,5 @@
 -- Causes of halts, and the rounds that stop.
-use Rattle.std.proofs.Common.{◌≡◌, ◌≢◌, ◌<◌, ℕ, suc, Bool, true, false, List, [], ◌∷◌, ◌++◌, length, take, nat_le, Option, Some, None, Result, Ok, Err, refl, sym, ap, ◌∙◌, subst, arith}
-use Rattle.std.proofs.lemmas.Bool.{leb-true}
+use Rattle.std.proofs.Common.{◌≡◌, ◌≢◌, ◌<◌, ℕ, suc, Bool, true, false, List, length, Option, Some, None, Result, refl, sym, ap, ◌∙◌, subst, arith}
 use Rattle.cofactor_trace.specs.declared.fault.ExpandFault.{ExpandFault}
 use Rattle.cofactor_trace.specs.declared.fault.ExpandFault.TheVariants as expand
 use Rattle.cofactor_trace.specs.declared.fault.GatherFault.{GatherFault}
@@ -10,11 +9,8 @@ use Rattle.cofactor_trace.specs.declared.halt.Cause.TheVariants as cause
 use Rattle.cofactor_trace.specs.declared.halt.Halt.{Halt}
 use Rattle.rule_reduce.specs.declared.fault.ReduceFault.{ReduceFault}
 use Rattle.rule_reduce.specs.declared.fault.ReduceFault.TheVariants as fault
-use Rattle.ambiguities.specs.declared.ambiguity.Ambiguity.{Ambiguity}
-use Rattle.ambiguities.specs.declared.waiting.Waiting.{Waiting}
 use Rattle.rule_making.specs.Making.{Recorded}
-use Rattle.traced_completion.specs.Pending.{ambiguities_of}
-use Rattle.traced_completion.specs.PlainRun.{Setting, RunState, stopped, IsCauseOf, Ends, taken_count, TreatsFirst, TreatsPending, IsRound}
+use Rattle.traced_completion.specs.PlainRun.{Setting, RunState, stopped, IsCauseOf, IsRound}
 use Rattle.claim_decider.specs.Outcomes.{IsCauseOfExpansion, IsCauseOfGathering}
 use Rattle.cofactor_trace.specs.declared.halt.Place.{Place}
 use Rattle.cofactor_trace.specs.declared.halt.Place.TheVariants as place

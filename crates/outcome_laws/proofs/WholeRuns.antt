@@ -1,16 +1,15 @@
 -- The invariant of whole runs, and what is pending.
-use Rattle.std.proofs.Common.{◌≡◌, inl, inr, ℕ, zero, suc, List, [], ◌∷◌, Contains, refl, sym, ap, ◌∙◌, subst, arith}
+use Rattle.std.proofs.Common.{◌≡◌, inl, inr, zero, suc, List, [], ◌∷◌, Contains, refl, sym, ap, ◌∙◌, subst, arith}
 use Rattle.std.proofs.lemmas.Cmp.{tied_itself}
 use Rattle.std.specs.declared.cmp.Ordering.TheVariants.{Less}
-use Rattle.definitions.specs.Quiver.{Quiver}
-use Rattle.word_orders.specs.Admissible.{Compare, IsAdmissible}
+use Rattle.word_orders.specs.Admissible.{Compare}
 use Rattle.rule_reduce.specs.declared.rule.Rule.{Rule}
 use Rattle.ambiguities.specs.declared.ambiguity.Ambiguity.{Ambiguity}
-use Rattle.ambiguities.specs.Ambiguities.{IsAmbiguity, overlap_word_of}
+use Rattle.ambiguities.specs.Ambiguities.{overlap_word_of}
 use Rattle.ambiguities.specs.declared.waiting.Waiting.{Waiting}
 use Rattle.ambiguities.specs.Order.{IsWaitingBefore}
 use Rattle.confluence.specs.Conclusions.{NothingPending}
-use Rattle.traced_completion.specs.Pending.{IsPending, AreAllPending}
+use Rattle.traced_completion.specs.Pending.{AreAllPending}
 use Rattle.traced_completion.specs.PlainRun.{closed}
 use Rattle.outcome_laws.specs.KeptRuns.{RunsAreKept, ClosedIsNothingPending, FirstIsLeastPending}
 use Rattle.outcome_laws.proofs.RoundEnds.{later_ends}
