@@ -34,7 +34,6 @@ pub mod ReducedWithin
 pub mod AmbiguitiesWithin
 pub mod LimitedRuns
 pub mod EvidenceFits
-pub mod Evidence
 pub mod Makings
 pub mod Works
 pub mod Pending

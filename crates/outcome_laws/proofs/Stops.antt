@@ -20,32 +20,22 @@ use Rattle.outcome_laws.proofs.RoundEnds.{GivesUp, ZeroTurns, LaterTurns, StopsL
 abbrev pub NotPairs : Cause → Type 0
 NotPairs c = (spent : ℕ) → c ≢ cause.Pairs spent
 
-abbrev is_pairs : Cause → Bool
-is_pairs (cause.Pairs spent) = true
-is_pairs (cause.Steps limit) = false
-is_pairs (cause.Size letters) = false
-is_pairs (cause.Rows letters) = false
-is_pairs (cause.Overflow o) = false
-
-not_pairs : (c d : Cause) → is_pairs d ≡ false → c ≡ d → NotPairs c
-not_pairs c d other is spent same = cc (sym other ∙ ap is_pairs (sym is ∙ same))
-
 pub fault_not_pairs : (e : ReduceFault) (c : Cause) → IsCauseOf e c → NotPairs c
-fault_not_pairs (fault.Steps limit) c is = not_pairs c _ refl is
-fault_not_pairs (fault.Overflow o) c is = not_pairs c _ refl is
-fault_not_pairs (fault.Size s) c is = not_pairs c _ refl is
-fault_not_pairs (fault.Memory e) c is = absurd is
+fault_not_pairs (fault.Steps limit) c is spent same = cc
+fault_not_pairs (fault.Overflow o) c is spent same = cc
+fault_not_pairs (fault.Size s) c is spent same = cc
+fault_not_pairs (fault.Memory e) c is spent same = absurd is
 
 pub expansion_not_pairs : (e : ExpandFault) (c : Cause) → IsCauseOfExpansion e c → NotPairs c
-expansion_not_pairs (expand.Overflow o) c is = not_pairs c _ refl is
-expansion_not_pairs (expand.Rows passed) c is = not_pairs c _ refl is
-expansion_not_pairs expand.Size c is = not_pairs c _ refl is
-expansion_not_pairs (expand.Memory e) c is = absurd is
+expansion_not_pairs (expand.Overflow o) c is spent same = cc
+expansion_not_pairs (expand.Rows passed) c is spent same = cc
+expansion_not_pairs expand.Size c is spent same = cc
+expansion_not_pairs (expand.Memory e) c is spent same = absurd is
 
 pub gathering_not_pairs : (e : GatherFault) (c : Cause) → IsCauseOfGathering e c → NotPairs c
-gathering_not_pairs (gather.Overflow o) c is = not_pairs c _ refl is
-gathering_not_pairs (gather.Rows passed) c is = not_pairs c _ refl is
-gathering_not_pairs (gather.Memory e) c is = absurd is
+gathering_not_pairs (gather.Overflow o) c is spent same = cc
+gathering_not_pairs (gather.Rows passed) c is spent same = cc
+gathering_not_pairs (gather.Memory e) c is spent same = absurd is
 
 -- rounds that stop
 stop_not_pairs : (Turns : Result Recorded ReduceFault → Type 0) (at : Place) (least : Option (List ℕ)) (h : Halt) → GivesUp Turns at least h → NotPairs h.cause
