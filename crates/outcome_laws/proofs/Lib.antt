@@ -40,7 +40,6 @@ pub mod Pending
 pub mod Rounds
 pub mod Claims
 pub mod Problems
-pub mod Pigeons
 pub mod Squares
 pub mod Cells
 pub mod LettersInPlay

@@ -173,7 +173,7 @@ module _ (problem : Problem) (budget : Budget) where
             are_rules = rules;
             treated = s.treated;
             many = refl;
-            distinct = distinct_treated letters compare rank (order_laws problem budget) setting refl (suc n) s is_state;
+            distinct = distinct_treated letters rank setting (order_laws problem budget) (suc n) s is_state;
             resolved = now.resolved;
             left = w.which;
             is_left = waits.is;
