@@ -30,7 +30,7 @@ use Rattle.cofactor_trace.proofs.Divisors.{quotient_positive, product_positive, 
 use Rattle.cofactor_trace.proofs.GatheredParts.{parts, each_part, lemma_record_each}
 use Rattle.cofactor_trace.proofs.Passes.{each_with}
 use Rattle.outcome_laws.proofs.Results.{same_value, fits_first, none_append}
-use Rattle.outcome_laws.proofs.EvidenceWords.{needed_each}
+use Rattle.outcome_laws.proofs.EvidenceWords.{expansion_is}
 
 -- a quotient is no larger
 pub quotient_in_range : (a d : ℤ) → pos 0 <ℤ d → IsCoefficient a → IsCoefficient (int_div a d)
@@ -108,38 +108,16 @@ module _ (known : Known) (each_positive : (o : Origin) → pos 0 <ℤ (known o).
         coefficients_in = divided_in g g_in (gathered rows) (gathered_in rows sums.1);
       })
 
--- one expansion after another
-abbrev EachPositive : Expansions → Type 0
-EachPositive expansions = AllByRecursion (λ e. pos 0 <ℤ e.1.denominator) expansions
-
-known_positive : (expansions : Expansions) → EachPositive expansions → (o : Origin) → pos 0 <ℤ (known_from expansions o).denominator
-known_positive expansions each (origin.Generator n) = omega (arith, ints)
-known_positive expansions each (origin.Rule n) = go expansions each
-  where
-    go : (es : Expansions) → EachPositive es → pos 0 <ℤ (unwrap_or (lookup (is_at (nat_cmp n)) es) none).denominator
-    go [] each = omega (arith, ints)
-    go (e ∷ es) each = at (is_eq (nat_cmp n e.0)) (go es each.1)
-      where
-        at : (b : Bool) → pos 0 <ℤ (unwrap_or (lookup (is_at (nat_cmp n)) es) none).denominator → pos 0 <ℤ (unwrap_or (cond b (Some e.1) (lookup (is_at (nat_cmp n)) es)) none).denominator
-        at true rest = each.0
-        at false rest = rest
-
-ranged_from : (expansions : Expansions) (rest : List Numbered) (target : Made) (c : Cofactors) → EachPositive expansions → AllByRecursion (λ e. pos 0 <ℤ e.1.scale) rest → pos 0 <ℤ target.scale
-    → expansion_from expansions rest target ≡ Ok c → IsRanged c
-ranged_from expansions [] target c each rules scale_in ends = record_ranged (known_from expansions) (known_positive expansions each) target c scale_in ends
-ranged_from expansions (e ∷ rest) target c each rules scale_in ends =
-    go (record_expansion (known_from expansions) e.1) (record_ranged (known_from expansions) (known_positive expansions each) e.1) ends
-    (λ x ranged. ranged_from (insert_entry nat_cmp expansions e.0 x) rest target c (each_with (λ d. pos 0 <ℤ d.1.denominator) expansions e.0 x each ranged.positive) rules.1 scale_in)
-  where
-    go : (r : Result Cofactors ExpandFault) → ((x : Cofactors) → pos 0 <ℤ e.1.scale → r ≡ Ok x → IsRanged x)
-        → and_then r (λ x. expansion_from (insert_entry nat_cmp expansions e.0 x) rest target) ≡ Ok c
-        → ((x : Cofactors) → IsRanged x → expansion_from (insert_entry nat_cmp expansions e.0 x) rest target ≡ Ok c → IsRanged c) → IsRanged c
-    go (Ok x) ranged ends next = next x (ranged x rules.0 (λ i. Ok x)) ends
-    go (Err f) ranged ends next = absurd (cc)
-
 -- Where each scale is positive, an expansion has coefficients and a positive denominator.
 pub expansion_ranged : (made : List Made) (target : Made) (c : Cofactors) → All (λ m. pos 0 <ℤ m.scale) made → pos 0 <ℤ target.scale → expansion_of made target ≡ Ok c → IsRanged c
-expansion_ranged made target c rules scale_in ends = ranged_from [] (needed_rules made target) target c tt (needed_each (λ m. pos 0 <ℤ m.scale) target 1 made rules) scale_in ends
+expansion_ranged =
+    expansion_is IsRanged (λ m. pos 0 <ℤ m.scale) (record { positive = omega (arith, ints); denominator_in = omega (arith, ints); coefficients_in = All-nil HasNumber })
+    (λ n. record {
+      positive = omega (arith, ints);
+      denominator_in = omega (arith, ints);
+      coefficients_in = All-replicate HasNumber 1 (record { coef = pos 1; left = []; generator = n; right = [] }) (omega (arith, ints));
+    })
+    (λ known m c each scale_in ends. record_ranged known (λ o. (each o).positive) m c scale_in ends)
 
 -- Where each scale of the records is positive, so are those of the lemmas and of the goal, and the denominator.
 pub gathered_positive : (claim : ℕ) (made : List Made) (target : Made) (c : LemmaCertificate) → All (λ m. pos 0 <ℤ m.scale) made → pos 0 <ℤ target.scale → gathered_of claim made target ≡ Ok c
