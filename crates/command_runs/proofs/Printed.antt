@@ -59,7 +59,7 @@ use Rattle.closed_checker.proofs.ByNumber.{canonical_at, generator_over}
 use Rattle.closed_checker.proofs.PartOrder.{order_laws}
 use Rattle.command_runs.specs.Printed.{IsPrinted, IsStop, PrintedBasesAreConfirmed}
 use Rattle.command_runs.proofs.EndedReductions.{ended_once}
-use Rattle.command_runs.proofs.MadeRules.{runs_are_primitive}
+use Rattle.outcome_laws.proofs.PrimitiveRules.{runs_are_primitive}
 use Rattle.command_runs.proofs.ClosedRuns.{Closes, closes, closing_rules_are_last}
 use Rattle.command_runs.proofs.RunRules.{rules_of_run, all_may}
 
@@ -192,7 +192,7 @@ module _ (problem : Problem) (budget : Budget) where
     rules_may : All (MayBeRule compare) b.rules
     rules_may =
         subst (All (MayBeRule compare)) (sym polys_are)
-        (all_may letters compare s.rules (are_rules rounds s run) (runs_are_primitive setting rounds s run))
+        (all_may letters compare s.rules (are_rules rounds s run) (runs_are_primitive problem budget rounds s run))
 
     -- what isn't left
     generator_left : (number : ℕ) (rest : Poly) → IsNumberUpTo (length problem.generators) number → rest_of problem b (part.Generator number) ≡ Ok rest.terms

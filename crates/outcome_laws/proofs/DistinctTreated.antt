@@ -1,12 +1,12 @@
 -- No ambiguity is treated twice.
-use Rattle.std.proofs.Common.{◌≡◌, ◌≢◌, inl, inr, ℕ, zero, suc, List, [], ◌∷◌, ◌++◌, map, take, drop, get_or, sym, ap, subst, ◌∙◌, arith}
+use Rattle.std.proofs.Common.{◌≡◌, ◌≢◌, ℕ, zero, suc, List, [], ◌∷◌, ◌++◌, take, drop, get_or, sym, ap, subst, ◌∙◌, arith}
 use Rattle.std.specs.List.{AllPairs, Contains}
 use Rattle.std.proofs.lemmas.List.{take-append-drop}
 use Rattle.std.proofs.lemmas.List.Elements.{All-append, All-take, Contains-append_left, Contains-get_or}
 use Rattle.std.proofs.lemmas.List.Kept.{AllPairs-cons}
 use Rattle.ambiguities.proofs.Ascending.{contains-first, contains-rest, pairs-map, first-before, rest-pairs}
 use Rattle.ambiguities.proofs.Comparing.{not_before_itself}
-use Rattle.word_orders.specs.Admissible.{Compare, IsAdmissible}
+use Rattle.word_orders.specs.Admissible.{IsAdmissible}
 use Rattle.rule_reduce.specs.declared.rule.Rule.{Rule}
 use Rattle.ambiguities.specs.declared.ambiguity.Ambiguity.{Ambiguity}
 use Rattle.ambiguities.specs.Ambiguities.{overlap_word_of}

@@ -10,6 +10,7 @@ pub mod OpenRuns
 pub mod Derivations
 pub mod Listed
 pub mod StepMade
+pub mod ReductionWalks
 pub mod ReductionFaults
 pub mod SPolynomialFaults
 pub mod CertificateFaults
@@ -17,6 +18,7 @@ pub mod DistinctTreated
 pub mod ReductionCauses
 pub mod RoundFaults
 pub mod MadeStates
+pub mod PrimitiveRules
 pub mod RoundCauses
 pub mod ClaimCauses
 pub mod Meanings

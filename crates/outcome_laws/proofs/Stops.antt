@@ -1,5 +1,5 @@
 -- Causes of halts, and the rounds that stop.
-use Rattle.std.proofs.Common.{◌≡◌, ◌≢◌, ◌<◌, ℕ, suc, Bool, true, false, List, length, Option, Some, None, Result, refl, sym, ap, ◌∙◌, subst, arith}
+use Rattle.std.proofs.Common.{◌≢◌, ◌<◌, ℕ, suc, List, length, Option, Some, None, Result, sym, ap, subst, arith}
 use Rattle.cofactor_trace.specs.declared.fault.ExpandFault.{ExpandFault}
 use Rattle.cofactor_trace.specs.declared.fault.ExpandFault.TheVariants as expand
 use Rattle.cofactor_trace.specs.declared.fault.GatherFault.{GatherFault}
