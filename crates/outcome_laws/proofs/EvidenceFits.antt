@@ -152,12 +152,12 @@ module _ (problem : Problem) (budget : Budget) (number : ℕ) where
   same_evidence d e same = cc
 
   all_within : (form : Format) (e : Evidence) → Way setting_in form number claim (outcome.Derived e) → IsWithinLimits problem number e
-  all_within form e (no_terms is) = subst (IsWithinLimits problem number) (sym (same_evidence e _ is)) (zero_within form)
+  all_within form e (no_terms none is) = subst (IsWithinLimits problem number) (sym (same_evidence e _ is)) (zero_within form)
   all_within form e (expanded by c ends is) = subst (IsWithinLimits problem number) (sym (same_evidence e _ is)) (expanded_within by c ends)
   all_within form e (gathered by c ends is) = subst (IsWithinLimits problem number) (sym (same_evidence e _ is)) (gathered_within by c ends)
-  all_within form e (left_over rounds s run rest left is) = absurd (cc)
-  all_within form e (given_up halt none is) = absurd (cc)
-  all_within form e (with_run rounds s halt run round is) = absurd (cc)
+  all_within form e (left_over rounds s is_open round rest left is) = absurd (cc)
+  all_within form e (given_up at c stops is) = absurd (cc)
+  all_within form e (with_run rounds s halt is_open round is) = absurd (cc)
 
 -- the law
 pub evidence_fits : EvidenceFits

@@ -35,6 +35,7 @@ use Rattle.ambiguities.proofs.OverLetters.{IsOverRow, reduced_over}
 use Rattle.outcome_laws.proofs.OverRuns.{records_over, least_over}
 use Rattle.outcome_laws.proofs.ProblemPolynomials.{claim_is}
 use Rattle.outcome_laws.proofs.ProblemStates.{state_kept}
+use Rattle.outcome_laws.proofs.OpenRuns.{open_run}
 
 -- the problem
 module _ (problem : Problem) (budget : Budget) where
@@ -84,14 +85,14 @@ module _ (problem : Problem) (budget : Budget) where
     least_is_over (Some word) each = each word refl
 
     outcome_over : (o : Outcome) → Way setting_in form number claim o → IsOutcomeOver ds o
-    outcome_over o (no_terms is) = subst (IsOutcomeOver ds) (sym is) (zero_over form)
+    outcome_over o (no_terms none is) = subst (IsOutcomeOver ds) (sym is) (zero_over form)
     outcome_over o (expanded by c ends is) = subst (IsOutcomeOver ds) (sym is) (expanded_over by c ends)
     outcome_over o (gathered by c ends is) = subst (IsOutcomeOver ds) (sym is) (gathered_over by c ends)
-    outcome_over o (left_over rounds s run rest left is) =
-        let over = (reduced_over letters_in setting_in.compare s.rules (rules_of rounds s run) claim setting_in.budget.steps left.reduced (claim_is problem number).over left.reduction).0 in
+    outcome_over o (left_over rounds s is_open round rest left is) =
+        let over = (reduced_over letters_in setting_in.compare s.rules (rules_of rounds s (open_run setting_in claim rounds s is_open)) claim setting_in.budget.steps left.reduced (claim_is problem number).over left.reduction).0 in
         subst (IsOutcomeOver ds) (sym is) (subst (λ (p : List Term). All (λ t. IsOver letters_in t.1) p) left.rest_is over)
-    outcome_over o (given_up halt none is) = subst (IsOutcomeOver ds) (sym is) (subst (IsLeastOver ds) (sym none) tt)
-    outcome_over o (with_run rounds s halt run round is) = subst (IsOutcomeOver ds) (sym is) (least_is_over halt.least (least_over problem budget rounds s halt run round))
+    outcome_over o (given_up at c stops is) = subst (IsOutcomeOver ds) (sym is) tt
+    outcome_over o (with_run rounds s halt is_open round is) = subst (IsOutcomeOver ds) (sym is) (least_is_over halt.least (least_over problem budget rounds s halt (open_run setting_in claim rounds s is_open) round))
 
 -- the laws
 pub outcomes_have_letters : OutcomesHaveLetters
