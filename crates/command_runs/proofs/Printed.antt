@@ -43,7 +43,7 @@ use Rattle.traced_completion.specs.declared.budget.Budget.{Budget}
 use Rattle.traced_completion.specs.PlainRun.{Setting, RunState, went, closed, stopped, Ends, IsRound, IsRunState, setting_of}
 use Rattle.claim_decider.specs.Decided.{polynomials_in}
 use Rattle.outcome_laws.specs.KeptRuns.{done_after}
-use Rattle.outcome_laws.proofs.OpenRuns.{open_run, opened_claim}
+use Rattle.claim_decider.proofs.UniqueOutcomes.{open_run, open_claim}
 use Rattle.outcome_laws.proofs.ProblemStates.{state_kept, generators_are_reached}
 use Rattle.outcome_laws.proofs.WholeRuns.{closed_is_nothing_pending}
 use Rattle.adjoint_rules.specs.declared.basis.Basis.{Basis}
@@ -179,7 +179,7 @@ module _ (problem : Problem) (budget : Budget) where
     run = open_run setting (claim_at problem b.claim) rounds s by_closing.opened
 
     pub names : NamesClaim problem b
-    names = named problem.parts.claims b.claim (opened_claim setting (claim_at problem b.claim) rounds s by_closing.opened)
+    names = named problem.parts.claims b.claim (open_claim setting (claim_at problem b.claim) rounds s by_closing.opened)
 
     pub polys_are : b.rules ≡ polynomials_in s.rules
     polys_are =

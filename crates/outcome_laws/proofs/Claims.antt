@@ -32,7 +32,7 @@ use Rattle.outcome_laws.specs.Existence.{HasRound}
 use Rattle.confluence.proofs.Ends.{Gives, normal_form_gives}
 use Rattle.outcome_laws.proofs.CertificateFaults.{ExpansionStops, expansion_overflows, row_too_long, too_many_rows, expansion_stops, GatheringStops, scale_overflows, too_many_lemma_rows, gathering_stops}
 use Rattle.outcome_laws.proofs.Rounds.{has_cause, has_round}
-use Rattle.outcome_laws.proofs.OpenRuns.{open_run}
+use Rattle.claim_decider.proofs.UniqueOutcomes.{open_run}
 use Rattle.outcome_laws.proofs.RoundEnds.{zero_ends}
 
 -- evidence

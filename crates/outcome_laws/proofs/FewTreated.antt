@@ -36,7 +36,8 @@ use Rattle.outcome_laws.specs.KeptRuns.{done_after, IsKeptState}
 use Rattle.outcome_laws.proofs.RunsKept.{BeginsWith}
 use Rattle.outcome_laws.proofs.WholeRuns.{first_is_least_pending}
 use Rattle.word_orders.proofs.AskedOrders.{asked_rank}
-use Rattle.outcome_laws.proofs.OpenRuns.{open_run, open_not_below}
+use Rattle.claim_decider.proofs.UniqueOutcomes.{open_run}
+use Rattle.outcome_laws.proofs.OpenRuns.{open_not_below}
 use Rattle.outcome_laws.specs.Enough.{letters_in_play, enough_pairs, IsShownBelow, OpenRunsTreatFew}
 use Rattle.outcome_laws.proofs.Cells.{HaveDistinctLeads, IsShort, short_are_few}
 use Rattle.outcome_laws.proofs.Counting.{HasFirsts, none_taken, firsts_weaker, distinct_more, asked_more, firsts_more}

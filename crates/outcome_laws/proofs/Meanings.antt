@@ -1,41 +1,29 @@
 -- Each outcome means what it says.
-use Rattle.std.proofs.Common.{◌≡◌, ℕ, suc, pos, List, [], ◌∷◌, None, Result, Ok, Err, refl, sym, subst, arith}
+use Rattle.std.proofs.Common.{◌≡◌, ℕ, pos, [], refl, sym, subst, arith}
 use Rattle.std.proofs.lemmas.Int.{ints}
 use Rattle.std.proofs.lemmas.List.Elements.{All-replicate}
 use Rattle.std.proofs.lemmas.Nat.Gcd.{dvd_refl}
-use Rattle.definitions.specs.Poly.{Term}
 use Rattle.definitions.specs.Combination.{IsCombination}
-use Rattle.traced_rows.specs.declared.certificate.Cofactors.{Cofactors}
 use Rattle.traced_rows.specs.declared.evidence.Lemma.{Lemma}
 use Rattle.traced_rows.specs.declared.evidence.LemmaCertificate.{LemmaCertificate}
 use Rattle.traced_rows.specs.declared.evidence.Format.{Format}
 use Rattle.traced_rows.specs.declared.evidence.Format.TheVariants as format
-use Rattle.cofactor_trace.specs.declared.fault.ExpandFault.{ExpandFault}
-use Rattle.cofactor_trace.specs.declared.fault.GatherFault.{GatherFault}
 use Rattle.cofactor_trace.specs.declared.halt.Cause.{Cause}
-use Rattle.cofactor_trace.specs.declared.halt.Place.TheVariants as place
-use Rattle.cofactor_trace.specs.Needed.{expansion_of}
-use Rattle.cofactor_trace.specs.Lemmas.{gathered_of}
 use Rattle.traced_rows.specs.LemmaRows.{IsEvidenceOf, IsShareOf}
 use Rattle.cofactor_trace.specs.GatheringLaws.{lemma_polys}
-use Rattle.word_orders.specs.Specified.{asked_cmp}
-use Rattle.rule_reduce.specs.declared.state.State.{State}
-use Rattle.rule_reduce.specs.declared.fault.ReduceFault.{ReduceFault}
 use Rattle.rule_reduce.specs.RuleLists.{polynomials_of}
-use Rattle.rule_reduce.specs.NormalForms.{normal_form_of}
 use Rattle.adjoint_rules.specs.declared.problem.Problem.{Problem}
 use Rattle.adjoint_rules.specs.Problem.{polynomials}
 use Rattle.adjoint_rules.specs.Claims.{claim_at}
 use Rattle.traced_completion.specs.declared.budget.Budget.{Budget}
-use Rattle.traced_completion.specs.PlainRun.{RunState, IsRunState, setting_of}
+use Rattle.traced_completion.specs.PlainRun.{setting_of}
 use Rattle.claim_decider.specs.declared.outcome.Outcome.{Outcome}
 use Rattle.claim_decider.specs.declared.outcome.Outcome.TheVariants as outcome
 use Rattle.claim_decider.specs.Outcomes.{halted_at, record_of, evidence_of_zero}
 use Rattle.cofactor_checker.specs.ProvedMeans.{EvidenceAddsUp}
 use Rattle.outcome_laws.specs.Meanings.{OutcomeMeans, DerivedClaimsAddUp, ClosedClaimsAreOutside, LeastWordsBoundDerivations, HaltedCertificatesAreInside, OutcomesMeanWhatTheySay}
-use Rattle.outcome_laws.specs.Halts.{HaltMeans}
-use Rattle.outcome_laws.specs.Causes.{IsClaim, CauseMeans}
-use Rattle.outcome_laws.proofs.OpenRuns.{open_run, closed_outside, stop_means}
+use Rattle.claim_decider.proofs.UniqueOutcomes.{open_run}
+use Rattle.outcome_laws.proofs.OpenRuns.{closed_outside, stop_means}
 use Rattle.outcome_laws.proofs.RoundCauses.{stop_says}
 use Rattle.outcome_laws.proofs.ClaimCauses.{claim_named, claim_stop_means, expansion_means, gathering_means}
 use Rattle.outcome_laws.proofs.Derivations.{follows, expansion_adds_up, gathering_adds_up, gathering_names}

@@ -33,15 +33,7 @@ use Rattle.word_orders.proofs.AskedOrders.{asked_rank}
 use Rattle.outcome_laws.proofs.ProblemStates.{order_laws, state_kept}
 use Rattle.outcome_laws.proofs.RoundEnds.{StopsLater, pairs_spent, gives_up, zero_ends, later_ends}
 use Rattle.outcome_laws.proofs.WholeRuns.{closed_is_nothing_pending, first_is_least_pending}
-
--- runs
-pub open_run : (setting : Setting) (claim : List Term) (n : ℕ) (s : RunState) → IsOpen setting claim n s → IsRunState setting n s
-open_run setting claim zero s opened = opened.1
-open_run setting claim (suc n) s opened = record { before = opened.before; is_before = open_run setting claim n opened.before opened.is_before; round = opened.round }
-
-pub opened_claim : (setting : Setting) (claim : List Term) (n : ℕ) (s : RunState) → IsOpen setting claim n s → 0 < length claim
-opened_claim setting claim zero s opened = opened.0
-opened_claim setting claim (suc n) s opened = opened_claim setting claim n opened.before opened.is_before
+use Rattle.claim_decider.proofs.UniqueOutcomes.{open_run}
 
 -- a sorted list with a term isn't zero
 pub some_nonzero : (p : List Term) → IsShaped p → 0 < length p → IsNonzero p

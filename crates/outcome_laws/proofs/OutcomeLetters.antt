@@ -35,7 +35,7 @@ use Rattle.ambiguities.proofs.OverLetters.{IsOverRow, reduced_over}
 use Rattle.outcome_laws.proofs.OverRuns.{records_over, least_over}
 use Rattle.outcome_laws.proofs.ProblemPolynomials.{claim_is}
 use Rattle.outcome_laws.proofs.ProblemStates.{state_kept}
-use Rattle.outcome_laws.proofs.OpenRuns.{open_run}
+use Rattle.claim_decider.proofs.UniqueOutcomes.{open_run}
 
 -- the problem
 module _ (problem : Problem) (budget : Budget) where

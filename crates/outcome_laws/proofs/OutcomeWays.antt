@@ -1,5 +1,5 @@
 -- In what ways a claim gets its outcome: each with the state of the run by whose rules and records it comes.
-use Rattle.std.proofs.Common.{◌≡◌, ◌<◌, length, ℕ, suc, List, [], ◌∷◌, None, Result, Ok, Err, refl}
+use Rattle.std.proofs.Common.{◌≡◌, ◌<◌, length, ℕ, suc, List, [], ◌∷◌, Result, Ok, Err, refl}
 use Rattle.definitions.specs.Poly.{Term}
 use Rattle.nc_polynomial.specs.declared.poly.Poly.{Poly}
 use Rattle.traced_rows.specs.declared.certificate.Cofactors.{Cofactors}
@@ -21,8 +21,8 @@ use Rattle.rule_reduce.specs.NormalForms.{normal_form_of}
 use Rattle.traced_completion.specs.PlainRun.{Setting, RunState, closed, stopped, IsCauseOf, IsRound, IsRunState}
 use Rattle.claim_decider.specs.declared.outcome.Outcome.{Outcome}
 use Rattle.claim_decider.specs.declared.outcome.Outcome.TheVariants as outcome
-use Rattle.claim_decider.specs.Outcomes.{IsHalted, halted_at, IsCauseOfExpansion, IsCauseOfGathering, IsOpen, record_of, certificate_of, Expands, Gathers, IsProved, evidence_of_zero, IsLeft, IsDoneWith, IsDoneBy, IsDone, GetsOutcome, at_once, after_round, by_closing, by_stop}
-use Rattle.outcome_laws.proofs.OpenRuns.{open_run, opened_claim}
+use Rattle.claim_decider.specs.Outcomes.{halted_at, IsCauseOfExpansion, IsCauseOfGathering, IsOpen, record_of, certificate_of, Expands, Gathers, IsProved, evidence_of_zero, IsLeft, IsDoneWith, IsDoneBy, IsDone, GetsOutcome, at_once, after_round, by_closing, by_stop}
+use Rattle.claim_decider.proofs.UniqueOutcomes.{open_run, open_claim}
 
 -- The claim has terms, and is reduced to zero by the rules of a state.
 pub record IsProvedBy (setting : Setting) (claim : List Term) : Type 0 where
@@ -87,6 +87,6 @@ module _ (setting : Setting) (form : Format) (number : ℕ) (claim : List Term) 
   pub way : (rounds : ℕ) (s : RunState) → GetsOutcome setting form number claim rounds s o → Ways
   way rounds s (at_once none none_yet at_start is) = no_terms none is
   way rounds s (after_round n before more is_open round done) =
-      done_way n (suc n) s (opened_claim setting claim n before is_open) (record { before = before; is_before = open_run setting claim n before is_open; round = round }) done
+      done_way n (suc n) s (open_claim setting claim n before is_open) (record { before = before; is_before = open_run setting claim n before is_open; round = round }) done
   way rounds s (by_closing is_open round closes) = left_over rounds s is_open round closes.rest closes.left closes.closes
   way rounds s (by_stop halt is_open round is) = with_run rounds s halt is_open round is

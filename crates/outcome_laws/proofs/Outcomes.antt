@@ -1,5 +1,5 @@
 -- With enough pairs a claim that follows below a word is derived, or halted with another cause than the budget of pairs.
-use Rattle.std.proofs.Common.{ℕ, zero, suc, List, [], ◌∷◌, Result, Ok, Err, sym, subst, arith}
+use Rattle.std.proofs.Common.{ℕ, zero, suc, List, [], ◌∷◌, sym, subst, arith}
 use Rattle.definitions.specs.Poly.{Term}
 use Rattle.traced_rows.specs.declared.evidence.Format.{Format}
 use Rattle.cofactor_trace.specs.declared.halt.Cause.{Cause}
