@@ -1,5 +1,5 @@
 -- The run of a problem satisfies the premises of the laws of runs.
-use Rattle.std.proofs.Common.{◌⊎◌, inl, inr, ℕ, suc, List, Contains, Ok, arith, refl}
+use Rattle.std.proofs.Common.{◌⊎◌, inl, inr, ℕ, suc, List, Contains, ◌++◌, Result, Ok, arith, refl}
 use Rattle.std.proofs.lemmas.List.{length-map}
 use Rattle.std.proofs.lemmas.List.Elements.{All-contains}
 use Rattle.word_orders.specs.Admissible.{Compare, IsAdmissible}
@@ -15,18 +15,23 @@ use Rattle.confluence.specs.Kept.{IsReached}
 use Rattle.confluence.proofs.Inside.{rules_are_inside}
 use Rattle.confluence.proofs.OutsideIdeals.{listed_or_not, resolved_where_closed, resolved_below_pending}
 use Rattle.traced_completion.specs.declared.budget.Budget.{Budget}
+use Rattle.rule_reduce.specs.declared.rule.Rule.{Rule}
+use Rattle.rule_reduce.specs.declared.fault.ReduceFault.{ReduceFault}
 use Rattle.rule_making.specs.Making.{Recorded}
-use Rattle.traced_completion.specs.PlainRun.{RunState, recorded, setting_of, IsRunState}
+use Rattle.traced_completion.specs.PlainRun.{Setting, RunState, recorded, setting_of, IsRunState}
 use Rattle.outcome_laws.specs.KeptRuns.{IsKeptState, done_after}
 use Rattle.outcome_laws.specs.ProblemStates.{IsTreatedOrPending, StatesAreKept, GeneratorsAreReached}
 use Rattle.outcome_laws.proofs.LettersInPlay.{problem_play, generators_in_play}
 use Rattle.outcome_laws.proofs.ProblemPolynomials.{turns_in_range, all_have_turns}
-use Rattle.outcome_laws.proofs.RoundEnds.{Treats}
+use Rattle.outcome_laws.proofs.RoundEnds.{Takes, ZeroTurns, LaterTurns, taken_by, Treats}
 use Rattle.outcome_laws.proofs.RunsKept.{BeginsWith}
-use Rattle.outcome_laws.proofs.Walks.{IsKept, nothing_kept, later_turns, run}
+use Rattle.outcome_laws.proofs.Walks.{Comes, IsKept, nothing_kept, Now, GeneratorFails, zero_turns, LaterFails, later_turns, run}
 use Rattle.outcome_laws.proofs.WholeRuns.{runs_are_kept, none_pending, first_is_least_pending}
 
 module _ (problem : Problem) (budget : Budget) where
+  abbrev setting : Setting
+  setting = setting_of problem budget
+
   abbrev letters : ℕ
   letters = letter_count problem.parts.quiver
 
@@ -41,26 +46,46 @@ module _ (problem : Problem) (budget : Budget) where
 
   -- what each step of its run keeps, beside the invariant
   abbrev pub IsKeptInRun : (Recorded → Type 0) → Type 0
-  IsKeptInRun = IsKept (quiver_of problem.parts.quiver) (problem_play problem) letters rank (setting_of problem budget) order_laws (generators_in_play problem)
+  IsKeptInRun = IsKept (quiver_of problem.parts.quiver) (problem_play problem) letters rank setting order_laws (generators_in_play problem)
 
-  pub kept_in_run : (P : Recorded → Type 0) → IsKeptInRun P → (n : ℕ) (s : RunState) → IsRunState (setting_of problem budget) n s → P (recorded s)
-  kept_in_run P kept n s is =
-      (run (quiver_of problem.parts.quiver) (problem_play problem) letters rank (setting_of problem budget) order_laws (generators_in_play problem) (turns_in_range problem) P kept n s is).1
+  module _ (P : Recorded → Type 0) (kept : IsKeptInRun P) where
+    abbrev pub NowInRun : List ℕ → List Ambiguity → Recorded → Type 0
+    NowInRun = Now (quiver_of problem.parts.quiver) (problem_play problem) letters rank setting order_laws (generators_in_play problem) (turns_in_range problem) P kept
 
-  pub rules_begin : (n : ℕ) (before s : RunState) → IsRunState (setting_of problem budget) (suc n) before → Treats (setting_of problem budget) before s → BeginsWith before.rules s.rules
-  rules_begin n before s is round =
-      (later_turns (quiver_of problem.parts.quiver) (problem_play problem) letters rank (setting_of problem budget) order_laws (generators_in_play problem) (turns_in_range problem) (λ r. Unit {0}) nothing before
-      (setting_of problem budget).in_turn
-      (run (quiver_of problem.parts.quiver) (problem_play problem) letters rank (setting_of problem budget) order_laws (generators_in_play problem) (turns_in_range problem) (λ r. Unit {0}) nothing (suc n) before is)
-      round.takes (Ok (recorded s)) round.turns).0
+    now_in_run : (n : ℕ) (s : RunState) → IsRunState setting n s → NowInRun (done_after setting n) s.treated (recorded s)
+    now_in_run = run (quiver_of problem.parts.quiver) (problem_play problem) letters rank setting order_laws (generators_in_play problem) (turns_in_range problem) P kept
+
+    pub kept_in_run : (n : ℕ) (s : RunState) → IsRunState setting n s → P (recorded s)
+    kept_in_run n s is = (now_in_run n s is).1
+
+    abbrev pub ZeroFails : ReduceFault → Type 0
+    ZeroFails = GeneratorFails (quiver_of problem.parts.quiver) (problem_play problem) letters rank setting order_laws (generators_in_play problem) (turns_in_range problem) P kept
+
+    pub zero_in_run : (s : RunState) → IsRunState setting 0 s → (r : Result Recorded ReduceFault) → ZeroTurns setting s r
+        → Comes (λ done t. NowInRun done s.treated t) ZeroFails setting.in_turn r
+    zero_in_run s is =
+        zero_turns (quiver_of problem.parts.quiver) (problem_play problem) letters rank setting order_laws (generators_in_play problem) (turns_in_range problem) P kept s
+        (now_in_run 0 s is)
+
+    abbrev pub FailsLater : List Rule → List Ambiguity → ReduceFault → Type 0
+    FailsLater = LaterFails (quiver_of problem.parts.quiver) (problem_play problem) letters rank setting order_laws (generators_in_play problem) (turns_in_range problem) P kept
+
+    pub later_in_run : (n : ℕ) (s : RunState) → IsRunState setting (suc n) s → (takes : Takes setting s) (r : Result Recorded ReduceFault) → LaterTurns setting s takes r
+        → Comes (λ treated t. BeginsWith s.rules t.rules × NowInRun setting.in_turn treated t) (FailsLater s.rules (taken_by setting s takes)) (s.treated ++ taken_by setting s takes) r
+    later_in_run n s is =
+        later_turns (quiver_of problem.parts.quiver) (problem_play problem) letters rank setting order_laws (generators_in_play problem) (turns_in_range problem) P kept s setting.in_turn
+        (now_in_run (suc n) s is)
+
+  pub rules_begin : (n : ℕ) (before s : RunState) → IsRunState setting (suc n) before → Treats setting before s → BeginsWith before.rules s.rules
+  rules_begin n before s is round = (later_in_run (λ r. Unit {0}) nothing n before is round.takes (Ok (recorded s)) round.turns).0
     where
       nothing : IsKeptInRun (λ r. Unit {0})
-      nothing = nothing_kept (quiver_of problem.parts.quiver) (problem_play problem) letters rank (setting_of problem budget) order_laws (generators_in_play problem)
+      nothing = nothing_kept (quiver_of problem.parts.quiver) (problem_play problem) letters rank setting order_laws (generators_in_play problem)
 
-  module _ (n : ℕ) (s : RunState) (is : IsRunState (setting_of problem budget) n s) where
-    pub state_kept : IsKeptState (quiver_of problem.parts.quiver) (problem_play problem) letters (setting_of problem budget) (done_after (setting_of problem budget) n) s
+  module _ (n : ℕ) (s : RunState) (is : IsRunState setting n s) where
+    pub state_kept : IsKeptState (quiver_of problem.parts.quiver) (problem_play problem) letters setting (done_after setting n) s
     state_kept =
-        runs_are_kept (quiver_of problem.parts.quiver) (problem_play problem) letters rank (setting_of problem budget) n s order_laws
+        runs_are_kept (quiver_of problem.parts.quiver) (problem_play problem) letters rank setting n s order_laws
         (generators_in_play problem) (turns_in_range problem) is
 
     treated_or_pending : (a : Ambiguity) → IsAmbiguity s.rules a → IsTreatedOrPending s a

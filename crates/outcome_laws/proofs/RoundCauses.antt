@@ -48,7 +48,7 @@ use Rattle.outcome_laws.proofs.StepMade.{reduced_of}
 use Rattle.outcome_laws.proofs.LettersInPlay.{problem_play, generators_in_play}
 use Rattle.outcome_laws.proofs.MadeStates.{IsMade, first_shaped, first_reduction, made_kept, states_made}
 use Rattle.outcome_laws.proofs.ProblemPolynomials.{generator_is, turns_in_range}
-use Rattle.outcome_laws.proofs.ProblemStates.{order_laws, state_kept}
+use Rattle.outcome_laws.proofs.ProblemStates.{order_laws, zero_in_run, FailsLater, later_in_run, state_kept}
 use Rattle.outcome_laws.proofs.RoundEnds.{Takes, ZeroTurns, LaterTurns, taken_by, taken_are, StopsLater, pairs_spent, gives_up, zero_ends, later_ends}
 use Rattle.outcome_laws.proofs.RoundFaults.{FirstFails, not_made, not_reduced, first_fails, SecondStops, in_steps, in_products, second_stops}
 use Rattle.outcome_laws.proofs.RunsKept.{BeginsWith, IsFirst, first_with}
@@ -98,9 +98,7 @@ module _ (problem : Problem) (budget : Budget) where
     -- round 0
     zero_means : (s : RunState) → IsRunState setting 0 s → (e : ReduceFault) (c : Cause) → IsCauseOf e c → ZeroTurns setting s (Err e) → Means (place.Round 0) c
     zero_means s is e c why turns =
-        let q = quiver_of problem.parts.quiver in
-        let now = run q (problem_play problem) letters rank setting (order_laws problem budget) (generators_in_play problem) (turns_in_range problem) (IsMade problem budget) (made_kept problem budget) 0 s is in
-        let fails = zero_turns q (problem_play problem) letters rank setting (order_laws problem budget) (generators_in_play problem) (turns_in_range problem) (IsMade problem budget) (made_kept problem budget) s now (Err e) turns in
+        let fails = zero_in_run problem budget (IsMade problem budget) (made_kept problem budget) s is (Err e) turns in
         let in_range = fails.at.in_range in
         reduction_means problem budget number (place.Round 0) least
         (record {
@@ -149,13 +147,9 @@ module _ (problem : Problem) (budget : Budget) where
 
       later_means : (takes : Takes setting s) (e : ReduceFault) (c : Cause) → IsCauseOf e c → LaterTurns setting s takes (Err e) → Means (place.Round (suc n)) c
       later_means takes e c why turns =
-          let q = quiver_of problem.parts.quiver in
-          let now = run q (problem_play problem) letters rank setting (order_laws problem budget) (generators_in_play problem) (turns_in_range problem) (IsMade problem budget) (made_kept problem budget) (suc n) s is_state in
-          go (later_turns q (problem_play problem) letters rank setting (order_laws problem budget) (generators_in_play problem) (turns_in_range problem) (IsMade problem budget) (made_kept problem budget) s (done_after setting (suc n)) now
-          takes (Err e) turns)
+          go (later_in_run problem budget (IsMade problem budget) (made_kept problem budget) n s is_state takes (Err e) turns)
         where
-          go : LaterFails (quiver_of problem.parts.quiver) (problem_play problem) letters rank setting (order_laws problem budget) (generators_in_play problem) (turns_in_range problem) (IsMade problem budget) (made_kept problem budget)
-              s.rules (taken_by setting s takes) e → Means (place.Round (suc n)) c
+          go : FailsLater problem budget (IsMade problem budget) (made_kept problem budget) s.rules (taken_by setting s takes) e → Means (place.Round (suc n)) c
           go (in_first ends) = first_means e c why (first_fails compare budget.steps s.rules (taken_by setting s takes) e (taken_are setting s takes) ends)
           go (in_second a first before at ends) =
               second_means e c why a first at.is_first before.rules (rules_of before at.done at.treated at.kept.0 at.holds) at.begins
