@@ -40,7 +40,8 @@ module _ (q : Quiver) (play : ℕ → Bool) (letters : ℕ) (compare : Compare) 
       (quotient_words (IsOver letters) _ g.poly.terms (t ∷ p) from.divided is.over)
       from.rows
 
-  pub appended : (p : List Term) (rows : List Row) (before after : Recorded) → IsGenerator q play letters p → Adds compare (rest_with p rows) before after → IsAppended letters compare p rows before.rules before.made after.rules after.made
+  pub appended : (p : List Term) (rows : List Row) (before after : Recorded) → IsGenerator q play letters p → Adds compare (rest_with p rows) before after
+      → IsAppended letters compare p rows before.rules before.made after.rules after.made
   appended [] rows before after is same = nothing_left (record { at = λ w. refl }) (ap (λ (r : Recorded). r.rules) same) (ap (λ (r : Recorded). r.made) same)
   appended (t ∷ p) rows before after is extended =
       rule_made extended.rule extended.made (made_of t p rows extended.rule extended.made is extended.made_from)

@@ -156,7 +156,8 @@ module _ (rules : List Rule) (leads : HaveDistinctLeads rules) where
         contains_places letters most (overlap_word_of rules a) (row a) (column a) s.in_letters s.short inside.0 inside.1
 
     -- pairwise distinct ambiguities with short overlap words are no more than the places
-    pub short_are_few : (xs : List Ambiguity) → AllPairs (λ a b. a ≢ b) xs → ((a : Ambiguity) → Contains xs a → IsShort rules letters most a) → length xs ≤ short_ambiguities (length letters) most
+    pub short_are_few : (xs : List Ambiguity) → AllPairs (λ a b. a ≢ b) xs → ((a : Ambiguity) → Contains xs a → IsShort rules letters most a)
+        → length xs ≤ short_ambiguities (length letters) most
     short_are_few xs distinct short =
         omega (
           arith,

@@ -17,7 +17,8 @@ module _ {A : Type 0} where
     pub many : length taken ≤ round_limit * length firsts
 
   pub none_taken : (Asked : A → Type 0) → HasFirsts Asked []
-  none_taken Asked = record { firsts = []; distinct = λ i j d before inside. absurd (omega (arith, inside)); members = λ x m. absurd (contains-none x m); asked = λ x m. absurd (contains-none x m); many = omega arith }
+  none_taken Asked =
+      record { firsts = []; distinct = λ i j d before inside. absurd (omega (arith, inside)); members = λ x m. absurd (contains-none x m); asked = λ x m. absurd (contains-none x m); many = omega arith }
 
   pub firsts_weaker : (P Q : A → Type 0) → ((x : A) → P x → Q x) → (taken : List A) → HasFirsts P taken → HasFirsts Q taken
   firsts_weaker P Q weaker taken f = record { firsts = f.firsts; distinct = f.distinct; members = f.members; asked = λ x m. weaker x (f.asked x m); many = f.many }
@@ -25,7 +26,8 @@ module _ {A : Type 0} where
   -- one more that was not taken before
   module _ (Asked : A → Type 0) (before : List A) (f : HasFirsts Asked before) (x : A) (is : Asked x) (new : Contains before x → ⊥) where
     pub distinct_more : AllPairs (λ y z. y ≢ z) (x ∷ f.firsts)
-    distinct_more = AllPairs-cons (λ y z. y ≢ z) x f.firsts (λ k d inside e. new (subst (Contains before) (sym e) (f.members (get_or f.firsts k d) (Contains-get_or f.firsts k d inside)))) f.distinct
+    distinct_more =
+        AllPairs-cons (λ y z. y ≢ z) x f.firsts (λ k d inside e. new (subst (Contains before) (sym e) (f.members (get_or f.firsts k d) (Contains-get_or f.firsts k d inside)))) f.distinct
 
     pub asked_more : (y : A) → Contains (x ∷ f.firsts) y → Asked y
     asked_more y m = go (contains-cases x f.firsts y m)

@@ -34,7 +34,8 @@ module _ {X : Type 0} (R : X → X → Type 0) where
 
 module _ (letters : ℕ) (rank : List ℕ → List ℕ) (setting : Setting) (laws : IsAdmissible letters setting.compare rank) where
   -- one that waits before another one, both with their overlap words, is another ambiguity
-  before_apart : (rules : List Rule) (v w : Waiting) → v.word ≡ overlap_word_of rules v.which → w.word ≡ overlap_word_of rules w.which → IsWaitingBefore setting.compare v w → v.which ≢ w.which
+  before_apart : (rules : List Rule) (v w : Waiting) → v.word ≡ overlap_word_of rules v.which → w.word ≡ overlap_word_of rules w.which
+      → IsWaitingBefore setting.compare v w → v.which ≢ w.which
   before_apart rules v w one other before same =
       let words : v.word ≡ w.word = one ∙ ap (overlap_word_of rules) same ∙ sym other in
       let whole : v ≡ w = λ n. record { which = same n; word = words n } in

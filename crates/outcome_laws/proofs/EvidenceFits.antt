@@ -161,4 +161,5 @@ module _ (problem : Problem) (budget : Budget) (number : ℕ) where
 
 -- the law
 pub evidence_fits : EvidenceFits
-evidence_fits problem budget form number e is = all_within problem budget number form e (way (setting_of problem budget) form number (claim_at problem number) (outcome.Derived e) is.rounds is.state is.gets)
+evidence_fits problem budget form number e is =
+    all_within problem budget number form e (way (setting_of problem budget) form number (claim_at problem number) (outcome.Derived e) is.rounds is.state is.gets)

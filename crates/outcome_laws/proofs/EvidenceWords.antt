@@ -60,7 +60,8 @@ module _ (P : Cofactors → Type 0) (R : Made → Type 0) (nothing : P none) (ge
       go (record_expansion (known_from expansions) e.1) refl ends
       (λ x holds. expansion_from_is (insert_entry nat_cmp expansions e.0 x) rest target c (each_with (λ d. P d.1) expansions e.0 x each holds) rules.1 is)
     where
-      go : (r : Result Cofactors ExpandFault) → record_expansion (known_from expansions) e.1 ≡ r → and_then r (λ x. expansion_from (insert_entry nat_cmp expansions e.0 x) rest target) ≡ Ok c
+      go : (r : Result Cofactors ExpandFault) → record_expansion (known_from expansions) e.1 ≡ r
+          → and_then r (λ x. expansion_from (insert_entry nat_cmp expansions e.0 x) rest target) ≡ Ok c
           → ((x : Cofactors) → P x → expansion_from (insert_entry nat_cmp expansions e.0 x) rest target ≡ Ok c → P c) → P c
       go (Ok x) is_made k next = next x (keeps (known_from expansions) e.1 x (known_is expansions each) rules.0 is_made) k
       go (Err f) is_made k next = absurd (cc)

@@ -47,7 +47,8 @@ module _ (problem : Problem) (budget : Budget) where
   IsMade r = AreMade problem budget r.rules r.made
 
   -- what is left becomes a rule, where it isn't zero
-  one_made : (p : List Term) (rows : List Row) (before after : Recorded) → IsMade before → IsLeftBy problem budget before.rules p rows → Adds compare (rest_with p rows) before after → IsMade after
+  one_made : (p : List Term) (rows : List Row) (before after : Recorded) → IsMade before → IsLeftBy problem budget before.rules p rows
+      → Adds compare (rest_with p rows) before after → IsMade after
   one_made [] rows before after held left same = subst IsMade (sym same) held
   one_made (t ∷ p) rows before after held left extended =
       subst IsMade (sym extended.appended)

@@ -85,7 +85,8 @@ module _ (problem : Problem) (budget : Budget) (number : ℕ) where
     lemmas = lemma_polys (polynomials_of by.state.rules) by.state.made (record_of by.reduced);
     evidence = gathering_adds_up problem budget number by.rounds by.state by.run by.reduced by.reduction by.none c ends;
   })
-  way_means form o (left_over rounds s is_open round rest left is) = subst Means (sym is) (λ inside. closed_outside problem budget number rounds s rest.terms is_open round left inside)
+  way_means form o (left_over rounds s is_open round rest left is) =
+      subst Means (sym is) (λ inside. closed_outside problem budget number rounds s rest.terms is_open round left inside)
   way_means form o (given_up at c stops is) = subst Means (sym is) (work_means at c stops)
   way_means form o (with_run rounds s halt is_open round is) =
       let means = stop_means problem budget number rounds s halt is_open round in
@@ -97,7 +98,8 @@ module _ (problem : Problem) (budget : Budget) (number : ℕ) where
 
 -- the laws
 pub outcomes_mean_what_they_say : OutcomesMeanWhatTheySay
-outcomes_mean_what_they_say problem budget form number o is = way_means problem budget number form o (way (setting_of problem budget) form number (claim_at problem number) o is.rounds is.state is.gets)
+outcomes_mean_what_they_say problem budget form number o is =
+    way_means problem budget number form o (way (setting_of problem budget) form number (claim_at problem number) o is.rounds is.state is.gets)
 
 pub derived_claims_add_up : DerivedClaimsAddUp
 derived_claims_add_up problem budget form number e is = outcomes_mean_what_they_say problem budget form number (outcome.Derived e) is

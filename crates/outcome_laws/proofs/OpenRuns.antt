@@ -104,7 +104,8 @@ module _ (problem : Problem) (budget : Budget) where
     claim = claim_at problem number
 
     pub claim_reduced : (n : ℕ) (s : RunState) → IsRunState setting n s → (left : State) → normal_form_of compare s.rules claim budget.steps ≡ Ok left → IsReduced letters compare s.rules claim left
-    claim_reduced n s is left ends = normal_forms_are_reduced letters compare rank s.rules claim budget.steps left (order_laws problem budget) (state_kept problem budget n s is).kept.are_rules (claim_is problem number).shaped (claim_is problem number).over ends
+    claim_reduced n s is left ends =
+        normal_forms_are_reduced letters compare rank s.rules claim budget.steps left (order_laws problem budget) (state_kept problem budget n s is).kept.are_rules (claim_is problem number).shaped (claim_is problem number).over ends
 
     -- what is left isn't zero
     left_nonzero : (rules : List Rule) (rest : List Term) (left : IsLeft setting rules claim rest) → IsNonzero left.reduced.rest

@@ -62,7 +62,8 @@ module _ (problem : Problem) (budget : Budget) where
 
     -- the record of the claim
     target_over : (by : IsProvedBy setting_in claim) → All (IsOverRow letters_in) by.reduced.rows
-    target_over by = (reduced_over letters_in setting_in.compare by.state.rules (rules_of by.rounds by.state by.run) claim setting_in.budget.steps by.reduced (claim_is problem number).over by.reduction).1
+    target_over by =
+        (reduced_over letters_in setting_in.compare by.state.rules (rules_of by.rounds by.state by.run) claim setting_in.budget.steps by.reduced (claim_is problem number).over by.reduction).1
 
     expanded_over : (by : IsProvedBy setting_in claim) (c : Cofactors) → expansion_of by.state.made (record_of by.reduced) ≡ Ok c → IsEvidenceOver ds (certificate_of number c)
     expanded_over by c ends =
@@ -92,7 +93,8 @@ module _ (problem : Problem) (budget : Budget) where
         let over = (reduced_over letters_in setting_in.compare s.rules (rules_of rounds s (open_run setting_in claim rounds s is_open)) claim setting_in.budget.steps left.reduced (claim_is problem number).over left.reduction).0 in
         subst (IsOutcomeOver ds) (sym is) (subst (λ (p : List Term). All (λ t. IsOver letters_in t.1) p) left.rest_is over)
     outcome_over o (given_up at c stops is) = subst (IsOutcomeOver ds) (sym is) tt
-    outcome_over o (with_run rounds s halt is_open round is) = subst (IsOutcomeOver ds) (sym is) (least_is_over halt.least (least_over problem budget rounds s halt (open_run setting_in claim rounds s is_open) round))
+    outcome_over o (with_run rounds s halt is_open round is) =
+        subst (IsOutcomeOver ds) (sym is) (least_is_over halt.least (least_over problem budget rounds s halt (open_run setting_in claim rounds s is_open) round))
 
 -- the laws
 pub outcomes_have_letters : OutcomesHaveLetters

@@ -50,12 +50,14 @@ pub data Way (setting : Setting) (form : Format) (number : ℕ) (claim : List Te
   expanded : (by : IsProvedBy setting claim) (c : Cofactors) → expansion_of by.state.made (record_of by.reduced) ≡ Ok c → o ≡ outcome.Derived (certificate_of number c) → Way setting form number claim o
   gathered : (by : IsProvedBy setting claim) (c : LemmaCertificate) → gathered_of number by.state.made (record_of by.reduced) ≡ Ok c → o ≡ outcome.Derived (evidence.Lemmas c) → Way setting form number claim o
   -- with a rest
-  left_over : (rounds : ℕ) (s : RunState) → IsOpen setting claim rounds s → IsRound setting rounds s closed → (rest : Poly) → IsLeft setting s.rules claim rest.terms → o ≡ outcome.Closed rest
+  left_over : (rounds : ℕ) (s : RunState) → IsOpen setting claim rounds s → IsRound setting rounds s closed → (rest : Poly) → IsLeft setting s.rules claim rest.terms
+      → o ≡ outcome.Closed rest
       → Way setting form number claim o
   -- in the work on the claim
   given_up : (at : Place) (c : Cause) → GivesUp setting number claim at c → o ≡ halted_at at c → Way setting form number claim o
   -- with the run
-  with_run : (rounds : ℕ) (s : RunState) (halt : Halt) → IsOpen setting claim rounds s → IsRound setting rounds s (stopped halt) → o ≡ outcome.Halted halt → Way setting form number claim o
+  with_run : (rounds : ℕ) (s : RunState) (halt : Halt) → IsOpen setting claim rounds s → IsRound setting rounds s (stopped halt) → o ≡ outcome.Halted halt
+      → Way setting form number claim o
 
 module _ (setting : Setting) (form : Format) (number : ℕ) (claim : List Term) (o : Outcome) where
   abbrev Ways : Type 0

@@ -42,7 +42,8 @@ module _ (problem : Problem) (budget : Budget) (form : Format) (number : ℕ) (w
 
 -- the laws
 pub pairs_are_enough : PairsAreEnough
-pairs_are_enough problem budget form number word o has is = way_suffices problem budget form number word has o (way (setting_of problem budget) form number (claim_at problem number) o is.rounds is.state is.gets)
+pairs_are_enough problem budget form number word o has is =
+    way_suffices problem budget form number word has o (way (setting_of problem budget) form number (claim_at problem number) o is.rounds is.state is.gets)
 
 pub pairs_are_enough_for_each : PairsAreEnoughForEach
 pairs_are_enough_for_each problem budget form [] [] each = tt

@@ -24,7 +24,8 @@ module _ (problem : Problem) (budget : Budget) where
   ArePrimitive r = All IsPrimitive r.rules
 
   -- what is left becomes a rule, where it isn't zero
-  one_made : (p : List Term) (rows : List Row) (before after : Recorded) → Adds (asked_cmp problem.parts.order) (rest_with p rows) before after → ArePrimitive before → ArePrimitive after
+  one_made : (p : List Term) (rows : List Row) (before after : Recorded) → Adds (asked_cmp problem.parts.order) (rest_with p rows) before after → ArePrimitive before
+      → ArePrimitive after
   one_made [] rows before after same each = subst ArePrimitive (sym same) each
   one_made (t ∷ p) rows before after more each =
       let from = more.made_from in

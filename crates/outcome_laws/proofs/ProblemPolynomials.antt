@@ -83,7 +83,8 @@ module _ (problem : Problem) where
       (generators_have_signatures problem.parts problem.posed problem.generators problem.closed)
 
   pub generator_is : (n : ℕ) → IsGenerator (quiver_of problem.parts.quiver) any_letter (letter_count problem.parts.quiver) (generator_at (polynomials problem.generators) n)
-  generator_is = one_typed (quiver_of problem.parts.quiver) (letter_count problem.parts.quiver) (letters-quiver_of problem.parts.quiver) (polynomials problem.generators) generators_are
+  generator_is =
+      one_typed (quiver_of problem.parts.quiver) (letter_count problem.parts.quiver) (letters-quiver_of problem.parts.quiver) (polynomials problem.generators) generators_are
 
   pub claim_is : (number : ℕ) → IsGenerator (quiver_of problem.parts.quiver) any_letter (letter_count problem.parts.quiver) (claim_at problem number)
   claim_is number =

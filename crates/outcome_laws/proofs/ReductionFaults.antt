@@ -139,8 +139,10 @@ module _ (letters : ℕ) (compare : Compare) (rank : List ℕ → List ℕ) (law
 -- the normal form of a polynomial
 pub normal_form_stops : (letters : ℕ) (compare : Compare) (rank : List ℕ → List ℕ) (rules : List Rule) (p : List Term) (steps : ℕ) (e : ReduceFault) → IsAdmissible letters compare rank → IsShaped p
     → normal_form_of compare rules p steps ≡ Err e → Stops compare rules steps steps (unreduced p) e
-normal_form_stops letters compare rank rules p steps e laws shaped ends = subst (Ends letters compare rank laws rules steps steps (unreduced p)) ends (ends_by letters compare rank laws rules steps steps (start_of p) shaped)
+normal_form_stops letters compare rank rules p steps e laws shaped ends =
+    subst (Ends letters compare rank laws rules steps steps (unreduced p)) ends (ends_by letters compare rank laws rules steps steps (start_of p) shaped)
 
 pub normal_form_leaves : (letters : ℕ) (compare : Compare) (rank : List ℕ → List ℕ) (rules : List Rule) (p : List Term) (steps : ℕ) (s : State) → IsAdmissible letters compare rank → IsShaped p
     → normal_form_of compare rules p steps ≡ Ok s → Leaves compare rules steps (unreduced p) (reduced_of s)
-normal_form_leaves letters compare rank rules p steps s laws shaped ends = subst (Ends letters compare rank laws rules steps steps (unreduced p)) ends (ends_by letters compare rank laws rules steps steps (start_of p) shaped)
+normal_form_leaves letters compare rank rules p steps s laws shaped ends =
+    subst (Ends letters compare rank laws rules steps steps (unreduced p)) ends (ends_by letters compare rank laws rules steps steps (start_of p) shaped)

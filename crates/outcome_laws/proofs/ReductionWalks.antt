@@ -52,7 +52,8 @@ module _ (compare : Compare) (rules : List Rule) (limit : ℕ) (P : ℕ → Stat
       go (Some c) chosen = spent s c chosen
   reduction_ends (suc n) s = go (choice_of compare (entries_of rules) s.rest) refl (reduction_ends n)
     where
-      go : (o : Option Choice) → choice_of compare (entries_of rules) s.rest ≡ o → ((t : State) → P n t (reduction limit compare rules n t)) → P (suc n) s (one_step rules o s (reduction limit compare rules n))
+      go : (o : Option Choice) → choice_of compare (entries_of rules) s.rest ≡ o → ((t : State) → P n t (reduction limit compare rules n t))
+          → P (suc n) s (one_step rules o s (reduction limit compare rules n))
       go None none later = ended (suc n) s none
       go (Some c) chosen later = by_result (step_result rules c s) (sym (ap (λ o. step_by o c s) is.numbered))
         where

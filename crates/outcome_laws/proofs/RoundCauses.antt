@@ -9,7 +9,7 @@ use Rattle.definitions.specs.Poly.{Term}
 use Rattle.definitions.specs.Combination.{generator_at}
 use Rattle.word_orders.specs.Admissible.{Compare}
 use Rattle.word_orders.specs.Specified.{asked_cmp}
-use Rattle.quiver.specs.Declarations.{letter_count, quiver_of}
+use Rattle.quiver.specs.Declarations.{letter_count}
 use Rattle.traced_rows.specs.declared.Row.{Row}
 use Rattle.cofactor_trace.specs.declared.halt.Cause.{Cause}
 use Rattle.cofactor_trace.specs.declared.halt.Cause.TheVariants as cause
@@ -45,14 +45,13 @@ use Rattle.outcome_laws.proofs.ReductionCauses.{reduction_means, s_polynomial_me
 use Rattle.outcome_laws.proofs.ReductionFaults.{normal_form_stops, normal_form_leaves}
 use Rattle.outcome_laws.proofs.SPolynomialFaults.{s_polynomial_stops}
 use Rattle.outcome_laws.proofs.StepMade.{reduced_of}
-use Rattle.outcome_laws.proofs.LettersInPlay.{problem_play, generators_in_play}
 use Rattle.outcome_laws.proofs.MadeStates.{IsMade, first_shaped, first_reduction, made_kept, states_made}
-use Rattle.outcome_laws.proofs.ProblemPolynomials.{generator_is, turns_in_range}
+use Rattle.outcome_laws.proofs.ProblemPolynomials.{generator_is}
 use Rattle.outcome_laws.proofs.ProblemStates.{order_laws, zero_in_run, FailsLater, later_in_run, state_kept}
 use Rattle.outcome_laws.proofs.RoundEnds.{Takes, ZeroTurns, LaterTurns, taken_by, taken_are, StopsLater, pairs_spent, gives_up, zero_ends, later_ends}
 use Rattle.outcome_laws.proofs.RoundFaults.{FirstFails, not_made, not_reduced, first_fails, SecondStops, in_steps, in_products, second_stops}
 use Rattle.outcome_laws.proofs.RunsKept.{BeginsWith, IsFirst, first_with}
-use Rattle.outcome_laws.proofs.Walks.{LaterFails, in_first, in_second, zero_turns, later_turns, run}
+use Rattle.outcome_laws.proofs.Walks.{in_first, in_second}
 use Rattle.outcome_laws.proofs.WholeRuns.{first_is_least_pending}
 
 -- a product of the rows of a rule that a second reduction makes
@@ -79,7 +78,8 @@ module _ (problem : Problem) (budget : Budget) where
   abbrev generators : List (List Term)
   generators = polynomials problem.generators
 
-  abbrev rules_of : (r : Recorded) (done : List ℕ) (treated : List Ambiguity) → Kept letters compare generators r.rules r.made done treated → AreMade problem budget r.rules r.made → AreRulesOf problem budget r.rules
+  abbrev rules_of : (r : Recorded) (done : List ℕ) (treated : List Ambiguity) → Kept letters compare generators r.rules r.made done treated
+      → AreMade problem budget r.rules r.made → AreRulesOf problem budget r.rules
   rules_of r done treated now made = record {
     are_rules = now.are_rules;
     records = r.made;
@@ -129,7 +129,8 @@ module _ (problem : Problem) (budget : Budget) where
           (normal_form_stops letters compare rank s.rules p budget.steps e (order_laws problem budget) shaped ends) why
 
       -- the rest of a first reduction isn't reduced, or a product of the rows overflows
-      second_means : (e : ReduceFault) (c : Cause) → IsCauseOf e c → (a : Ambiguity) (first : State) → IsFirst setting s.rules a first → (so_far : List Rule) → AreRulesOf problem budget so_far → BeginsWith s.rules so_far
+      second_means : (e : ReduceFault) (c : Cause) → IsCauseOf e c → (a : Ambiguity) (first : State) → IsFirst setting s.rules a first → (so_far : List Rule)
+          → AreRulesOf problem budget so_far → BeginsWith s.rules so_far
           → SecondStops compare budget.steps (first_with s.rules a first) so_far e → Means (place.Round (suc n)) c
       second_means e c why a first is so_far are begins (in_steps ends) =
           reduction_means problem budget number (place.Round (suc n)) least
@@ -188,4 +189,5 @@ module _ (problem : Problem) (budget : Budget) where
     where
       go : StopsLater setting s (suc n) h → StopMeans number h
       go (pairs_spent w ws all spent is) = subst (StopMeans number) (sym is) (pairs_mean number (Some w.word) n s is_state w ws all spent refl)
-      go (gives_up takes stop) = subst (StopMeans number) (sym stop.is) (later_means number (Some takes.first.word) n s is_state takes stop.fault stop.reason stop.reason_of stop.turns)
+      go (gives_up takes stop) =
+          subst (StopMeans number) (sym stop.is) (later_means number (Some takes.first.word) n s is_state takes stop.fault stop.reason stop.reason_of stop.turns)

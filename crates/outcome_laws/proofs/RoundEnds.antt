@@ -92,7 +92,8 @@ module _ (setting : Setting) (s : RunState) where
   pub later_ends : (number : ℕ) (outcome : Outcome) → IsLaterRound setting number s outcome → LaterEnds number outcome
   later_ends number outcome round = go round.pending round.all_pending round.treats
     where
-      taken : (takes : Takes setting s) (o : Outcome) → EndsBy (LaterTurns takes) (GivesUp (LaterTurns takes) (place.Round number) (Some takes.first.word)) (s.treated ++ taken_by takes) o → LaterEnds number o
+      taken : (takes : Takes setting s) (o : Outcome)
+          → EndsBy (LaterTurns takes) (GivesUp (LaterTurns takes) (place.Round number) (Some takes.first.word)) (s.treated ++ taken_by takes) o → LaterEnds number o
       taken takes (went after) ends = record { takes = takes; turns = ends.0; treated = ends.1 }
       taken takes closed ends = absurd ends
       taken takes (stopped h) ends = gives_up takes ends

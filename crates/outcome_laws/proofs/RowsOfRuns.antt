@@ -45,8 +45,10 @@ module _ (problem : Problem) (budget : Budget) where
   pub record KeepsRows (IsPoly : List Term → Type 0) (IsRow : Row → Type 0) (IsMade : Made → Type 0) : Type 0 where
     pub negative : (r : Row) → IsRow r → IsRow (negated_row r)
     pub multiple : (by : ℤ) (r : Row) → IsRow r → IsCoefficient (r.coef *ℤ by) → IsRow (multiplied_row by r)
-    pub reduced : (rules : List Rule) (p : List Term) (s : State) → AreRules rules → IsPoly p → normal_form_of compare rules p budget.steps ≡ Ok s → IsPoly s.rest × All IsRow s.rows
-    pub ambiguous : (rules : List Rule) (a : Ambiguity) (p : List Term) → AreRules rules → IsAmbiguity rules a → s_polynomial_of rules a ≡ Ok p → IsPoly p × All IsRow (s_rows_of rules a)
+    pub reduced : (rules : List Rule) (p : List Term) (s : State) → AreRules rules → IsPoly p → normal_form_of compare rules p budget.steps ≡ Ok s
+        → IsPoly s.rest × All IsRow s.rows
+    pub ambiguous : (rules : List Rule) (a : Ambiguity) (p : List Term) → AreRules rules → IsAmbiguity rules a → s_polynomial_of rules a ≡ Ok p
+        → IsPoly p × All IsRow (s_rows_of rules a)
     pub polynomial : (number : ℕ) → IsPoly (generator number)
     pub row : (number : ℕ) (rules : List Rule) (s : State) → AreRules rules → normal_form_of compare rules (generator number) budget.steps ≡ Ok s
         → IsRow (record { coef = s.multiplier; left = []; from = origin.Generator number; right = [] })
@@ -80,7 +82,8 @@ module _ (problem : Problem) (budget : Budget) where
     AreMade r = All IsMade r.made
 
     -- what is left becomes a rule, where it isn't zero
-    one_made : (p : List Term) (rows : List Row) (before after : Recorded) → Adds compare (rest_with p rows) before after → AreMade before → IsPoly p → (0 < length p → AreRows rows) → AreMade after
+    one_made : (p : List Term) (rows : List Row) (before after : Recorded) → Adds compare (rest_with p rows) before after → AreMade before → IsPoly p
+        → (0 < length p → AreRows rows) → AreMade after
     one_made [] rows before after same held is each = subst AreMade (sym same) held
     one_made (t ∷ p) rows before after more held is each =
         let rows_are = subst AreRows (sym more.made_from.rows) (signed (leads_negative compare (t ∷ p)) rows (each (omega arith))) in

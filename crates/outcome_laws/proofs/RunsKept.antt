@@ -85,7 +85,8 @@ module _ (q : Quiver) (play : ℕ → Bool) (letters : ℕ) (rank : List ℕ →
   generator_of (suc n) in_range = All-get_or (IsGenerator q play letters) generators n [] (omega (arith, in_range.1)) each
 
   -- what a reduction by rules of one signature leaves
-  left : (rules : List Rule) (p : List Term) (s : State) → All (IsRule letters compare) rules → AreTypedInPlay q play rules → IsGenerator q play letters p → normal_form_of compare rules p setting.budget.steps ≡ Ok s
+  left : (rules : List Rule) (p : List Term) (s : State) → All (IsRule letters compare) rules → AreTypedInPlay q play rules → IsGenerator q play letters p
+      → normal_form_of compare rules p setting.budget.steps ≡ Ok s
       → IsReduced letters compare rules p s × IsGenerator q play letters s.rest
   left rules p s are rules_typed is ends =
       let reduced = normal_forms_are_reduced letters compare rank rules p setting.budget.steps s laws are is.shaped is.over ends in
@@ -99,7 +100,8 @@ module _ (q : Quiver) (play : ℕ → Bool) (letters : ℕ) (rank : List ℕ →
       )
 
   pub generator_kept : (n : ℕ) → (1 ≤ n) × (n ≤ length generators) → (before after : Recorded) (done : List ℕ) (treated : List Ambiguity) (s : State) → KeptNow before done treated
-      → normal_form_of compare before.rules (generator_at generators n) setting.budget.steps ≡ Ok s → Adds compare (rest_with s.rest (generator_rows n s.multiplier s.rows)) before after → KeptNow after (done ++ (n ∷ [])) treated
+      → normal_form_of compare before.rules (generator_at generators n) setting.budget.steps ≡ Ok s
+      → Adds compare (rest_with s.rest (generator_rows n s.multiplier s.rows)) before after → KeptNow after (done ++ (n ∷ [])) treated
   generator_kept n in_range before after done treated s now ends added =
       let is = left before.rules (generator_at generators n) s now.0.are_rules now.1 (generator_of n in_range) ends in
       let rows = generator_rows n s.multiplier s.rows in

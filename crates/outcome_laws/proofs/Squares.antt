@@ -57,7 +57,8 @@ module _ (letters : List ℕ) where
 
   contains_words : (w : Word) → AllIn letters w → Contains (words (length w)) w
   contains_words [] h = contains-first [] []
-  contains_words (a ∷ w) h = contains_flat_map (λ b. map (λ v. b ∷ v) (words (length w))) a (a ∷ w) letters h.0 (contains-map (λ v. a ∷ v) (words (length w)) w (contains_words w h.1))
+  contains_words (a ∷ w) h =
+      contains_flat_map (λ b. map (λ v. b ∷ v) (words (length w))) a (a ∷ w) letters h.0 (contains-map (λ v. a ∷ v) (words (length w)) w (contains_words w h.1))
 
   -- the places in the squares over the words of a length
   abbrev row_of : ℕ → Word → ℕ → List Word
