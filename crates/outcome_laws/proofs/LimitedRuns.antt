@@ -4,7 +4,7 @@ use Rattle.std.specs.List.{All}
 use Rattle.std.specs.Int.RustNames.{unsigned_abs}
 use Rattle.std.proofs.lemmas.Int.{ints}
 use Rattle.std.proofs.lemmas.List.{length-map}
-use Rattle.std.proofs.lemmas.List.Elements.{All-nil, All-head, All-map}
+use Rattle.std.proofs.lemmas.List.Elements.{All-head}
 use Rattle.std.specs.Int.{◌∣◌}
 use Rattle.std.proofs.lemmas.Nat.Gcd.{le_of_dvd}
 use Rattle.std.proofs.lemmas.Option.{get_or_from_slice_get, slice_get_within, slice_get-get_or}
@@ -15,7 +15,6 @@ use Rattle.word_orders.specs.Specified.{asked_cmp}
 use Rattle.quiver.specs.Declarations.{letter_count}
 use Rattle.nc_polynomial.specs.declared.poly.Poly.{Poly}
 use Rattle.nc_polynomial.specs.Content.{IsContent}
-use Rattle.nc_polynomial.specs.Limits.{word_limit}
 use Rattle.nc_polynomial.specs.Shape.{IsShaped}
 use Rattle.nc_polynomial.proofs.Divisors.{abs_positive, content-zero}
 use Rattle.traced_rows.specs.declared.Origin.{Origin}
@@ -32,18 +31,14 @@ use Rattle.traced_completion.specs.declared.budget.Budget.{Budget}
 use Rattle.traced_completion.specs.PlainRun.{RunState, IsRunState, setting_of}
 use Rattle.outcome_laws.proofs.AmbiguitiesWithin.{s_polynomial_fits, s_rows_short}
 use Rattle.outcome_laws.proofs.EvidenceRanges.{negative_in_range}
-use Rattle.outcome_laws.proofs.ProblemPolynomials.{generator_is}
+use Rattle.outcome_laws.proofs.ProblemPolynomials.{canonical_at, generator_is}
 use Rattle.outcome_laws.proofs.ProblemStates.{state_kept}
 use Rattle.outcome_laws.proofs.ReducedWithin.{Fits, IsShortRow, reduced_within}
-use Rattle.outcome_laws.proofs.Results.{generator_all}
 use Rattle.outcome_laws.proofs.RowsOfRuns.{KeepsRows, records_made}
 
 -- polynomials of the program
 pub numbered_fits : (ps : List Poly) (number : ℕ) → Fits (generator_at (polynomials ps) number)
-numbered_fits ps =
-    generator_all Fits (polynomials ps)
-    (All-map Fits (λ (p : Poly). p.terms) ps (λ k p inside. record { short = (get_or ps k p).canonical.short; in_range = (get_or ps k p).canonical.shaped.in_range }))
-    (record { short = All-nil (λ (t : Term). length t.1 ≤ word_limit); in_range = All-nil (λ (t : Term). IsCoefficient t.0) })
+numbered_fits ps number = let is = canonical_at ps number in record { short = is.short; in_range = is.shaped.in_range }
 
 -- the content of a polynomial divides its first coefficient
 scale_in_range : (p : List Term) (k : ℤ) → IsShaped p → IsContent p k → pos 0 <ℤ k → IsCoefficient k

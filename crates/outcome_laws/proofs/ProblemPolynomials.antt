@@ -1,8 +1,8 @@
 -- The generators and the claims of a problem are sorted and typed, and their letters are its letters.
-use Rattle.std.proofs.Common.{◌≡◌, ◌≢◌, ◌≤◌, ◌<◌, ℕ, pos, Bool, true, IsTrue, List, [], ◌∷◌, length, refl, sym, subst, arith}
+use Rattle.std.proofs.Common.{◌≡◌, ◌≢◌, ◌≤◌, ◌<◌, ℕ, pos, Bool, true, IsTrue, List, [], ◌∷◌, length, refl, sym, subst, arith, get_or}
 use Rattle.std.specs.List.{All, AllByRecursion, list_all}
 use Rattle.std.proofs.lemmas.List.{length-map}
-use Rattle.std.proofs.lemmas.List.Elements.{All-nil, All-cons}
+use Rattle.std.proofs.lemmas.List.Elements.{All-nil, All-cons, All-map}
 use Rattle.coef_int.specs.Range.{IsCoefficient}
 use Rattle.definitions.specs.Poly.{Term}
 use Rattle.definitions.specs.Combination.{generator_at}
@@ -28,6 +28,23 @@ use Rattle.rule_reduce.proofs.WordsKept.{words_with_coefficients}
 use Rattle.outcome_laws.specs.KeptRuns.{IsGenerator}
 use Rattle.outcome_laws.proofs.Results.{generator_all}
 use Rattle.outcome_laws.proofs.Turns.{each_generator_has_its_turn}
+use Rattle.nc_polynomial.specs.Limits.{word_limit}
+use Rattle.nc_polynomial.specs.Shape.{IsCanonical}
+
+-- polynomials by their numbers
+zero_is_canonical : IsCanonical []
+zero_is_canonical = record {
+  shaped = record {
+    descending = IsDescending-from_recursion [] tt;
+    nonzero = All-nil (λ (t : Term). t.0 ≢ pos 0);
+    in_range = All-nil (λ (t : Term). IsCoefficient t.0);
+  };
+  short = All-nil (λ (t : Term). length t.1 ≤ word_limit);
+  few = omega arith;
+}
+
+pub canonical_at : (ps : List Poly) (n : ℕ) → IsCanonical (generator_at (polynomials ps) n)
+canonical_at ps = generator_all IsCanonical (polynomials ps) (All-map IsCanonical (λ (p : Poly). p.terms) ps (λ k p inside. (get_or ps k p).canonical)) zero_is_canonical
 
 -- paths
 leads_over : (q : Quiver) (u v : ℕ) (w : List ℕ) → leads q u v w ≡ true → IsOver (letters q) w
@@ -62,11 +79,7 @@ module _ (q : Quiver) (n : ℕ) (same : letters q ≡ n) where
 
   zero_is : IsGenerator q any_letter n []
   zero_is = record {
-    shaped = record {
-      descending = IsDescending-from_recursion [] tt;
-      nonzero = All-nil (λ (t : Term). t.0 ≢ pos 0);
-      in_range = All-nil (λ (t : Term). IsCoefficient t.0);
-    };
+    shaped = zero_is_canonical.shaped;
     over = All-nil (λ (t : Term). IsOver n t.1);
     typed = record { source = 0; target = 0; typed = record { at = λ w some. absurd (some refl) }; in_play = record { at = λ w some. absurd (some refl) } };
   }
