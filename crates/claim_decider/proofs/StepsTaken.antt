@@ -1,5 +1,6 @@
 -- What a step of the completion makes of a claim.
-use Rattle.std.proofs.Common.{◌≡◌, ◌<◌, ◌≤◌, ◌⊎◌, inl, inr, ℕ, zero, suc, ◌+◌, ◌-◌, List, [], ◌∷◌, length, get_or, Bool, true, false, ◌||◌, refl, sym, ap, subst, arith}
+use Rattle.std.proofs.lemmas.List.Folds.{list_any_at}
+use Rattle.std.proofs.Common.{◌≡◌, ◌<◌, ◌≤◌, ◌⊎◌, inl, inr, ℕ, suc, ◌+◌, ◌-◌, List, [], ◌∷◌, length, get_or, Bool, true, false, refl, sym, ap, subst, arith}
 use Rattle.std.specs.Prelude.{⊤}
 use Rattle.std.specs.List.{All, AllZip, list_any}
 use Rattle.std.proofs.lemmas.List.Elements.{AllZip-get_or, length_all_zip, All-nil, All-cons, All-map}
@@ -217,22 +218,14 @@ smaller_after form problem c (step.Stopped halt) n pairs olds news zipped few ro
     omega (arith, none)
 
 some_open : (olds : List Case) → (All IsSettled olds → ⊥) → list_any (λ x. is_open x.standing) olds ≡ true
-some_open olds yet =
-    let one = find_open olds yet in
-    any_at olds one.place one.within one.yet
+some_open [] yet = absurd (yet (All-nil IsSettled))
+some_open (x ∷ olds) yet =
+    let one = find_open (x ∷ olds) yet in
+    list_any_at (λ y. is_open y.standing) (x ∷ olds) one.place x one.within (is_open_yet (get_or (x ∷ olds) one.place x).standing (one.yet x))
   where
     is_open_yet : (s : Standing) → (HasOutcome s → ⊥) → is_open s ≡ true
     is_open_yet (Open rest) yet = refl
     is_open_yet (Settled o) yet = absurd (yet tt)
-
-    any_at : (cases : List Case) (place : ℕ) → place < length cases → ((d : Case) → HasOutcome (get_or cases place d).standing → ⊥) → list_any (λ x. is_open x.standing) cases ≡ true
-    any_at [] place within yet = absurd (omega arith)
-    any_at (x ∷ cases) zero within yet = rw (is_open_yet x.standing (yet x)) refl
-    any_at (x ∷ cases) (suc place) within yet = rw (any_at cases place (omega arith) yet) (either (is_open x.standing))
-      where
-        either : (b : Bool) → (b || true) ≡ true
-        either true = refl
-        either false = refl
 
 pub smaller : (form : Format) (problem : Problem) (c : Completion) (st : Step) (n pairs : ℕ) (olds news : List Case) → AllZip (Follows form problem c st) olds news → (All IsSettled olds → ⊥)
     → n ≤ suc pairs → c.rounds ≡ rounds_after st n → left_for news c.rounds pairs < left_for olds n pairs

@@ -1,5 +1,6 @@
 -- A claim has one outcome.
 use Rattle.std.proofs.Common.{◌≡◌, ◌<◌, ◌≤◌, ◌⊎◌, inl, inr, ℕ, zero, suc, List, [], ◌∷◌, length, Result, Ok, Err, refl, sym, ap, subst, ◌∙◌, arith}
+use Rattle.std.proofs.lemmas.Bool.{cases_lt}
 use Rattle.definitions.specs.Poly.{Term}
 use Rattle.word_orders.specs.Admissible.{IsAdmissible}
 use Rattle.traced_rows.specs.declared.Made.{Made}
@@ -85,11 +86,11 @@ module _ (setting : Setting) (claim : List Term) where
       first.closes ∙ ap outcome.Closed (same_poly first.rest second.rest terms) ∙ sym second.closes
 
   -- the run
-  open_claim : (n : ℕ) (s : RunState) → IsOpen setting claim n s → 0 < length claim
+  pub open_claim : (n : ℕ) (s : RunState) → IsOpen setting claim n s → 0 < length claim
   open_claim zero s open_yet = open_yet.0
   open_claim (suc n) s open_yet = open_claim n open_yet.before open_yet.is_before
 
-  open_run : (n : ℕ) (s : RunState) → IsOpen setting claim n s → IsRunState setting n s
+  pub open_run : (n : ℕ) (s : RunState) → IsOpen setting claim n s → IsRunState setting n s
   open_run zero s open_yet = open_yet.1
   open_run (suc n) s open_yet = record { before = open_yet.before; is_before = open_run n open_yet.before open_yet.is_before; round = open_yet.round }
 
@@ -100,19 +101,10 @@ module _ (setting : Setting) (claim : List Term) where
 
   open_before : (n m : ℕ) (s : RunState) → m ≤ n → IsOpen setting claim n s → Opened m
   open_before zero m s most open_yet = let none : 0 ≡ m = omega (arith, most) in record { state = s; is = subst (λ k. IsOpen setting claim k s) none open_yet }
-  open_before (suc n) m s most open_yet = go (at_top m n most) (λ (less : m ≤ n). open_before n m open_yet.before less open_yet.is_before)
+  open_before (suc n) m s most open_yet = go (cases_lt n m) (λ (less : m ≤ n). open_before n m open_yet.before less open_yet.is_before)
     where
-      at_top : (m n : ℕ) → m ≤ suc n → (suc n ≡ m) ⊎ (m ≤ n)
-      at_top zero n below = inr (omega arith)
-      at_top (suc m) zero below = let same : 1 ≡ suc m = omega (arith, below) in inl same
-      at_top (suc m) (suc n) below = lifted (at_top m n (omega (arith, below)))
-        where
-          lifted : (suc n ≡ m) ⊎ (m ≤ n) → (suc (suc n) ≡ suc m) ⊎ (suc m ≤ suc n)
-          lifted (inl same) = inl (ap suc same)
-          lifted (inr less) = inr (omega (arith, less))
-
-      go : (suc n ≡ m) ⊎ (m ≤ n) → (m ≤ n → Opened m) → Opened m
-      go (inl same) earlier = record { state = s; is = subst (λ k. IsOpen setting claim k s) same open_yet }
+      go : (n < m) ⊎ (m ≤ n) → (m ≤ n → Opened m) → Opened m
+      go (inl above) earlier = let same : suc n ≡ m = omega (arith, above, most) in record { state = s; is = subst (λ k. IsOpen setting claim k s) same open_yet }
       go (inr less) earlier = earlier less
 
   -- how many whole rounds there are with this one, and their state
@@ -167,17 +159,6 @@ module _ (setting : Setting) (claim : List Term) where
   decided_once form number n before closed one other first second = closed_once before.rules one other first second
   decided_once form number n before (stopped halt) one other first second = first ∙ sym second
 
-  three : (m n : ℕ) → (m < n) ⊎ ((m ≡ n) ⊎ (n < m))
-  three zero zero = inr (inl refl)
-  three zero (suc n) = inl (omega arith)
-  three (suc m) zero = inr (inr (omega arith))
-  three (suc m) (suc n) = lifted (three m n)
-    where
-      lifted : (m < n) ⊎ ((m ≡ n) ⊎ (n < m)) → (suc m < suc n) ⊎ ((suc m ≡ suc n) ⊎ (suc n < suc m))
-      lifted (inl less) = inl (omega (arith, less))
-      lifted (inr (inl same)) = inr (inl (ap suc same))
-      lifted (inr (inr more)) = inr (inr (omega (arith, more)))
-
   module _ (letters : ℕ) (rank : List ℕ → List ℕ) (laws : IsAdmissible letters setting.compare rank) where
     same_open : (n : ℕ) (s t : RunState) → IsOpen setting claim n s → IsOpen setting claim n t → s ≡ t
     same_open n s t first second = states_unique letters rank setting n s t laws (open_run n s first) (open_run n t second)
@@ -212,12 +193,12 @@ module _ (setting : Setting) (claim : List Term) where
         record { rounds = none_yet ∙ sym none_too; states = at_start ∙ sym at_start_too; outcomes = is ∙ sym is_too }
     both_ways form number r q s t o p (none_needed no_terms none_yet at_start is) (needed other) = absurd (omega (arith, open_claim other.round other.before other.is_open, ap length no_terms))
     both_ways form number r q s t o p (needed one) (none_needed no_terms none_yet at_start is) = absurd (omega (arith, open_claim one.round one.before one.is_open, ap length no_terms))
-    both_ways form number r q s t o p (needed one) (needed other) = go (three one.round other.round)
+    both_ways form number r q s t o p (needed one) (needed other) = go (cases_lt one.round other.round) (cases_lt other.round one.round)
       where
-        go : (one.round < other.round) ⊎ ((one.round ≡ other.round) ⊎ (other.round < one.round)) → Same r q s t o p
-        go (inl less) = absurd (not_later form number r other.round s other.before o one less other.is_open)
-        go (inr (inl same)) = same_round form number r q s t o p one other same
-        go (inr (inr more)) = absurd (not_later form number q one.round t one.before p other more one.is_open)
+        go : (one.round < other.round) ⊎ (other.round ≤ one.round) → (other.round < one.round) ⊎ (one.round ≤ other.round) → Same r q s t o p
+        go (inl less) _ = absurd (not_later form number r other.round s other.before o one less other.is_open)
+        go (inr _) (inl more) = absurd (not_later form number q one.round t one.before p other more one.is_open)
+        go (inr most) (inr least) = same_round form number r q s t o p one other (omega (arith, most, least))
 
     pub gets_once : (form : Format) (number r q : ℕ) (s t : RunState) (o p : Outcome) → GetsOutcome setting form number claim r s o → GetsOutcome setting form number claim q t p → Same r q s t o p
     gets_once form number r q s t o p first second = both_ways form number r q s t o p (ways form number r s o first) (ways form number q t p second)

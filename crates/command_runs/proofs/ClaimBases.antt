@@ -22,7 +22,7 @@ use Rattle.claim_decider.specs.declared.outcome.Outcome.{Outcome}
 use Rattle.claim_decider.specs.declared.outcome.Outcome.TheVariants as outcome
 use Rattle.claim_decider.specs.Decided.{AreOutcomesOf, AreLastRules}
 use Rattle.outcome_laws.specs.Meanings.{IsOutcomeAt}
-use Rattle.outcome_laws.proofs.OpenRuns.{open_run}
+use Rattle.claim_decider.proofs.UniqueOutcomes.{open_run}
 use Rattle.outcome_laws.proofs.OutcomeLetters.{outcomes_have_letters, last_rules_have_letters}
 use Rattle.outcome_laws.proofs.ProblemPolynomials.{any_letter, claim_is}
 use Rattle.outcome_laws.proofs.ProblemStates.{state_kept}

@@ -31,7 +31,7 @@ use Rattle.claim_decider.specs.Outcomes.{IsOpen, IsLeft, IsHalted, IsCauseOfExpa
 use Rattle.claim_decider.specs.Outcomes.{record_of, GetsOutcome, at_once, after_round, by_closing, by_stop}
 use Rattle.claim_decider.specs.Decided.{GetsOutcomeBy, AreLastRules, polynomials_in}
 use Rattle.claim_decider.proofs.UniqueOutcomes.{gets_once}
-use Rattle.outcome_laws.proofs.OpenRuns.{open_run}
+use Rattle.claim_decider.proofs.UniqueOutcomes.{open_run}
 
 -- a claim that closes
 not_derived : (rest : Poly) (e : Evidence) → outcome.Closed rest ≡ outcome.Derived e → ⊥

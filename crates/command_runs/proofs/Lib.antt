@@ -12,7 +12,6 @@ mod PromisedBlocks
 mod PromisedEvidence
 mod PromisedCalls
 pub mod EndedReductions
-pub mod MadeRules
 pub mod ClosedRuns
 pub mod RunRules
 pub mod Printed

@@ -43,7 +43,7 @@ use Rattle.traced_completion.specs.declared.budget.Budget.{Budget}
 use Rattle.traced_completion.specs.PlainRun.{Setting, RunState, went, closed, stopped, Ends, IsRound, IsRunState, setting_of}
 use Rattle.claim_decider.specs.Decided.{polynomials_in}
 use Rattle.outcome_laws.specs.KeptRuns.{done_after}
-use Rattle.outcome_laws.proofs.OpenRuns.{open_run, opened_claim}
+use Rattle.claim_decider.proofs.UniqueOutcomes.{open_run, open_claim}
 use Rattle.outcome_laws.proofs.ProblemStates.{state_kept, generators_are_reached}
 use Rattle.outcome_laws.proofs.WholeRuns.{closed_is_nothing_pending}
 use Rattle.adjoint_rules.specs.declared.basis.Basis.{Basis}
@@ -59,7 +59,7 @@ use Rattle.closed_checker.proofs.ByNumber.{canonical_at, generator_over}
 use Rattle.closed_checker.proofs.PartOrder.{order_laws}
 use Rattle.command_runs.specs.Printed.{IsPrinted, IsStop, PrintedBasesAreConfirmed}
 use Rattle.command_runs.proofs.EndedReductions.{ended_once}
-use Rattle.command_runs.proofs.MadeRules.{runs_are_primitive}
+use Rattle.outcome_laws.proofs.PrimitiveRules.{runs_are_primitive}
 use Rattle.command_runs.proofs.ClosedRuns.{Closes, closes, closing_rules_are_last}
 use Rattle.command_runs.proofs.RunRules.{rules_of_run, all_may}
 
@@ -179,7 +179,7 @@ module _ (problem : Problem) (budget : Budget) where
     run = open_run setting (claim_at problem b.claim) rounds s by_closing.opened
 
     pub names : NamesClaim problem b
-    names = named problem.parts.claims b.claim (opened_claim setting (claim_at problem b.claim) rounds s by_closing.opened)
+    names = named problem.parts.claims b.claim (open_claim setting (claim_at problem b.claim) rounds s by_closing.opened)
 
     pub polys_are : b.rules ≡ polynomials_in s.rules
     polys_are =
@@ -192,7 +192,7 @@ module _ (problem : Problem) (budget : Budget) where
     rules_may : All (MayBeRule compare) b.rules
     rules_may =
         subst (All (MayBeRule compare)) (sym polys_are)
-        (all_may letters compare s.rules (are_rules rounds s run) (runs_are_primitive setting rounds s run))
+        (all_may letters compare s.rules (are_rules rounds s run) (runs_are_primitive problem budget rounds s run))
 
     -- what isn't left
     generator_left : (number : ℕ) (rest : Poly) → IsNumberUpTo (length problem.generators) number → rest_of problem b (part.Generator number) ≡ Ok rest.terms

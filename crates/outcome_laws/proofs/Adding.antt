@@ -1,5 +1,5 @@
 -- What is added for a rest is appended, so that the invariant holds.
-use Rattle.std.proofs.Common.{◌≢◌, ◌<◌, ◌<ℤ◌, ℕ, pos, Bool, List, [], ◌∷◌, length, refl, sym, ap, ◌∙◌, arith}
+use Rattle.std.proofs.Common.{◌≢◌, ◌<◌, ℕ, pos, Bool, List, [], ◌∷◌, length, refl, sym, ap, ◌∙◌, arith}
 use Rattle.std.specs.List.{All}
 use Rattle.std.proofs.lemmas.List.Elements.{All-head}
 use Rattle.definitions.specs.Poly.{Term, coefficient_of}
@@ -14,10 +14,10 @@ use Rattle.traced_rows.specs.declared.Made.{Made}
 use Rattle.rule_reduce.specs.declared.rule.Rule.{Rule}
 use Rattle.confluence.specs.Reductions.{IsNonzero}
 use Rattle.confluence.specs.Rests.{IsMadeOf, IsAppended, nothing_left, rule_made}
-use Rattle.confluence.specs.Typed.{IsTypedInPlay}
 use Rattle.confluence.proofs.MakingLaws.{scale_positive, pushed_rules_are_made}
 use Rattle.confluence.proofs.TypedLaws.{typed_has_no_empty_word}
 use Rattle.rule_making.specs.Making.{Recorded, rest_with, leads_negative, IsMadeFrom, Adds}
+use Rattle.outcome_laws.specs.KeptRuns.{IsGenerator}
 use Rattle.rule_making.proofs.Quotients.{quotient_words, leading_positive}
 
 -- what holds of each word with a coefficient holds of each term
@@ -29,23 +29,20 @@ pub nonzero : (t : Term) (p : List Term) → IsShaped (t ∷ p) → IsNonzero (t
 nonzero t p shaped = record { word = t.1; occurs = λ none. All-head (λ (u : Term). u.0 ≢ pos 0) t p shaped.nonzero (sym (first_coefficient t p (distinct-descending (t ∷ p) (recursion_from_IsDescending (t ∷ p) shaped.descending)).0) ∙ none) }
 
 module _ (q : Quiver) (play : ℕ → Bool) (letters : ℕ) (compare : Compare) where
-  made_of : (t : Term) (p : List Term) (rows : List Row) (g : Rule) (m : Made) → IsShaped (t ∷ p) → All (λ u. IsOver letters u.1) (t ∷ p) → IsTypedInPlay q play (t ∷ p)
+  made_of : (t : Term) (p : List Term) (rows : List Row) (g : Rule) (m : Made) → IsGenerator q play letters (t ∷ p)
       → IsMadeFrom compare (record { polynomial = t ∷ p; rows = rows }) g m → IsMadeOf letters compare (t ∷ p) rows g m
-  made_of t p rows g m shaped over typed from =
+  made_of t p rows g m is from =
+      let some = nonzero t p is.shaped in
+      let scale = scale_positive (t ∷ p) g.poly.terms (leads_negative compare (t ∷ p)) m.scale some from.content from.divided in
       pushed_rules_are_made letters compare (t ∷ p) rows (leads_negative compare (t ∷ p)) g m some from.content from.divided from.leading
-      (leading_positive compare m.scale g.poly.terms (t ∷ p) scale from.divided (omega arith) shaped.nonzero)
-      (quotient_words (λ w. 0 < length w) _ g.poly.terms (t ∷ p) from.divided (listed (λ w. 0 < length w) (t ∷ p) shaped (typed_has_no_empty_word q play (t ∷ p) typed).at))
-      (quotient_words (IsOver letters) _ g.poly.terms (t ∷ p) from.divided over)
+      (leading_positive compare m.scale g.poly.terms (t ∷ p) scale from.divided (omega arith) is.shaped.nonzero)
+      (quotient_words (λ w. 0 < length w) _ g.poly.terms (t ∷ p) from.divided (listed (λ w. 0 < length w) (t ∷ p) is.shaped (typed_has_no_empty_word q play (t ∷ p) is.typed).at))
+      (quotient_words (IsOver letters) _ g.poly.terms (t ∷ p) from.divided is.over)
       from.rows
-    where
-      some : IsNonzero (t ∷ p)
-      some = nonzero t p shaped
 
-      scale : pos 0 <ℤ m.scale
-      scale = scale_positive (t ∷ p) g.poly.terms (leads_negative compare (t ∷ p)) m.scale some from.content from.divided
-
-  pub appended : (p : List Term) (rows : List Row) (before after : Recorded) → IsShaped p → All (λ u. IsOver letters u.1) p → IsTypedInPlay q play p → Adds compare (rest_with p rows) before after → IsAppended letters compare p rows before.rules before.made after.rules after.made
-  appended [] rows before after shaped over typed same = nothing_left (record { at = λ w. refl }) (ap (λ (r : Recorded). r.rules) same) (ap (λ (r : Recorded). r.made) same)
-  appended (t ∷ p) rows before after shaped over typed extended =
-      rule_made extended.rule extended.made (made_of t p rows extended.rule extended.made shaped over typed extended.made_from)
+  pub appended : (p : List Term) (rows : List Row) (before after : Recorded) → IsGenerator q play letters p → Adds compare (rest_with p rows) before after
+      → IsAppended letters compare p rows before.rules before.made after.rules after.made
+  appended [] rows before after is same = nothing_left (record { at = λ w. refl }) (ap (λ (r : Recorded). r.rules) same) (ap (λ (r : Recorded). r.made) same)
+  appended (t ∷ p) rows before after is extended =
+      rule_made extended.rule extended.made (made_of t p rows extended.rule extended.made is extended.made_from)
       (ap (λ (r : Recorded). r.rules) extended.appended) (ap (λ (r : Recorded). r.made) extended.appended)

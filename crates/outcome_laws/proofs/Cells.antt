@@ -1,7 +1,7 @@
 -- Each ambiguity has a place in the square over its overlap word, and no two ambiguities of rules with distinct leading words have the same.
-use Rattle.std.proofs.Common.{◌≡◌, ℕ, ◌+◌, ◌-◌, ◌≤◌, ◌<◌, suc, refl, arith, subst, sym, ap, ◌∙◌, List, ◌∷◌, ◌++◌, map, length, take, drop, Some, append_assoc}
+use Rattle.std.proofs.Common.{◌≡◌, ◌≢◌, true, ℕ, ◌+◌, ◌-◌, ◌≤◌, ◌<◌, suc, refl, arith, subst, sym, ap, ◌∙◌, List, ◌∷◌, ◌++◌, map, length, take, drop, Some, append_assoc}
 use Rattle.std.proofs.lemmas.List.{length-append, length-map, take_at, drop_at}
-use Rattle.definitions.specs.Poly.{Word}
+use Rattle.definitions.specs.Poly.{Word, word_eq}
 use Rattle.word_core.specs.Occurrence.{OccursAt}
 use Rattle.word_core.specs.Overlap.{OverlapsAt}
 use Rattle.rule_reduce.specs.declared.rule.Rule.{Rule}
@@ -12,8 +12,14 @@ use Rattle.ambiguities.specs.declared.ambiguity.Ambiguity.{Ambiguity}
 use Rattle.ambiguities.specs.Ambiguities.{MeetsAs, IsAmbiguity, lead_at, joined_word, overlap_word_of}
 use Rattle.ambiguities.proofs.Joined.{lead_at-is, overlap_word-is}
 use Rattle.outcome_laws.specs.Counts.{short_ambiguities}
-use Rattle.outcome_laws.proofs.Pigeons.{Member, Distinct, members_map, distinct_map, pigeonhole}
-use Rattle.outcome_laws.proofs.Squares.{same_or_not, AllIn, places, length_places, member_places}
+use Rattle.std.specs.List.{AllPairs, Contains}
+use Rattle.std.proofs.lemmas.Map.Made.{length-le_from_is_member, IsDistinct-from_AllPairs}
+use Rattle.std.proofs.lemmas.Map.Views.{list_any-from_Contains, Contains-from_any}
+use Rattle.definitions.proofs.Linear.{word_eq-same, word_eq-true}
+use Rattle.cofactor_checker.proofs.Words.{word_eq_equivalence}
+use Rattle.ambiguities.proofs.Ascending.{pairs-map}
+use Rattle.outcome_laws.proofs.Listed.{value_of}
+use Rattle.outcome_laws.proofs.Squares.{AllIn, places, length_places, contains_places}
 
 -- An overlap is above the diagonal: its row is the length of the first word, its column the place. An inclusion is not: its
 -- row is the place, its column that of the last letter of the second word.
@@ -86,6 +92,13 @@ same_from_cell k k' p p' q q' n n' w x y (of_overlap e1 e2 e3 e4 above inside) (
 same_from_cell k k' p p' q q' n n' w x y (of_inclusion e1 e2 e3 e4 below inside) (of_overlap f1 f2 f3 f4 above inside') = absurd (omega arith)
 same_from_cell k k' p p' q q' n n' w x y (of_inclusion e1 e2 e3 e4 below inside) (of_inclusion f1 f2 f3 f4 below' inside') = record { kind = e1 ∙ sym f1; first = e2 ∙ sym f2; second = e3 ∙ sym f3; place = e4 ∙ sym f4 }
 
+-- Distinct words of a list are no more than its places.
+pigeonhole : (xs ys : List Word) → AllPairs (λ v w. v ≢ w) xs → ((w : Word) → Contains xs w → Contains ys w) → length xs ≤ length ys
+pigeonhole xs ys distinct inside =
+    length-le_from_is_member word_eq_equivalence xs ys
+    (IsDistinct-from_AllPairs (λ v w. (word_eq-true v w, λ same. subst (λ u. word_eq v u ≡ true) same (word_eq-same v))) xs distinct)
+    (λ w found. list_any-from_Contains word_eq_equivalence w ys (inside w (Contains-from_any word_eq-true w xs found)))
+
 -- No leading word is empty, and no two are the same.
 pub record HaveDistinctLeads (rules : List Rule) : Type 0 where
   pub nonempty : (n : ℕ) (g : Rule) → rule_at rules n ≡ Some g → 0 < length g.lead
@@ -137,19 +150,21 @@ module _ (rules : List Rule) (leads : HaveDistinctLeads rules) where
           (subst (λ w. Cell b.kind other.first.lead other.second.lead b.place w (row b) (column b)) (sym words) c))
 
   module _ (letters : List ℕ) (most : ℕ) where
-    place_among : (a : Ambiguity) → IsShort rules letters most a → Member (place_of a) (places letters most)
+    place_among : (a : Ambiguity) → IsShort rules letters most a → Contains (places letters most) (place_of a)
     place_among a s =
         let inside = in_square a.kind s.is.first.lead s.is.second.lead a.place (overlap_word_of rules a) (row a) (column a) (cell a s.is) in
-        member_places letters most (overlap_word_of rules a) (row a) (column a) s.in_letters s.short inside.0 inside.1
+        contains_places letters most (overlap_word_of rules a) (row a) (column a) s.in_letters s.short inside.0 inside.1
 
     -- pairwise distinct ambiguities with short overlap words are no more than the places
-    pub short_are_few : (xs : List Ambiguity) → Distinct xs → ((a : Ambiguity) → Member a xs → IsShort rules letters most a) → length xs ≤ short_ambiguities (length letters) most
+    pub short_are_few : (xs : List Ambiguity) → AllPairs (λ a b. a ≢ b) xs → ((a : Ambiguity) → Contains xs a → IsShort rules letters most a)
+        → length xs ≤ short_ambiguities (length letters) most
     short_are_few xs distinct short =
         omega (
           arith,
           length-map xs place_of,
           length_places letters most,
-          pigeonhole same_or_not (map place_of xs) (places letters most)
-              (distinct_map place_of xs (λ a b m n e. same_place a b (short a m).is (short b n).is e) distinct)
-              (members_map place_of (λ z. Member z (places letters most)) xs (λ a m. place_among a (short a m))),
+          pigeonhole (map place_of xs) (places letters most)
+              (pairs-map place_of (λ w. record { i = 0; j = 0; kind = Overlap; place = 0 }) (λ a b. a ≢ b) (λ v w. v ≢ w) xs
+              (λ a b m n apart e. apart (same_place a b (short a m).is (short b n).is e)) distinct)
+              (λ w m. let v = value_of place_of xs w m in subst (Contains (places letters most)) (sym v.is) (place_among v.argument (short v.argument v.listed))),
         )

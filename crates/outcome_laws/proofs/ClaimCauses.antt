@@ -23,7 +23,8 @@ use Rattle.claim_decider.specs.Outcomes.{IsCauseOfExpansion, IsCauseOfGathering,
 use Rattle.outcome_laws.specs.Causes.{IsClaim, of_claim, ClaimRecord, in_making, in_certificate, CauseMeans}
 use Rattle.outcome_laws.proofs.CertificateFaults.{ExpansionStops, expansion_overflows, row_too_long, too_many_rows, expansion_stops, GatheringStops, scale_overflows, too_many_lemma_rows, gathering_stops}
 use Rattle.outcome_laws.proofs.Derivations.{zero_traces}
-use Rattle.outcome_laws.proofs.OpenRuns.{order_laws, run_kept, claim_reduced}
+use Rattle.outcome_laws.proofs.OpenRuns.{claim_reduced}
+use Rattle.outcome_laws.proofs.ProblemStates.{order_laws, state_kept}
 use Rattle.outcome_laws.proofs.ProblemPolynomials.{claim_is}
 use Rattle.outcome_laws.proofs.ReductionCauses.{reduction_means}
 use Rattle.outcome_laws.proofs.ReductionFaults.{normal_form_stops, normal_form_leaves}
@@ -55,7 +56,7 @@ module _ (problem : Problem) (budget : Budget) (number rounds : ℕ) (s : RunSta
       is_claim = is_claim;
       rules = s.rules;
       are_rules = state_rules problem budget rounds s run;
-      recorded = (run_kept problem budget rounds s run).kept.recorded;
+      recorded = (state_kept problem budget rounds s run).kept.recorded;
       reduced = reduced_of left;
       leaves = normal_form_leaves (letter_count problem.parts.quiver) (asked_cmp problem.parts.order) (asked_rank (letter_count problem.parts.quiver) problem.parts.order) s.rules (claim_at problem number) budget.steps left
           (order_laws problem budget) (claim_is problem number).shaped ends;

@@ -1,16 +1,11 @@
 -- What is made of a claim that a run reduces to zero: evidence that adds up, or a halt, and it follows in any case.
 use Rattle.std.proofs.Common.{◌≡◌, ℕ, List, [], length, Ok, sym, ap, ◌∙◌, subst, append-nil}
-use Rattle.std.proofs.lemmas.List.Elements.{All-weaker}
 use Rattle.definitions.specs.Poly.{Term, coefficient_of, poly_sum}
 use Rattle.definitions.specs.Combination.{IsCombination, InRationalIdeal}
-use Rattle.traced_rows.specs.declared.Origin.{Origin}
-use Rattle.traced_rows.specs.declared.Origin.TheVariants as origin
-use Rattle.traced_rows.specs.declared.Row.{Row}
-use Rattle.traced_rows.specs.declared.Made.{Made}
 use Rattle.traced_rows.specs.declared.certificate.Cofactors.{Cofactors}
 use Rattle.traced_rows.specs.declared.evidence.LemmaCertificate.{LemmaCertificate}
 use Rattle.traced_rows.specs.Traces.{traced_sum}
-use Rattle.cofactor_trace.specs.Needed.{IsAmongFirst, IsRecord, AreRecords, expansion_of}
+use Rattle.cofactor_trace.specs.Needed.{IsRecord, AreRecords, expansion_of}
 use Rattle.cofactor_trace.specs.Lemmas.{gathered_of}
 use Rattle.cofactor_trace.specs.Laws.{Traces}
 use Rattle.traced_rows.specs.Rows.{rows_of}
@@ -30,8 +25,6 @@ use Rattle.adjoint_rules.specs.declared.problem.Problem.{Problem}
 use Rattle.adjoint_rules.specs.Problem.{polynomials}
 use Rattle.adjoint_rules.specs.Claims.{claim_at}
 use Rattle.confluence.specs.Reductions.{IsReduced}
-use Rattle.confluence.specs.Rests.{IsEarlier}
-use Rattle.confluence.specs.Kept.{AreRecorded}
 use Rattle.confluence.proofs.Inside.{zero_is_inside}
 use Rattle.confluence.proofs.RowSums.{traced_sum-by_rules}
 use Rattle.traced_completion.specs.declared.budget.Budget.{Budget}
@@ -39,29 +32,10 @@ use Rattle.traced_completion.specs.PlainRun.{RunState, IsRunState, setting_of}
 use Rattle.claim_decider.specs.Outcomes.{record_of}
 use Rattle.claim_decider.proofs.Judging.{claim_record}
 use Rattle.outcome_laws.specs.KeptRuns.{done_after}
-use Rattle.outcome_laws.proofs.ProblemPolynomials.{claim_is, generators_shaped}
-use Rattle.outcome_laws.proofs.OpenRuns.{run_kept, claim_reduced}
-use Rattle.outcome_laws.proofs.RangedReductions.{normal_forms_are_ranged}
-use Rattle.outcome_laws.proofs.RangedRuns.{AreMadeInRange, made_at, runs_in_range}
-
--- records
-among_first : (generators count : ℕ) (from : Origin) → IsEarlier generators count from → IsAmongFirst count from
-among_first generators count (origin.Generator n) is = tt
-among_first generators count (origin.Rule n) is = is
-
--- what a run records is a record of each rule where all is in range
-pub are_records : (generators : List (List Term)) (rules : List Rule) (made : List Made) → AreRecorded generators rules made → AreMadeInRange made → AreRecords made
-are_records generators rules made recorded each = record {
-  at = λ place m has.
-      let is = recorded.each place m has in
-      let in_range = made_at made place m each has in
-      record {
-        positive = is.positive;
-        scale_in = in_range.0;
-        coefficients_in = in_range.1;
-        earlier = All-weaker (λ (r : Row). IsEarlier (length generators) place r.from) (λ (r : Row). IsAmongFirst place r.from) (λ r. among_first (length generators) place r.from) m.rows is.earlier;
-      };
-}
+use Rattle.outcome_laws.proofs.LimitedRuns.{numbered_fits, records_limited}
+use Rattle.outcome_laws.proofs.OpenRuns.{claim_reduced}
+use Rattle.outcome_laws.proofs.ProblemStates.{state_kept}
+use Rattle.outcome_laws.proofs.ReducedWithin.{FitsState, reduced_within}
 
 -- where nothing is left, the rows of a reduction add up to the multiplier times the polynomial
 pub zero_traces : (letters : ℕ) (compare : Compare) (generators : List (List Term)) (rules : List Rule) (p : List Term) (s : State)
@@ -93,29 +67,33 @@ module _ (problem : Problem) (budget : Budget) (number rounds : ℕ) (s : RunSta
 
   pub follows : InRationalIdeal generators claim
   follows =
-      zero_is_inside letters compare generators s.rules s.made (done_after (setting_of problem budget) rounds) s.treated claim left (run_kept problem budget rounds s run).kept reduced
+      zero_is_inside letters compare generators s.rules s.made (done_after (setting_of problem budget) rounds) s.treated claim left (state_kept problem budget rounds s run).kept reduced
       (record { at = λ w. ap (λ p. coefficient_of p w) none })
 
-  records : AreRecords s.made
-  records = are_records generators s.rules s.made (run_kept problem budget rounds s run).kept.recorded (runs_in_range (setting_of problem budget) (generators_shaped problem) rounds s run)
+  -- what it leaves of the claim is within the limits
+  pub within : FitsState left
+  within =
+      reduced_within letters compare s.rules (state_kept problem budget rounds s run).kept.are_rules claim budget.steps left (numbered_fits problem.parts.claims number) ends
 
-  claim_is_record : IsRecord (length s.made) (record_of left)
+  records : AreRecords s.made
+  records = (records_limited problem budget rounds s run).are_records
+
+  pub claim_is_record : IsRecord (length s.made) (record_of left)
   claim_is_record =
-      let kept = (run_kept problem budget rounds s run).kept in
-      let ranged = normal_forms_are_ranged compare s.rules claim budget.steps left (claim_is problem number).shaped.in_range ends in
+      let kept = (state_kept problem budget rounds s run).kept in
       subst (λ n. IsRecord n (record_of left)) (sym kept.recorded.one_each)
-      (claim_record letters compare s.rules claim budget.steps left kept.are_rules ends ranged.multiplier ranged.rows)
+      (claim_record letters compare s.rules claim budget.steps left kept.are_rules ends within.multiplier (λ k r inside. (within.rows k r inside).coefficient))
 
   traced : Traces generators (polynomials_of s.rules) (record_of left) claim
   traced = zero_traces letters compare generators s.rules claim left reduced none
 
   pub expansion_adds_up : (c : Cofactors) → expansion_of s.made (record_of left) ≡ Ok c → IsCombination generators (rows_of c.rows) c.denominator claim
   expansion_adds_up c is =
-      expansions_balance generators (polynomials_of s.rules) s.made (record_of left) claim c records claim_is_record (run_kept problem budget rounds s run).kept.recorded.traces traced is
+      expansions_balance generators (polynomials_of s.rules) s.made (record_of left) claim c records claim_is_record (state_kept problem budget rounds s run).kept.recorded.traces traced is
 
   pub gathering_adds_up : (c : LemmaCertificate) → gathered_of number s.made (record_of left) ≡ Ok c → IsEvidenceOf generators (lemma_polys (polynomials_of s.rules) s.made (record_of left)) c claim
   gathering_adds_up c is =
-      gatherings_add_up generators (polynomials_of s.rules) number s.made (record_of left) claim c records claim_is_record (run_kept problem budget rounds s run).kept.recorded.traces traced is
+      gatherings_add_up generators (polynomials_of s.rules) number s.made (record_of left) claim c records claim_is_record (state_kept problem budget rounds s run).kept.recorded.traces traced is
 
   -- a gathered certificate names the claim
   pub gathering_names : (c : LemmaCertificate) → gathered_of number s.made (record_of left) ≡ Ok c → c.claim ≡ number

@@ -2,10 +2,8 @@
 use Rattle.std.proofs.Common.{◌≡◌, ◌≤◌, ◌<ℤ◌, ℕ, pos, List, length, get_or, Some, Ok, refl, sym, ap, subst, arith}
 use Rattle.std.specs.List.{All}
 use Rattle.std.proofs.lemmas.Int.{ints}
-use Rattle.std.proofs.lemmas.List.{length-map}
-use Rattle.std.proofs.lemmas.List.Elements.{All-nil, All-pop}
+use Rattle.std.proofs.lemmas.List.Elements.{All-nil, All-pop, All-weaker}
 use Rattle.definitions.specs.Poly.{Term}
-use Rattle.nc_polynomial.specs.declared.poly.Poly.{Poly}
 use Rattle.traced_rows.specs.declared.Row.{Row}
 use Rattle.traced_rows.specs.declared.Made.{Made}
 use Rattle.traced_rows.specs.declared.certificate.Cofactors.{Cofactors}
@@ -16,7 +14,7 @@ use Rattle.traced_rows.specs.declared.evidence.Evidence.{Evidence}
 use Rattle.traced_rows.specs.declared.evidence.Evidence.TheVariants as evidence
 use Rattle.traced_rows.specs.declared.evidence.Format.{Format}
 use Rattle.traced_rows.specs.declared.evidence.Format.TheVariants as format
-use Rattle.cofactor_trace.specs.Laws.{NamesUpTo}
+use Rattle.cofactor_trace.specs.Laws.{IsUpTo, NamesUpTo}
 use Rattle.cofactor_trace.specs.Needed.{IsRecord, expansion_of}
 use Rattle.cofactor_trace.specs.Lemmas.{gathered_of}
 use Rattle.cofactor_trace.specs.GatheringLaws.{parts_of, IsRangedLemma}
@@ -24,14 +22,10 @@ use Rattle.cofactor_trace.proofs.GatheredParts.{parts, gatherings_fit, lemmas_ha
 use Rattle.cofactor_trace.proofs.LemmaNames.{lemmas_are_named}
 use Rattle.cofactor_trace.proofs.Limits.{expansions_fit}
 use Rattle.cofactor_trace.proofs.NamedGenerators.{generators_are_named}
-use Rattle.rule_reduce.proofs.Multipliers.{multipliers_are_positive}
 use Rattle.adjoint_rules.specs.declared.problem.Problem.{Problem}
-use Rattle.adjoint_rules.specs.Problem.{polynomials}
-use Rattle.adjoint_rules.specs.Parts.{units_in}
 use Rattle.quiver.specs.Declarations.{letter_count}
 use Rattle.traced_completion.specs.declared.budget.Budget.{Budget}
 use Rattle.traced_completion.specs.PlainRun.{Setting, setting_of}
-use Rattle.adjoint_rules.proofs.Counted.{few_units_closed}
 use Rattle.adjoint_rules.specs.Claims.{claim_at}
 use Rattle.claim_decider.specs.declared.outcome.Outcome.TheVariants as outcome
 use Rattle.claim_decider.specs.Outcomes.{evidence_of_zero, record_of, certificate_of}
@@ -39,10 +33,14 @@ use Rattle.nc_polynomial.specs.Limits.{word_limit}
 use Rattle.outcome_laws.specs.EvidenceLimits.{IsRowWithin, IsLemmaRowWithin, IsLemmaWithin, IsWithinLimits, EvidenceFits}
 use Rattle.outcome_laws.proofs.EvidenceRanges.{expansion_ranged, gathered_positive}
 use Rattle.outcome_laws.proofs.EvidenceWords.{gathered_words}
-use Rattle.outcome_laws.proofs.LimitedRuns.{IsLimitedRow, record_of_rows, named_of_rows, reduced_limited, LimitedRecords, records_limited, turns_in_range, numbered_fits}
-use Rattle.outcome_laws.proofs.OutcomeLetters.{generators_have_words}
 use Rattle.outcome_laws.proofs.OutcomeWays.{Way, no_terms, expanded, gathered, left_over, given_up, with_run, way, IsProvedBy}
-use Rattle.outcome_laws.proofs.ReducedWithin.{Fits, IsShortRow, reduced_within}
+use Rattle.outcome_laws.proofs.ReducedWithin.{IsShortRow}
+use Rattle.traced_rows.specs.declared.Origin.{Origin}
+use Rattle.traced_rows.specs.declared.Origin.TheVariants as origin
+use Rattle.rule_reduce.specs.Laws.{IsByRule}
+use Rattle.rule_reduce.proofs.RowsByRules.{rows_are_by_rules}
+use Rattle.outcome_laws.proofs.Derivations.{within, claim_is_record}
+use Rattle.outcome_laws.proofs.LimitedRuns.{LimitedRecords, records_limited}
 
 abbrev IsShort : List ℕ → Type 0
 IsShort w = length w ≤ word_limit
@@ -67,12 +65,6 @@ module _ (problem : Problem) (budget : Budget) (number : ℕ) where
   abbrev count : ℕ
   count = length problem.generators
 
-  counted : length (polynomials problem.generators) ≡ count
-  counted = length-map problem.generators (λ (p : Poly). p.terms)
-
-  in_range : All (λ n. (1 ≤ n) × (n ≤ length setting_in.generators)) setting_in.in_turn
-  in_range = subst (λ k. All (λ n. (1 ≤ n) × (n ≤ k)) setting_in.in_turn) (sym counted) (turns_in_range (length (units_in problem.parts)) count (few_units_closed problem.parts problem.generators problem.closed))
-
   -- without terms
   zero_within : (f : Format) → IsWithinLimits problem number (evidence_of_zero f number)
   zero_within format.Plain = record { claim = refl; positive = omega (arith, ints); denominator = omega (arith, ints); rows = All-nil (IsRowWithin count); few = omega arith; letters = omega arith }
@@ -94,38 +86,29 @@ module _ (problem : Problem) (budget : Budget) (number : ℕ) where
     abbrev target : Made
     target = record_of by.reduced
 
-    limited : LimitedRecords letters_in setting_in (generators_have_words problem budget) (numbered_fits problem.generators) in_range by.state
-    limited = records_limited letters_in setting_in (generators_have_words problem budget) (numbered_fits problem.generators) in_range by.rounds by.state by.run
-
-    claim_fits : Fits claim
-    claim_fits = numbered_fits problem.parts.claims number
-
-    target_rows : All (IsLimitedRow (length (polynomials problem.generators)) (length by.state.rules)) by.reduced.rows
-    target_rows = reduced_limited letters_in setting_in (generators_have_words problem budget) (numbered_fits problem.generators) in_range by.state.rules claim by.reduced limited.rules claim_fits by.reduction
+    limited : LimitedRecords problem budget by.state
+    limited = records_limited problem budget by.rounds by.state by.run
 
     target_within : All IsShortRow by.reduced.rows
-    target_within = (reduced_within letters_in setting_in.compare by.state.rules limited.rules claim setting_in.budget.steps by.reduced claim_fits by.reduction).rows
-
-    target_positive : pos 0 <ℤ by.reduced.multiplier
-    target_positive = multipliers_are_positive letters_in setting_in.compare by.state.rules claim setting_in.budget.steps by.reduced limited.rules by.reduction
+    target_within = (within problem budget number by.rounds by.state by.run by.reduced by.reduction by.none).rows
 
     target_is : IsRecord (length by.state.made) target
-    target_is =
-        subst (λ n. IsRecord n target) (sym limited.one_each)
-        (record_of_rows (length (polynomials problem.generators)) (length by.state.rules) target target_positive
-        (reduced_within letters_in setting_in.compare by.state.rules limited.rules claim setting_in.budget.steps by.reduced claim_fits by.reduction).multiplier target_rows)
-
-    named : All (NamesUpTo count) by.state.made
-    named = subst (λ n. All (NamesUpTo n) by.state.made) counted limited.named
+    target_is = claim_is_record problem budget number by.rounds by.state by.run by.reduced by.reduction by.none
 
     target_named : NamesUpTo count target
-    target_named = subst (λ n. NamesUpTo n target) counted (named_of_rows (length (polynomials problem.generators)) (length by.state.rules) target target_rows)
+    target_named =
+        All-weaker (λ (r : Row). IsByRule (length by.state.rules) r.from) (λ (r : Row). IsUpTo count r.from) (λ r. by_rule (length by.state.rules) r.from) by.reduced.rows
+        (rows_are_by_rules setting_in.compare by.state.rules claim budget.steps by.reduced by.reduction)
+      where
+        by_rule : (rules : ℕ) (from : Origin) → IsByRule rules from → IsUpTo count from
+        by_rule rules (origin.Generator n) is = absurd is
+        by_rule rules (origin.Rule n) is = tt
 
     expanded_within : (c : Cofactors) → expansion_of by.state.made target ≡ Ok c → IsWithinLimits problem number (certificate_of number c)
     expanded_within c ends =
-        let ranged = expansion_ranged by.state.made target c limited.positive target_positive ends in
+        let ranged = expansion_ranged by.state.made target c limited.positive target_is.positive ends in
         let fits = expansions_fit by.state.made target c ends in
-        let names = generators_are_named count by.state.made target c named target_named ends in
+        let names = generators_are_named count by.state.made target c limited.named target_named ends in
         record {
           claim = refl;
           positive = ranged.positive;
@@ -145,11 +128,11 @@ module _ (problem : Problem) (budget : Budget) (number : ℕ) where
     gathered_within : (c : LemmaCertificate) → gathered_of number by.state.made target ≡ Ok c → IsWithinLimits problem number (evidence.Lemmas c)
     gathered_within c ends =
         let ranged = gatherings_are_ranged number by.state.made target c limited.are_records target_is ends in
-        let positive = gathered_positive number by.state.made target c limited.positive target_positive ends in
+        let positive = gathered_positive number by.state.made target c limited.positive target_is.positive ends in
         let words = gathered_words IsShort number by.state.made target c (λ k m inside. short_words (get_or by.state.made k m).rows (limited.short k m inside)) (short_words by.reduced.rows target_within) ends in
         let each : All IsLemmaWithin (parts_of c) = λ i l inside. lemma_within _ (ranged.1 i l inside) (positive.1 i l inside) (words i l inside) in
         let both = All-pop IsLemmaWithin (parts_of c) c.lemmas (Some c.goal) refl each in
-        let names = lemmas_are_named count number by.state.made target c limited.are_records target_is named target_named ends in
+        let names = lemmas_are_named count number by.state.made target c limited.are_records target_is limited.named target_named ends in
         let sizes = gatherings_fit number by.state.made target c ends in
         record {
           claim = sym (ap (λ (x : LemmaCertificate). x.claim) (parts number by.state.made target c ends).is);
@@ -168,14 +151,15 @@ module _ (problem : Problem) (budget : Budget) (number : ℕ) where
   same_evidence : (d e : Evidence) → outcome.Derived d ≡ outcome.Derived e → d ≡ e
   same_evidence d e same = cc
 
-  within : (form : Format) (e : Evidence) → Way setting_in form number claim (outcome.Derived e) → IsWithinLimits problem number e
-  within form e (no_terms is) = subst (IsWithinLimits problem number) (sym (same_evidence e _ is)) (zero_within form)
-  within form e (expanded by c ends is) = subst (IsWithinLimits problem number) (sym (same_evidence e _ is)) (expanded_within by c ends)
-  within form e (gathered by c ends is) = subst (IsWithinLimits problem number) (sym (same_evidence e _ is)) (gathered_within by c ends)
-  within form e (left_over rounds s run rest left is) = absurd (cc)
-  within form e (given_up halt none is) = absurd (cc)
-  within form e (with_run rounds s halt run round is) = absurd (cc)
+  all_within : (form : Format) (e : Evidence) → Way setting_in form number claim (outcome.Derived e) → IsWithinLimits problem number e
+  all_within form e (no_terms none is) = subst (IsWithinLimits problem number) (sym (same_evidence e _ is)) (zero_within form)
+  all_within form e (expanded by c ends is) = subst (IsWithinLimits problem number) (sym (same_evidence e _ is)) (expanded_within by c ends)
+  all_within form e (gathered by c ends is) = subst (IsWithinLimits problem number) (sym (same_evidence e _ is)) (gathered_within by c ends)
+  all_within form e (left_over rounds s is_open round rest left is) = absurd (cc)
+  all_within form e (given_up at c stops is) = absurd (cc)
+  all_within form e (with_run rounds s halt is_open round is) = absurd (cc)
 
 -- the law
 pub evidence_fits : EvidenceFits
-evidence_fits problem budget form number e is = within problem budget number form e (way (setting_of problem budget) form number (claim_at problem number) (outcome.Derived e) is.rounds is.state is.gets)
+evidence_fits problem budget form number e is =
+    all_within problem budget number form e (way (setting_of problem budget) form number (claim_at problem number) (outcome.Derived e) is.rounds is.state is.gets)

@@ -1,17 +1,13 @@
 -- The numbers of evidence are coefficients, and its denominator and scales are positive.
-use Rattle.std.proofs.Common.{rules, ◌≡◌, ℕ, zero, suc, ℤ, pos, negsuc, neg_ℤ, ◌+ℤ◌, ◌*ℤ◌, ◌<ℤ◌, int_div, Bool, true, false, cond, List, [], ◌∷◌, ◌++◌, map, get_or, Option, Some, None, Result, Ok, Err, unwrap_or, refl, subst, arith}
+use Rattle.std.proofs.Common.{rules, ◌≡◌, ℕ, zero, suc, ℤ, pos, negsuc, neg_ℤ, ◌+ℤ◌, ◌*ℤ◌, ◌<ℤ◌, int_div, List, [], ◌∷◌, ◌++◌, map, get_or, Option, Some, None, Result, Ok, refl, subst, arith}
 use Rattle.std.proofs.lemmas.Int.{ints}
 use Rattle.std.proofs.lemmas.List.Elements.{All-nil, All-append, All-replicate, All-map}
-use Rattle.std.specs.List.{All, AllByRecursion, fold, flat_map}
-use Rattle.std.specs.Map.{lookup}
-use Rattle.std.specs.BTreeMap.{insert_entry, is_at}
-use Rattle.std.specs.Ordering.{nat_cmp, is_eq}
+use Rattle.std.specs.List.{All, fold, flat_map}
 use Rattle.std.specs.Option.{option_map}
 use Rattle.coef_int.specs.declared.Overflow.{Overflow}
 use Rattle.coef_int.specs.Range.{IsCoefficient}
 use Rattle.coef_int.specs.Operations.{product_of, sum_of, first_overflow}
 use Rattle.traced_rows.specs.declared.Origin.{Origin}
-use Rattle.traced_rows.specs.declared.Origin.TheVariants as origin
 use Rattle.traced_rows.specs.declared.Row.{Row}
 use Rattle.traced_rows.specs.declared.Made.{Made}
 use Rattle.traced_rows.specs.declared.certificate.CertRow.{CertRow}
@@ -22,16 +18,14 @@ use Rattle.cofactor_trace.specs.declared.fault.ExpandFault.{ExpandFault}
 use Rattle.cofactor_trace.specs.declared.fault.ExpandFault.TheVariants as fault
 use Rattle.cofactor_trace.specs.Gathered.{multiples_of, coefficients_at, total_at, kept_row, gathered, running_sums, sums_of_gathering}
 use Rattle.cofactor_trace.specs.Expansion.{Known, multiple_products, denominators, common_denominator, denominator_products, joined, joined_products, limit_fault, content_of, divided_row, primitive, unless, overflow_in, record_expansion}
-use Rattle.cofactor_trace.specs.Needed.{Numbered, Expansions, none, known_from, and_then, expansion_from, expansion_of, needed_rules}
+use Rattle.cofactor_trace.specs.Needed.{expansion_of}
 use Rattle.cofactor_trace.specs.Lemmas.{gathered_of}
 use Rattle.cofactor_trace.specs.GatheringLaws.{parts_of}
 use Rattle.cofactor_trace.specs.Ranges.{IsRanged}
 use Rattle.cofactor_trace.proofs.Divisors.{quotient_positive, product_positive, content-first, content-positive, common_multiple-positive}
 use Rattle.cofactor_trace.proofs.GatheredParts.{parts, each_part, lemma_record_each}
-use Rattle.cofactor_trace.proofs.Passes.{each_with}
-use Rattle.outcome_laws.proofs.Results.{fits_first, none_append}
-use Rattle.outcome_laws.proofs.RunsKept.{same_value}
-use Rattle.outcome_laws.proofs.EvidenceWords.{needed_each}
+use Rattle.outcome_laws.proofs.Results.{same_value, fits_first, none_append}
+use Rattle.outcome_laws.proofs.EvidenceWords.{expansion_is}
 
 -- a quotient is no larger
 pub quotient_in_range : (a d : ℤ) → pos 0 <ℤ d → IsCoefficient a → IsCoefficient (int_div a d)
@@ -109,38 +103,16 @@ module _ (known : Known) (each_positive : (o : Origin) → pos 0 <ℤ (known o).
         coefficients_in = divided_in g g_in (gathered rows) (gathered_in rows sums.1);
       })
 
--- one expansion after another
-abbrev EachPositive : Expansions → Type 0
-EachPositive expansions = AllByRecursion (λ e. pos 0 <ℤ e.1.denominator) expansions
-
-known_positive : (expansions : Expansions) → EachPositive expansions → (o : Origin) → pos 0 <ℤ (known_from expansions o).denominator
-known_positive expansions each (origin.Generator n) = omega (arith, ints)
-known_positive expansions each (origin.Rule n) = go expansions each
-  where
-    go : (es : Expansions) → EachPositive es → pos 0 <ℤ (unwrap_or (lookup (is_at (nat_cmp n)) es) none).denominator
-    go [] each = omega (arith, ints)
-    go (e ∷ es) each = at (is_eq (nat_cmp n e.0)) (go es each.1)
-      where
-        at : (b : Bool) → pos 0 <ℤ (unwrap_or (lookup (is_at (nat_cmp n)) es) none).denominator → pos 0 <ℤ (unwrap_or (cond b (Some e.1) (lookup (is_at (nat_cmp n)) es)) none).denominator
-        at true rest = each.0
-        at false rest = rest
-
-ranged_from : (expansions : Expansions) (rest : List Numbered) (target : Made) (c : Cofactors) → EachPositive expansions → AllByRecursion (λ e. pos 0 <ℤ e.1.scale) rest → pos 0 <ℤ target.scale
-    → expansion_from expansions rest target ≡ Ok c → IsRanged c
-ranged_from expansions [] target c each rules scale_in ends = record_ranged (known_from expansions) (known_positive expansions each) target c scale_in ends
-ranged_from expansions (e ∷ rest) target c each rules scale_in ends =
-    go (record_expansion (known_from expansions) e.1) (record_ranged (known_from expansions) (known_positive expansions each) e.1) ends
-    (λ x ranged. ranged_from (insert_entry nat_cmp expansions e.0 x) rest target c (each_with (λ d. pos 0 <ℤ d.1.denominator) expansions e.0 x each ranged.positive) rules.1 scale_in)
-  where
-    go : (r : Result Cofactors ExpandFault) → ((x : Cofactors) → pos 0 <ℤ e.1.scale → r ≡ Ok x → IsRanged x)
-        → and_then r (λ x. expansion_from (insert_entry nat_cmp expansions e.0 x) rest target) ≡ Ok c
-        → ((x : Cofactors) → IsRanged x → expansion_from (insert_entry nat_cmp expansions e.0 x) rest target ≡ Ok c → IsRanged c) → IsRanged c
-    go (Ok x) ranged ends next = next x (ranged x rules.0 (λ i. Ok x)) ends
-    go (Err f) ranged ends next = absurd (cc)
-
 -- Where each scale is positive, an expansion has coefficients and a positive denominator.
 pub expansion_ranged : (made : List Made) (target : Made) (c : Cofactors) → All (λ m. pos 0 <ℤ m.scale) made → pos 0 <ℤ target.scale → expansion_of made target ≡ Ok c → IsRanged c
-expansion_ranged made target c rules scale_in ends = ranged_from [] (needed_rules made target) target c tt (needed_each (λ m. pos 0 <ℤ m.scale) target 1 made rules) scale_in ends
+expansion_ranged =
+    expansion_is IsRanged (λ m. pos 0 <ℤ m.scale) (record { positive = omega (arith, ints); denominator_in = omega (arith, ints); coefficients_in = All-nil HasNumber })
+    (λ n. record {
+      positive = omega (arith, ints);
+      denominator_in = omega (arith, ints);
+      coefficients_in = All-replicate HasNumber 1 (record { coef = pos 1; left = []; generator = n; right = [] }) (omega (arith, ints));
+    })
+    (λ known m c each scale_in ends. record_ranged known (λ o. (each o).positive) m c scale_in ends)
 
 -- Where each scale of the records is positive, so are those of the lemmas and of the goal, and the denominator.
 pub gathered_positive : (claim : ℕ) (made : List Made) (target : Made) (c : LemmaCertificate) → All (λ m. pos 0 <ℤ m.scale) made → pos 0 <ℤ target.scale → gathered_of claim made target ≡ Ok c

@@ -1,5 +1,5 @@
 -- What holds of the words of records, and of words put together of such, holds of the words of evidence.
-use Rattle.std.proofs.Common.{◌≡◌, ℕ, suc, ℤ, ◌*ℤ◌, Bool, true, false, cond, List, [], ◌∷◌, ◌++◌, map, Some, Result, Ok, Err, unwrap_or, subst}
+use Rattle.std.proofs.Common.{◌≡◌, refl, ℕ, suc, ℤ, ◌*ℤ◌, Bool, true, false, cond, List, [], ◌∷◌, ◌++◌, map, Some, Result, Ok, Err, unwrap_or, subst}
 use Rattle.std.proofs.lemmas.List.Elements.{All-head, All-tail, All-map, All-from_recursion}
 use Rattle.std.specs.List.{All, AllByRecursion}
 use Rattle.std.specs.Map.{lookup}
@@ -35,6 +35,40 @@ needed_each P target number (m ∷ made) each = go (is_named number (target ∷ 
     go true later = (All-head P m made each, later)
     go false later = later
 
+-- What the expansion of a record keeps, where it holds of those that are known, holds of the whole expansion.
+module _ (P : Cofactors → Type 0) (R : Made → Type 0) (nothing : P none) (generator : (n : ℕ) → P (known_from [] (origin.Generator n)))
+    (keeps : (known : Known) (m : Made) (c : Cofactors) → ((o : Origin) → P (known o)) → R m → record_expansion known m ≡ Ok c → P c) where
+  abbrev EachIs : Expansions → Type 0
+  EachIs = AllByRecursion (λ e. P e.1)
+
+  known_is : (expansions : Expansions) → EachIs expansions → (o : Origin) → P (known_from expansions o)
+  known_is expansions each (origin.Generator n) = generator n
+  known_is expansions each (origin.Rule n) = found expansions each
+    where
+      found : (es : Expansions) → EachIs es → P (unwrap_or (lookup (is_at (nat_cmp n)) es) none)
+      found [] each = nothing
+      found (e ∷ es) each = go (is_eq (nat_cmp n e.0)) (found es each.1)
+        where
+          go : (b : Bool) → P (unwrap_or (lookup (is_at (nat_cmp n)) es) none) → P (unwrap_or (cond b (Some e.1) (lookup (is_at (nat_cmp n)) es)) none)
+          go true rest = each.0
+          go false rest = rest
+
+  expansion_from_is : (expansions : Expansions) (rest : List Numbered) (target : Made) (c : Cofactors) → EachIs expansions → AllByRecursion (λ e. R e.1) rest → R target
+      → expansion_from expansions rest target ≡ Ok c → P c
+  expansion_from_is expansions [] target c each rules is ends = keeps (known_from expansions) target c (known_is expansions each) is ends
+  expansion_from_is expansions (e ∷ rest) target c each rules is ends =
+      go (record_expansion (known_from expansions) e.1) refl ends
+      (λ x holds. expansion_from_is (insert_entry nat_cmp expansions e.0 x) rest target c (each_with (λ d. P d.1) expansions e.0 x each holds) rules.1 is)
+    where
+      go : (r : Result Cofactors ExpandFault) → record_expansion (known_from expansions) e.1 ≡ r
+          → and_then r (λ x. expansion_from (insert_entry nat_cmp expansions e.0 x) rest target) ≡ Ok c
+          → ((x : Cofactors) → P x → expansion_from (insert_entry nat_cmp expansions e.0 x) rest target ≡ Ok c → P c) → P c
+      go (Ok x) is_made k next = next x (keeps (known_from expansions) e.1 x (known_is expansions each) rules.0 is_made) k
+      go (Err f) is_made k next = absurd (cc)
+
+  pub expansion_is : (made : List Made) (target : Made) (c : Cofactors) → All R made → R target → expansion_of made target ≡ Ok c → P c
+  expansion_is made target c rules is ends = expansion_from_is [] (needed_rules made target) target c tt (needed_each R target 1 made rules) is ends
+
 module _ (P : List ℕ → Type 0) (empty : P []) (together : (u v : List ℕ) → P u → P v → P (u ++ v)) where
   -- both words of a row of a record
   abbrev pub HasWords : Row → Type 0
@@ -51,56 +85,22 @@ module _ (P : List ℕ → Type 0) (empty : P []) (together : (u v : List ℕ) �
   joined_between k outer has [] each = tt
   joined_between k outer has (s ∷ inner) each = ((together outer.left s.left has.0 each.0.0, together s.right outer.right each.0.1 has.1), joined_between k outer has inner each.1)
 
-  all_between : (known : Known) (common : ℤ) (rows : List Row) → All HasWords rows → AllByRecursion (λ r. AreBetween (known r.from).rows) rows → AreBetween (joined known common rows)
-  all_between known common [] has each = tt
-  all_between known common (r ∷ rows) has each =
+  all_between : (known : Known) (common : ℤ) → ((o : Origin) → AreBetween (known o).rows) → (rows : List Row) → All HasWords rows → AreBetween (joined known common rows)
+  all_between known common each [] has = tt
+  all_between known common each (r ∷ rows) has =
       each_append (λ m. P m.left × P m.right) (joined_rows known common r) (joined known common rows)
-      (joined_between (r.coef *ℤ share known common r) r (All-head HasWords r rows has) (known r.from).rows each.0) (all_between known common rows (All-tail HasWords r rows has) each.1)
+      (joined_between (r.coef *ℤ share known common r) r (All-head HasWords r rows has) (known r.from).rows (each r.from)) (all_between known common each rows (All-tail HasWords r rows has))
 
-  -- the list of expansions
-  abbrev EachBetween : Expansions → Type 0
-  EachBetween expansions = AllByRecursion (λ e. AreBetween e.1.rows) expansions
-
-  found_between : (expansions : Expansions) (n : ℕ) → EachBetween expansions → AreBetween (unwrap_or (lookup (is_at (nat_cmp n)) expansions) none).rows
-  found_between [] n each = tt
-  found_between (e ∷ expansions) n each = go (is_eq (nat_cmp n e.0)) (found_between expansions n each.1)
-    where
-      go : (b : Bool) → AreBetween (unwrap_or (lookup (is_at (nat_cmp n)) expansions) none).rows → AreBetween (unwrap_or (cond b (Some e.1) (lookup (is_at (nat_cmp n)) expansions)) none).rows
-      go true rest = each.0
-      go false rest = rest
-
-  known_between : (expansions : Expansions) → EachBetween expansions → (rows : List Row) → AllByRecursion (λ r. AreBetween (known_from expansions r.from).rows) rows
-  known_between expansions each [] = tt
-  known_between expansions each (r ∷ rows) = (go r.from, known_between expansions each rows)
-    where
-      go : (o : Origin) → AreBetween (known_from expansions o).rows
-      go (origin.Generator n) = ((empty, empty), tt)
-      go (origin.Rule n) = found_between expansions n each
-
-  record_between : (expansions : Expansions) (m : Made) (c : Cofactors) → EachBetween expansions → RecordHasWords m → record_expansion (known_from expansions) m ≡ Ok c → AreBetween c.rows
-  record_between expansions m c each has ends =
-      let known = known_from expansions in
+  record_between : (known : Known) (m : Made) (c : Cofactors) → ((o : Origin) → AreBetween (known o).rows) → RecordHasWords m → record_expansion known m ≡ Ok c → AreBetween c.rows
+  record_between known m c each has ends =
       let common = common_denominator known m.rows in
-      let rows = joined known common m.rows in
       subst (λ (x : Cofactors). AreBetween x.rows) (primitive_is known m c ends).1
-      (each_primitive (λ m. P m.left × P m.right) (m.scale *ℤ common) rows (all_between known common m.rows has (known_between expansions each m.rows)))
-
-  between_from : (expansions : Expansions) (rest : List Numbered) (target : Made) (c : Cofactors) → EachBetween expansions → AllByRecursion (λ e. RecordHasWords e.1) rest → RecordHasWords target
-      → expansion_from expansions rest target ≡ Ok c → AreBetween c.rows
-  between_from expansions [] target c each rules has ends = record_between expansions target c each has ends
-  between_from expansions (e ∷ rest) target c each rules has ends =
-      go (record_expansion (known_from expansions) e.1) (record_between expansions e.1) ends
-      (λ x between. between_from (insert_entry nat_cmp expansions e.0 x) rest target c (each_with (λ d. AreBetween d.1.rows) expansions e.0 x each between) rules.1 has)
-    where
-      go : (r : Result Cofactors ExpandFault) → ((x : Cofactors) → EachBetween expansions → RecordHasWords e.1 → r ≡ Ok x → AreBetween x.rows)
-          → and_then r (λ x. expansion_from (insert_entry nat_cmp expansions e.0 x) rest target) ≡ Ok c
-          → ((x : Cofactors) → AreBetween x.rows → expansion_from (insert_entry nat_cmp expansions e.0 x) rest target ≡ Ok c → AreBetween c.rows) → AreBetween c.rows
-      go (Ok x) between ends next = next x (between x each rules.0 (λ i. Ok x)) ends
-      go (Err f) between ends next = absurd (cc)
+      (each_primitive (λ m. P m.left × P m.right) (m.scale *ℤ common) (joined known common m.rows) (all_between known common each m.rows has))
 
   pub expanded_words : (made : List Made) (target : Made) (c : Cofactors) → All RecordHasWords made → RecordHasWords target → expansion_of made target ≡ Ok c → All (λ (r : CertRow). P r.left × P r.right) c.rows
   expanded_words made target c rules has ends =
-      All-from_recursion (λ (r : CertRow). P r.left × P r.right) c.rows (between_from [] (needed_rules made target) target c tt (needed_each RecordHasWords target 1 made rules) has ends)
+      All-from_recursion (λ (r : CertRow). P r.left × P r.right) c.rows
+      (expansion_is (λ c. AreBetween c.rows) RecordHasWords tt (λ n. ((empty, empty), tt)) record_between made target c rules has ends)
 
 -- what holds of the words of records holds of those of a gathered certificate
 module _ (P : List ℕ → Type 0) where

@@ -28,21 +28,22 @@ use Rattle.traced_completion.specs.Limits.{round_limit}
 use Rattle.traced_completion.specs.declared.budget.Budget.{Budget}
 use Rattle.ambiguities.specs.declared.waiting.Waiting.{Waiting}
 use Rattle.traced_completion.specs.Pending.{AreAllPending, ambiguities_of}
-use Rattle.traced_completion.specs.PlainRun.{Setting, RunState, IsRunState, taken_count, setting_of}
+use Rattle.traced_completion.specs.PlainRun.{went, Setting, RunState, taken_count, setting_of}
 use Rattle.ambiguities.proofs.Ascending.{contains-first}
 use Rattle.traced_completion.proofs.StoreLemmas.{pending-over}
 use Rattle.claim_decider.specs.Outcomes.{IsOpen}
 use Rattle.outcome_laws.specs.KeptRuns.{done_after, IsKeptState}
-use Rattle.outcome_laws.proofs.LaterRounds.{BeginsWith}
-use Rattle.outcome_laws.proofs.WholeRuns.{runs_are_kept, first_is_least_pending}
+use Rattle.outcome_laws.proofs.RunsKept.{BeginsWith}
+use Rattle.outcome_laws.proofs.WholeRuns.{first_is_least_pending}
 use Rattle.word_orders.proofs.AskedOrders.{asked_rank}
-use Rattle.outcome_laws.proofs.OpenRuns.{order_laws, open_run, open_not_below}
-use Rattle.outcome_laws.proofs.ProblemPolynomials.{turns_in_range}
+use Rattle.claim_decider.proofs.UniqueOutcomes.{open_run}
+use Rattle.outcome_laws.proofs.OpenRuns.{open_not_below}
 use Rattle.outcome_laws.specs.Enough.{letters_in_play, enough_pairs, IsShownBelow, OpenRunsTreatFew}
 use Rattle.outcome_laws.proofs.Cells.{HaveDistinctLeads, IsShort, short_are_few}
 use Rattle.outcome_laws.proofs.Counting.{HasFirsts, none_taken, firsts_weaker, distinct_more, asked_more, firsts_more}
-use Rattle.outcome_laws.proofs.LettersInPlay.{problem_play, generators_in_play, all_in}
-use Rattle.outcome_laws.proofs.TreatedRounds.{took_first, zero_treats_none}
+use Rattle.outcome_laws.proofs.LettersInPlay.{problem_play, all_in}
+use Rattle.outcome_laws.proofs.ProblemStates.{order_laws, state_kept, rules_begin}
+use Rattle.outcome_laws.proofs.RoundEnds.{zero_ends, later_ends}
 
 -- leading words
 leads_apart : (letters : ℕ) (compare : Compare) (rules : List Rule) → AreApart rules → All (IsRule letters compare) rules → HaveDistinctLeads rules
@@ -81,11 +82,6 @@ module _ (problem : Problem) (budget : Budget) (number : ℕ) (word : List ℕ) 
   canonical : compare ≡ word_cmp
   canonical = ap asked_cmp shown.order
 
-  kept : (n : ℕ) (s : RunState) → IsRunState setting n s → IsKeptState (quiver_of problem.parts.quiver) (problem_play problem) letters setting (done_after setting n) s
-  kept n s is =
-      runs_are_kept (quiver_of problem.parts.quiver) (problem_play problem) letters (asked_rank letters problem.parts.order) setting n s (order_laws problem budget)
-      (generators_in_play problem) (turns_in_range problem) is
-
   -- an ambiguity of the rules whose overlap word is below the word
   record IsAsked (rules : List Rule) (a : Ambiguity) : Type 0 where
     is : IsAmbiguity rules a
@@ -99,7 +95,7 @@ module _ (problem : Problem) (budget : Budget) (number : ℕ) (word : List ℕ) 
   -- after a whole round that leaves a rest of the claim
   module _ (n : ℕ) (s : RunState) (opened : IsOpen setting claim (suc n) s) where
     now : IsKeptState (quiver_of problem.parts.quiver) (problem_play problem) letters setting (done_after setting (suc n)) s
-    now = kept (suc n) s (open_run setting claim (suc n) s opened)
+    now = state_kept problem budget (suc n) s (open_run setting claim (suc n) s opened)
 
     leads : HaveDistinctLeads s.rules
     leads = leads_apart letters compare s.rules now.kept.apart now.kept.are_rules
@@ -158,18 +154,20 @@ module _ (problem : Problem) (budget : Budget) (number : ℕ) (word : List ℕ) 
 
   firsts_of : (n : ℕ) (s : RunState) → IsOpen setting claim (suc n) s → HasFirsts (IsAsked s.rules) s.treated
   firsts_of zero s opened =
-      subst (HasFirsts (IsAsked s.rules)) (sym (zero_treats_none setting opened.before s opened.round ∙ ap (λ (t : RunState). t.treated) opened.is_before.1)) (none_taken (IsAsked s.rules))
+      subst (HasFirsts (IsAsked s.rules)) (sym ((zero_ends setting opened.before (went s) opened.round).1 ∙ ap (λ (t : RunState). t.treated) opened.is_before.1)) (none_taken (IsAsked s.rules))
   firsts_of (suc n) s opened =
       let before = opened.before in
-      let round = took_first setting n before s opened.round in
-      let pending = round.first ∷ round.others in
+      let round = later_ends setting before (suc n) (went s) opened.round in
+      let taken = round.takes in
+      let begins = rules_begin problem budget n before s (open_run setting claim (suc n) before opened.is_before) round in
+      let pending = taken.first ∷ taken.others in
       let count = taken_count budget before pending in
-      let waits = (round.all_pending.members round.first).0 (contains-first round.first round.others) in
-      let asked : IsAsked before.rules round.first.which = record { is = waits.is; less = subst (λ w. word_cmp w word ≡ Less) waits.overlap (first_below n before opened.is_before round.first round.others round.all_pending) } in
+      let waits = (taken.all_pending.members taken.first).0 (contains-first taken.first taken.others) in
+      let asked : IsAsked before.rules taken.first.which = record { is = waits.is; less = subst (λ w. word_cmp w word ≡ Less) waits.overlap (first_below n before opened.is_before taken.first taken.others taken.all_pending) } in
       subst (HasFirsts (IsAsked s.rules)) (sym round.treated)
-      (firsts_weaker (IsAsked before.rules) (IsAsked s.rules) (asked_stays before.rules s.rules round.begins) (before.treated ++ ambiguities_of (take count pending))
-      (firsts_more (IsAsked before.rules) before.treated (firsts_of n before opened.is_before) round.first.which asked waits.untreated (ambiguities_of (take count pending))
-      (takes count round.first round.others (some_taken budget.pairs (length before.treated) (length round.others) round.pairs_left))
+      (firsts_weaker (IsAsked before.rules) (IsAsked s.rules) (asked_stays before.rules s.rules begins) (before.treated ++ ambiguities_of (take count pending))
+      (firsts_more (IsAsked before.rules) before.treated (firsts_of n before opened.is_before) taken.first.which asked waits.untreated (ambiguities_of (take count pending))
+      (takes count taken.first taken.others (some_taken budget.pairs (length before.treated) (length taken.others) taken.pairs_left))
       (omega (arith, length-map (take count pending) (λ w. w.which), length-take count pending, small budget.pairs (length before.treated) (length pending)))))
 
   few : (n : ℕ) (s : RunState) → IsOpen setting claim (suc n) s → length s.treated < enough_pairs problem word

@@ -1,5 +1,5 @@
 -- The generators of a problem have letters in play, and so have the overlap words of the rules of its runs.
-use Rattle.std.proofs.Common.{◌≡◌, ℕ, Bool, true, false, cond, List, [], ◌∷◌, ◌∙◌, arith, ltb, ltb-true}
+use Rattle.std.proofs.Common.{◌≡◌, ◌⊎◌, inl, inr, refl, sym, ap, subst, Contains, ℕ, Bool, true, false, cond, List, [], ◌∷◌, ◌∙◌, arith, ltb, ltb-true}
 use Rattle.std.specs.List.{All, AllZip, AllByRecursion, filter, list_all, range_with_len}
 use Rattle.std.proofs.lemmas.Bool.{and_parts}
 use Rattle.std.proofs.lemmas.List.Elements.{All-nil, All-cons, All-head, All-tail, All-from_recursion}
@@ -14,21 +14,19 @@ use Rattle.outcome_laws.specs.KeptRuns.{IsGenerator}
 use Rattle.outcome_laws.proofs.Turns.{contains_number}
 use Rattle.outcome_laws.proofs.ProblemPolynomials.{any_letter, generators_are}
 use Rattle.outcome_laws.specs.Enough.{letters_in_play}
-use Rattle.outcome_laws.proofs.Pigeons.{Member, here, there, member_from_contains}
+use Rattle.ambiguities.proofs.Ascending.{contains-none, contains-cases, contains-first, contains-rest}
 use Rattle.outcome_laws.proofs.Squares.{AllIn}
 
 -- what is in a list and passes a test is in the filtered list
-member_filter : (test : ℕ → Bool) (a : ℕ) (xs : List ℕ) → Member a xs → test a ≡ true → Member a (filter test xs)
-member_filter test a _ (here xs) passes = first (test a) passes
+contains_filter : (test : ℕ → Bool) (a : ℕ) (xs : List ℕ) → Contains xs a → test a ≡ true → Contains (filter test xs) a
+contains_filter test a [] at passes = absurd (contains-none a at)
+contains_filter test a (x ∷ xs) at passes = go (test x) refl (contains-cases x xs a at) (λ later. contains_filter test a xs later passes)
   where
-    first : (b : Bool) → b ≡ true → Member a (cond b (a ∷ filter test xs) (filter test xs))
-    first true e = here (filter test xs)
-    first false e = absurd (cc)
-member_filter test a _ (there x xs m) passes = behind (test x) (member_filter test a xs m passes)
-  where
-    behind : (b : Bool) → Member a (filter test xs) → Member a (cond b (x ∷ filter test xs) (filter test xs))
-    behind true k = there x (filter test xs) k
-    behind false k = k
+    go : (b : Bool) → test x ≡ b → (x ≡ a) ⊎ Contains xs a → (Contains xs a → Contains (filter test xs) a) → Contains (cond b (x ∷ filter test xs) (filter test xs)) a
+    go true is (inl same) later = subst (Contains (x ∷ filter test xs)) same (contains-first x (filter test xs))
+    go false is (inl same) later = absurd (cc (sym is ∙ ap test same ∙ passes))
+    go true is (inr inside) later = contains-rest x (filter test xs) a (later inside)
+    go false is (inr inside) later = later inside
 
 -- of a problem
 module _ (problem : Problem) where
@@ -66,7 +64,7 @@ module _ (problem : Problem) where
   all_in (a ∷ w) is =
       let parts = and_parts (problem_play a) (list_all problem_play w) is in
       let inside = ltb-true a (letter_count problem.parts.quiver) (and_parts (ltb a (letter_count problem.parts.quiver)) _ parts.0).0 in (
-        member_filter problem_play a (range_with_len 0 (letter_count problem.parts.quiver))
-            (member_from_contains (range_with_len 0 (letter_count problem.parts.quiver)) a (contains_number 0 (letter_count problem.parts.quiver) a (omega arith) (omega (arith, inside)))) parts.0,
+        contains_filter problem_play a (range_with_len 0 (letter_count problem.parts.quiver))
+            (contains_number 0 (letter_count problem.parts.quiver) a (omega arith) (omega (arith, inside))) parts.0,
         all_in w parts.1,
       )

@@ -1,9 +1,10 @@
 -- What is listed: operations of which one overflows, values of a function, and the coefficients of terms.
-use Rattle.std.proofs.Common.{◌≡◌, ◌⊎◌, inl, inr, ℕ, zero, suc, ℤ, Bool, true, false, cond, List, [], ◌∷◌, map, Option, Some, refl, sym, ap, ◌∙◌, subst, arith}
+use Rattle.std.proofs.Common.{◌≡◌, ◌⊎◌, inl, inr, ℕ, ℤ, Bool, true, false, cond, List, [], ◌∷◌, map, Option, Some, refl, sym, ◌∙◌, subst, arith}
 use Rattle.std.specs.List.{Contains}
 use Rattle.std.proofs.lemmas.Bool.Decides.{nat_tests}
 use Rattle.std.proofs.lemmas.List.Elements.{All-map, All-contains}
 use Rattle.std.specs.declared.cmp.Ordering.TheVariants.{Greater}
+use Rattle.ambiguities.proofs.Ascending.{contains-none, contains-cases, contains-rest, contains-map}
 use Rattle.coef_int.specs.declared.Overflow.{Overflow}
 use Rattle.coef_int.specs.Range.{IsCoefficient, is_coefficient}
 use Rattle.coef_int.specs.Operations.{sum_of, exact_value, first_overflow}
@@ -16,16 +17,6 @@ use Rattle.nc_polynomial.proofs.Distinct.{AreDistinct, distinct-descending, firs
 use Rattle.nc_polynomial.proofs.Words.{word_eq-turned}
 use Rattle.nc_polynomial.proofs.Shapes.{Descends, IsFalling, falling-aligned}
 
-pub none_listed : {X : Type 0} (x : X) → Contains [] x → ⊥
-none_listed x (k, inside, is) = omega (arith, inside)
-
-pub listed_first : {X : Type 0} (y : X) (xs : List X) (x : X) → Contains (y ∷ xs) x → (y ≡ x) ⊎ Contains xs x
-listed_first y xs x (zero, inside, is) = inl is
-listed_first y xs x (suc k, inside, is) = inr (k, omega (arith, inside), is)
-
-pub listed_later : {X : Type 0} (y : X) (xs : List X) (x : X) → Contains xs x → Contains (y ∷ xs) x
-listed_later y xs x (k, inside, is) = (suc k, omega (arith, inside), is)
-
 -- what a listed value is the value of
 pub record IsValueOf {X Y : Type 0} (f : X → Y) (xs : List X) (y : Y) : Type 0 where
   pub argument : X
@@ -33,20 +24,12 @@ pub record IsValueOf {X Y : Type 0} (f : X → Y) (xs : List X) (y : Y) : Type 0
   pub is : y ≡ f argument
 
 pub value_of : {X Y : Type 0} (f : X → Y) (xs : List X) (y : Y) → Contains (map f xs) y → IsValueOf f xs y
-value_of f [] y at = absurd (none_listed y at)
-value_of {X} {Y} f (x ∷ xs) y at = go (listed_first (f x) (map f xs) y at) (value_of f xs y)
+value_of f [] y at = absurd (contains-none y at)
+value_of {X} {Y} f (x ∷ xs) y at = go (contains-cases (f x) (map f xs) y at) (value_of f xs y)
   where
     go : (f x ≡ y) ⊎ Contains (map f xs) y → (Contains (map f xs) y → IsValueOf f xs y) → IsValueOf f (x ∷ xs) y
     go (inl same) later = record { argument = x; listed = (0, omega arith, refl); is = sym same }
-    go (inr rest) later = let v = later rest in record { argument = v.argument; listed = listed_later x xs v.argument v.listed; is = v.is }
-
-pub value_listed : {X Y : Type 0} (f : X → Y) (xs : List X) (x : X) → Contains xs x → Contains (map f xs) (f x)
-value_listed f [] x at = absurd (none_listed x at)
-value_listed {X} {Y} f (y ∷ xs) x at = go (listed_first y xs x at) (value_listed f xs x)
-  where
-    go : (y ≡ x) ⊎ Contains xs x → (Contains xs x → Contains (map f xs) (f x)) → Contains (map f (y ∷ xs)) (f x)
-    go (inl same) later = (0, omega arith, ap f same)
-    go (inr rest) later = listed_later (f y) (map f xs) (f x) (later rest)
+    go (inr rest) later = let v = later rest in record { argument = v.argument; listed = contains-rest x xs v.argument v.listed; is = v.is }
 
 -- the first of operations that overflows
 pub record IsFailing (os : List Overflow) (o : Overflow) : Type 0 where
@@ -61,7 +44,7 @@ failing (x ∷ os) o e = go (is_coefficient (exact_value x)) refl e (failing os 
     same y k = cc
 
     go : (b : Bool) → is_coefficient (exact_value x) ≡ b → cond b (first_overflow os) (Some x) ≡ Some o → (first_overflow os ≡ Some o → IsFailing os o) → IsFailing (x ∷ os) o
-    go true fits k later = let rest = later k in record { listed = listed_later x os o rest.listed; fails = rest.fails }
+    go true fits k later = let rest = later k in record { listed = contains-rest x os o rest.listed; fails = rest.fails }
     go false out k later = record { listed = (0, omega arith, same x k); fails = subst (λ y. IsCoefficient (exact_value y) → ⊥) (same x k) past }
       where
         past : IsCoefficient (exact_value x) → ⊥
@@ -69,8 +52,8 @@ failing (x ∷ os) o e = go (is_coefficient (exact_value x)) refl e (failing os 
 
 -- a term of a list that has each word once
 pub coefficient_listed : (p : List Term) → AreDistinct p → (t : Term) → Contains p t → coefficient_of p t.1 ≡ t.0
-coefficient_listed [] apart t at = absurd (none_listed t at)
-coefficient_listed (u ∷ p) apart t at = go (listed_first u p t at) (coefficient_listed p apart.1 t)
+coefficient_listed [] apart t at = absurd (contains-none t at)
+coefficient_listed (u ∷ p) apart t at = go (contains-cases u p t at) (coefficient_listed p apart.1 t)
   where
     go : (u ≡ t) ⊎ Contains p t → (Contains p t → coefficient_of p t.1 ≡ t.0) → coefficient_of (u ∷ p) t.1 ≡ t.0
     go (inl same) later = subst (λ (v : Term). coefficient_of (u ∷ p) v.1 ≡ v.0) same (first_coefficient u p apart.0)
@@ -89,7 +72,7 @@ module _ (side : Pair → ℤ) where
 
   pub side_listed : (pairs : List Pair) → IsFalling pairs → (a : Pair) → Contains pairs a → coefficient_of (terms_of pairs) a.2 ≡ side a
   side_listed pairs falling a at =
-      coefficient_listed (terms_of pairs) (distinct-descending (terms_of pairs) (falls pairs falling)) (side a, a.2) (value_listed (λ b. (side b, b.2)) pairs a at)
+      coefficient_listed (terms_of pairs) (distinct-descending (terms_of pairs) (falls pairs falling)) (side a, a.2) (contains-map (λ b. (side b, b.2)) pairs a at)
 
 -- each sum of two descending lists is that of the coefficients of a word
 pub record IsSumAt (p q : List Term) (o : Overflow) : Type 0 where

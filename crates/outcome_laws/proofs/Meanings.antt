@@ -1,44 +1,34 @@
 -- Each outcome means what it says.
-use Rattle.std.proofs.Common.{◌≡◌, ℕ, suc, pos, List, [], ◌∷◌, None, Result, Ok, Err, refl, sym, subst, arith}
+use Rattle.std.proofs.Common.{◌≡◌, ℕ, pos, [], refl, sym, subst, arith}
 use Rattle.std.proofs.lemmas.Int.{ints}
 use Rattle.std.proofs.lemmas.List.Elements.{All-replicate}
 use Rattle.std.proofs.lemmas.Nat.Gcd.{dvd_refl}
-use Rattle.definitions.specs.Poly.{Term}
 use Rattle.definitions.specs.Combination.{IsCombination}
-use Rattle.traced_rows.specs.declared.certificate.Cofactors.{Cofactors}
 use Rattle.traced_rows.specs.declared.evidence.Lemma.{Lemma}
 use Rattle.traced_rows.specs.declared.evidence.LemmaCertificate.{LemmaCertificate}
 use Rattle.traced_rows.specs.declared.evidence.Format.{Format}
 use Rattle.traced_rows.specs.declared.evidence.Format.TheVariants as format
-use Rattle.cofactor_trace.specs.declared.fault.ExpandFault.{ExpandFault}
-use Rattle.cofactor_trace.specs.declared.fault.GatherFault.{GatherFault}
 use Rattle.cofactor_trace.specs.declared.halt.Cause.{Cause}
-use Rattle.cofactor_trace.specs.declared.halt.Place.TheVariants as place
-use Rattle.cofactor_trace.specs.Needed.{expansion_of}
-use Rattle.cofactor_trace.specs.Lemmas.{gathered_of}
 use Rattle.traced_rows.specs.LemmaRows.{IsEvidenceOf, IsShareOf}
 use Rattle.cofactor_trace.specs.GatheringLaws.{lemma_polys}
-use Rattle.word_orders.specs.Specified.{asked_cmp}
-use Rattle.rule_reduce.specs.declared.state.State.{State}
-use Rattle.rule_reduce.specs.declared.fault.ReduceFault.{ReduceFault}
 use Rattle.rule_reduce.specs.RuleLists.{polynomials_of}
-use Rattle.rule_reduce.specs.NormalForms.{normal_form_of}
 use Rattle.adjoint_rules.specs.declared.problem.Problem.{Problem}
 use Rattle.adjoint_rules.specs.Problem.{polynomials}
 use Rattle.adjoint_rules.specs.Claims.{claim_at}
 use Rattle.traced_completion.specs.declared.budget.Budget.{Budget}
-use Rattle.traced_completion.specs.PlainRun.{RunState, IsRunState, setting_of}
+use Rattle.traced_completion.specs.PlainRun.{setting_of}
 use Rattle.claim_decider.specs.declared.outcome.Outcome.{Outcome}
 use Rattle.claim_decider.specs.declared.outcome.Outcome.TheVariants as outcome
-use Rattle.claim_decider.specs.Outcomes.{record_of, Expands, Gathers, IsProved, evidence_of_zero, IsDoneBy, IsDoneWith, GetsOutcome, at_once, after_round, by_closing, by_stop}
+use Rattle.claim_decider.specs.Outcomes.{halted_at, record_of, evidence_of_zero}
 use Rattle.cofactor_checker.specs.ProvedMeans.{EvidenceAddsUp}
 use Rattle.outcome_laws.specs.Meanings.{OutcomeMeans, DerivedClaimsAddUp, ClosedClaimsAreOutside, LeastWordsBoundDerivations, HaltedCertificatesAreInside, OutcomesMeanWhatTheySay}
-use Rattle.outcome_laws.specs.Halts.{HaltMeans}
-use Rattle.outcome_laws.specs.Causes.{IsClaim, CauseMeans}
-use Rattle.outcome_laws.proofs.OpenRuns.{open_run, opened_claim, closed_outside, stop_means}
+use Rattle.claim_decider.proofs.UniqueOutcomes.{open_run}
+use Rattle.outcome_laws.proofs.OpenRuns.{closed_outside, stop_means}
 use Rattle.outcome_laws.proofs.RoundCauses.{stop_says}
 use Rattle.outcome_laws.proofs.ClaimCauses.{claim_named, claim_stop_means, expansion_means, gathering_means}
 use Rattle.outcome_laws.proofs.Derivations.{follows, expansion_adds_up, gathering_adds_up, gathering_names}
+use Rattle.cofactor_trace.specs.declared.halt.Place.{Place}
+use Rattle.outcome_laws.proofs.OutcomeWays.{GivesUp, at_claim, at_expansion, at_gathering, Way, no_terms, expanded, gathered, left_over, given_up, with_run, way}
 
 -- the certificate with lemmas of a claim without terms
 abbrev zero_goal : Lemma
@@ -68,66 +58,48 @@ module _ (problem : Problem) (budget : Budget) (number : ℕ) where
     });
   }
 
-  -- nothing is left after a round
-  module _ (round rounds : ℕ) (s : RunState) (run : IsRunState (setting_of problem budget) rounds s) (is_claim : IsClaim problem number) where
-    module _ (left : State) (ends : normal_form_of (asked_cmp problem.parts.order) s.rules (claim_at problem number) budget.steps ≡ Ok left) (none : left.rest ≡ []) where
-      -- the work stopped in making the certificate
-      halted_means : (reason : Cause) → CauseMeans problem budget number (place.Certificate round) None reason → HaltMeans problem budget number (record { cause = reason; place = place.Certificate round; least = None })
-      halted_means reason says = record {
-        cause_means = says;
-        not_below = λ word least. absurd (cc);
-        inside = λ n is. follows problem budget number rounds s run left ends none;
-      }
+  -- the work on it
+  work_means : (at : Place) (c : Cause) → GivesUp (setting_of problem budget) number (claim_at problem number) at c → Means (halted_at at c)
+  work_means _ _ (at_claim round rounds s e c some run ends is) = record {
+    cause_means = claim_stop_means problem budget number rounds s run round (claim_named problem number some) e c is ends;
+    not_below = λ word least. absurd (cc);
+    inside = λ n at. absurd (cc);
+  }
+  work_means _ _ (at_expansion round by e c ends is) = record {
+    cause_means = expansion_means problem budget number by.rounds by.state by.run round (claim_named problem number by.some) by.reduced by.reduction by.none e c is ends;
+    not_below = λ word least. absurd (cc);
+    inside = λ n at. follows problem budget number by.rounds by.state by.run by.reduced by.reduction by.none;
+  }
+  work_means _ _ (at_gathering round by e c ends is) = record {
+    cause_means = gathering_means problem budget number by.rounds by.state by.run round (claim_named problem number by.some) by.reduced by.reduction by.none e c is ends;
+    not_below = λ word least. absurd (cc);
+    inside = λ n at. follows problem budget number by.rounds by.state by.run by.reduced by.reduction by.none;
+  }
 
-      expands : (r : Result Cofactors ExpandFault) → expansion_of s.made (record_of left) ≡ r → (o : Outcome) → Expands number (place.Certificate round) r o → Means o
-      expands (Ok c) is o derived = subst Means (sym derived) (record { claim = refl; combination = expansion_adds_up problem budget number rounds s run left ends none c is })
-      expands (Err e) is o halted =
-          subst Means (sym halted.halts) (halted_means halted.reason (expansion_means problem budget number rounds s run round is_claim left ends none e halted.reason halted.reason_of is))
-
-      gathers : (r : Result LemmaCertificate GatherFault) → gathered_of number s.made (record_of left) ≡ r → (o : Outcome) → Gathers (place.Certificate round) r o → Means o
-      gathers (Ok c) is o derived =
-          subst Means (sym derived) (record {
-            claim = gathering_names problem budget number rounds s run left ends none c is;
-            lemmas = lemma_polys (polynomials_of s.rules) s.made (record_of left);
-            evidence = gathering_adds_up problem budget number rounds s run left ends none c is;
-          })
-      gathers (Err e) is o halted =
-          subst Means (sym halted.halts) (halted_means halted.reason (gathering_means problem budget number rounds s run round is_claim left ends none e halted.reason halted.reason_of is))
-
-      proved_means : (form : Format) (o : Outcome) → IsProved form number (place.Certificate round) s.made (record_of left) o → Means o
-      proved_means format.Plain o proved = expands (expansion_of s.made (record_of left)) refl o proved
-      proved_means format.Lemmas o proved = gathers (gathered_of number s.made (record_of left)) refl o proved
-
-    done_with : (form : Format) (left : State) → normal_form_of (asked_cmp problem.parts.order) s.rules (claim_at problem number) budget.steps ≡ Ok left
-        → (rest : List Term) → left.rest ≡ rest → (o : Outcome) → IsDoneWith form number round s.made left rest o → Means o
-    done_with form left ends [] none o proved = proved_means left ends none form o proved
-    done_with form left ends (t ∷ rest) some o done = absurd done
-
-    done_by : (form : Format) (r : Result State ReduceFault) → normal_form_of (asked_cmp problem.parts.order) s.rules (claim_at problem number) budget.steps ≡ r → (o : Outcome) → IsDoneBy form number round s.made r o → Means o
-    done_by form (Ok left) ends o done = done_with form left ends left.rest refl o done
-    done_by form (Err e) ends o halted = subst Means (sym halted.halts) (record {
-      cause_means = claim_stop_means problem budget number rounds s run round is_claim e halted.reason halted.reason_of ends;
-      not_below = λ word least. absurd (cc);
-      inside = λ n is. absurd (cc);
-    })
-
-  gets_means : (form : Format) (rounds : ℕ) (s : RunState) (o : Outcome) → GetsOutcome (setting_of problem budget) form number (claim_at problem number) rounds s o → Means o
-  gets_means form rounds s o (at_once none first begins derived) = subst Means (sym derived) (zero_means form none)
-  gets_means form rounds s o (after_round n before count opened round done) =
-      let run : IsRunState (setting_of problem budget) (suc n) s = record { before = before; is_before = open_run (setting_of problem budget) (claim_at problem number) n before opened; round = round } in
-      done_by n (suc n) s run (claim_named problem number (opened_claim (setting_of problem budget) (claim_at problem number) n before opened)) form (normal_form_of (asked_cmp problem.parts.order) s.rules (claim_at problem number) budget.steps) refl o done
-  gets_means form rounds s o (by_closing opened round with_rest) = subst Means (sym with_rest.closes) (λ inside. closed_outside problem budget number rounds s with_rest.rest.terms opened round with_rest.left inside)
-  gets_means form rounds s o (by_stop halt opened round stops) =
-      let means = stop_means problem budget number rounds s halt opened round in
-      subst Means (sym stops) (record {
-        cause_means = stop_says problem budget number rounds s halt (open_run (setting_of problem budget) (claim_at problem number) rounds s opened) round;
+  way_means : (form : Format) (o : Outcome) → Way (setting_of problem budget) form number (claim_at problem number) o → Means o
+  way_means form o (no_terms none is) = subst Means (sym is) (zero_means form none)
+  way_means form o (expanded by c ends is) =
+      subst Means (sym is) (record { claim = refl; combination = expansion_adds_up problem budget number by.rounds by.state by.run by.reduced by.reduction by.none c ends })
+  way_means form o (gathered by c ends is) = subst Means (sym is) (record {
+    claim = gathering_names problem budget number by.rounds by.state by.run by.reduced by.reduction by.none c ends;
+    lemmas = lemma_polys (polynomials_of by.state.rules) by.state.made (record_of by.reduced);
+    evidence = gathering_adds_up problem budget number by.rounds by.state by.run by.reduced by.reduction by.none c ends;
+  })
+  way_means form o (left_over rounds s is_open round rest left is) =
+      subst Means (sym is) (λ inside. closed_outside problem budget number rounds s rest.terms is_open round left inside)
+  way_means form o (given_up at c stops is) = subst Means (sym is) (work_means at c stops)
+  way_means form o (with_run rounds s halt is_open round is) =
+      let means = stop_means problem budget number rounds s halt is_open round in
+      subst Means (sym is) (record {
+        cause_means = stop_says problem budget number rounds s halt (open_run (setting_of problem budget) (claim_at problem number) rounds s is_open) round;
         not_below = λ word least comes. means.not_below word least comes;
-        inside = λ n is. absurd (means.in_run.no_certificate n is);
+        inside = λ n at. absurd (means.in_run.no_certificate n at);
       })
 
 -- the laws
 pub outcomes_mean_what_they_say : OutcomesMeanWhatTheySay
-outcomes_mean_what_they_say problem budget form number o is = gets_means problem budget number form is.rounds is.state o is.gets
+outcomes_mean_what_they_say problem budget form number o is =
+    way_means problem budget number form o (way (setting_of problem budget) form number (claim_at problem number) o is.rounds is.state is.gets)
 
 pub derived_claims_add_up : DerivedClaimsAddUp
 derived_claims_add_up problem budget form number e is = outcomes_mean_what_they_say problem budget form number (outcome.Derived e) is

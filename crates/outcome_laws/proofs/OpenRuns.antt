@@ -1,5 +1,5 @@
 -- What holds of a run while a claim is open, where it closes, and where it stops.
-use Rattle.std.proofs.Common.{◌≡◌, ◌<◌, ℕ, zero, suc, Bool, true, false, List, [], ◌∷◌, ◌++◌, length, nat_le, take, Option, Some, None, Result, Ok, Err, sym, ap, ◌∙◌, subst, arith}
+use Rattle.std.proofs.Common.{◌≡◌, ◌<◌, ℕ, zero, suc, List, [], ◌∷◌, length, Some, None, Ok, sym, ap, ◌∙◌, subst, arith}
 use Rattle.definitions.specs.Poly.{Term}
 use Rattle.definitions.specs.Combination.{InRationalIdeal}
 use Rattle.nc_polynomial.specs.Shape.{IsShaped}
@@ -11,9 +11,7 @@ use Rattle.word_orders.specs.Specified.{asked_cmp}
 use Rattle.quiver.specs.Declarations.{letter_count, quiver_of}
 use Rattle.rule_reduce.specs.declared.rule.Rule.{Rule}
 use Rattle.rule_reduce.specs.declared.state.State.{State}
-use Rattle.rule_reduce.specs.declared.fault.ReduceFault.{ReduceFault}
 use Rattle.rule_reduce.specs.NormalForms.{normal_form_of}
-use Rattle.ambiguities.specs.declared.ambiguity.Ambiguity.{Ambiguity}
 use Rattle.ambiguities.specs.Resolved.{ComesBelow}
 use Rattle.adjoint_rules.specs.declared.problem.Problem.{Problem}
 use Rattle.adjoint_rules.specs.Problem.{polynomials}
@@ -25,40 +23,22 @@ use Rattle.confluence.proofs.OutsideIdeals.{nonzero_is_outside, nonzero_is_not_b
 use Rattle.confluence.proofs.ShapeLaws.{normal_forms_are_shaped}
 use Rattle.traced_completion.specs.declared.budget.Budget.{Budget}
 use Rattle.ambiguities.specs.declared.waiting.Waiting.{Waiting}
-use Rattle.rule_making.specs.Making.{Recorded}
-use Rattle.traced_completion.specs.Pending.{AreAllPending, ambiguities_of}
-use Rattle.traced_completion.specs.PlainRun.{Setting, RunState, went, closed, stopped, Ends, taken_count, TreatsFirst, TreatsPending, IsRound, IsRunState, setting_of}
+use Rattle.traced_completion.specs.Pending.{AreAllPending}
+use Rattle.traced_completion.specs.PlainRun.{Setting, RunState, closed, stopped, IsRound, IsRunState, setting_of}
 use Rattle.claim_decider.specs.Outcomes.{IsLeft, IsOpen}
-use Rattle.outcome_laws.specs.KeptRuns.{done_after, IsKeptState}
 use Rattle.outcome_laws.proofs.Adding.{nonzero}
 use Rattle.outcome_laws.proofs.RunsKept.{letters_below}
-use Rattle.outcome_laws.proofs.WholeRuns.{runs_are_kept, closed_is_nothing_pending, first_is_least_pending}
-use Rattle.word_orders.proofs.AskedOrders.{asked_rank, asked_cmp-admissible}
-use Rattle.outcome_laws.proofs.ProblemPolynomials.{any_letter, generators_are, claim_is, claim_letters, turns_in_range, all_have_turns}
-
--- runs
-pub open_run : (setting : Setting) (claim : List Term) (n : ℕ) (s : RunState) → IsOpen setting claim n s → IsRunState setting n s
-open_run setting claim zero s opened = opened.1
-open_run setting claim (suc n) s opened = record { before = opened.before; is_before = open_run setting claim n opened.before opened.is_before; round = opened.round }
-
-pub opened_claim : (setting : Setting) (claim : List Term) (n : ℕ) (s : RunState) → IsOpen setting claim n s → 0 < length claim
-opened_claim setting claim zero s opened = opened.0
-opened_claim setting claim (suc n) s opened = opened_claim setting claim n opened.before opened.is_before
+use Rattle.outcome_laws.proofs.ProblemPolynomials.{any_letter, generators_are, claim_is, claim_letters, all_have_turns}
+use Rattle.word_orders.proofs.AskedOrders.{asked_rank}
+use Rattle.outcome_laws.proofs.ProblemStates.{order_laws, state_kept}
+use Rattle.outcome_laws.proofs.RoundEnds.{StopsLater, pairs_spent, gives_up, zero_ends, later_ends}
+use Rattle.outcome_laws.proofs.WholeRuns.{closed_is_nothing_pending, first_is_least_pending}
+use Rattle.claim_decider.proofs.UniqueOutcomes.{open_run}
 
 -- a sorted list with a term isn't zero
 pub some_nonzero : (p : List Term) → IsShaped p → 0 < length p → IsNonzero p
 some_nonzero [] shaped some = absurd (omega (arith, some))
 some_nonzero (t ∷ p) shaped some = nonzero t p shaped
-
--- stops
-pub same_halt : (h k : Halt) → stopped h ≡ stopped k → h ≡ k
-same_halt h k e = cc
-
-pub not_went : (h : Halt) (s : RunState) → stopped h ≡ went s → ⊥
-not_went h s e = cc
-
-pub not_closed : (h : Halt) → stopped h ≡ closed → ⊥
-not_closed h e = cc
 
 -- a place in a run, and none in the work on a claim or on its certificate
 pub record IsInRun (at : Place) : Type 0 where
@@ -69,17 +49,6 @@ round_in_run at number is = record { no_certificate = λ round e. (cc (sym is �
 
 run_in_run : (at : Place) → at ≡ place.Run → IsInRun at
 run_in_run at is = record { no_certificate = λ round e. (cc (sym is ∙ e)) }
-
--- how a round that stopped was given up
-record IsStop (number : ℕ) (least : Option (List ℕ)) (h : Halt) : Type 0 where
-  least_is : h.least ≡ least
-  in_run : IsInRun h.place
-
-given_up : (number : ℕ) (least : Option (List ℕ)) (treated : List Ambiguity) (r : Result Recorded ReduceFault) (h : Halt) → Ends number least treated r (stopped h) → IsStop number least h
-given_up number least treated (Ok r) h ends = absurd (not_went h _ ends)
-given_up number least treated (Err e) h ends =
-    let same = same_halt h _ ends.stops in
-    record { least_is = ap (λ (k : Halt). k.least) same; in_run = round_in_run h.place number (ap (λ (k : Halt). k.place) same) }
 
 -- nothing is pending below the least word that a stopped round names
 pub record StopsBelow (letters : ℕ) (compare : Compare) (s : RunState) (h : Halt) : Type 0 where
@@ -93,10 +62,12 @@ module _ (letters : ℕ) (rank : List ℕ → List ℕ) (setting : Setting) (law
     pub in_run : IsInRun h.place
 
   pub zero_stops : IsRound setting 0 s (stopped h) → NamesNone
-  zero_stops round = let stop = given_up 0 None s.treated round.result h round.ends in record { none = stop.least_is; in_run = stop.in_run }
+  zero_stops round =
+      let stop = zero_ends setting s (stopped h) round in
+      record { none = ap (λ (k : Halt). k.least) stop.is; in_run = round_in_run h.place 0 (ap (λ (k : Halt). k.place) stop.is) }
 
   pub later_stops : (n : ℕ) → IsRound setting (suc n) s (stopped h) → StopsBelow letters setting.compare s h
-  later_stops n round = go round.pending round.all_pending round.treats
+  later_stops n round = go (later_ends setting s (suc n) (stopped h) round)
     where
       below : (w : Waiting) (ws : List Waiting) → AreAllPending setting.compare s.rules s.treated (w ∷ ws) → h.least ≡ Some w.word → IsInRun h.place → StopsBelow letters setting.compare s h
       below w ws all least in_run = record {
@@ -106,25 +77,10 @@ module _ (letters : ℕ) (rank : List ℕ → List ℕ) (setting : Setting) (law
         in_run = in_run;
       }
 
-      by_pairs : (w : Waiting) (ws : List Waiting) → AreAllPending setting.compare s.rules s.treated (w ∷ ws) → (b : Bool) → TreatsFirst setting (suc n) s w.word (w ∷ ws) b (stopped h) → StopsBelow letters setting.compare s h
-      by_pairs w ws all true treats =
-          let same = same_halt h _ treats in
-          below w ws all (ap (λ (k : Halt). k.least) same) (run_in_run h.place (ap (λ (k : Halt). k.place) same))
-      by_pairs w ws all false treats =
-          let stop = given_up (suc n) (Some w.word) (s.treated ++ ambiguities_of (take (taken_count setting.budget s (w ∷ ws)) (w ∷ ws))) treats.result h treats.ends in
-          below w ws all stop.least_is stop.in_run
-
-      go : (ws : List Waiting) → AreAllPending setting.compare s.rules s.treated ws → TreatsPending setting (suc n) s ws (stopped h) → StopsBelow letters setting.compare s h
-      go [] all treats = absurd (not_closed h treats)
-      go (w ∷ ws) all treats = by_pairs w ws all (nat_le setting.budget.pairs (length s.treated)) treats
-
--- round 0 doesn't close
-zero_goes_on : (setting : Setting) (s : RunState) → IsRound setting 0 s closed → ⊥
-zero_goes_on setting s round = go round.result round.ends
-  where
-    go : (r : Result Recorded ReduceFault) → Ends 0 None s.treated r closed → ⊥
-    go (Ok r) ends = cc
-    go (Err e) ends = cc (ends.stops)
+      go : StopsLater setting s (suc n) h → StopsBelow letters setting.compare s h
+      go (pairs_spent w ws all spent is) = below w ws all (ap (λ (k : Halt). k.least) is) (run_in_run h.place (ap (λ (k : Halt). k.place) is))
+      go (gives_up takes stop) =
+          below takes.first takes.others takes.all_pending (ap (λ (k : Halt). k.least) stop.is) (round_in_run h.place (suc n) (ap (λ (k : Halt). k.place) stop.is))
 
 -- the run of a problem
 module _ (problem : Problem) (budget : Budget) where
@@ -143,18 +99,13 @@ module _ (problem : Problem) (budget : Budget) where
   abbrev generators : List (List Term)
   generators = polynomials problem.generators
 
-  pub order_laws : IsAdmissible letters compare rank
-  order_laws = asked_cmp-admissible (letter_count problem.parts.quiver) problem.parts.order
-
-  pub run_kept : (n : ℕ) (s : RunState) → IsRunState setting n s → IsKeptState (quiver_of problem.parts.quiver) any_letter letters setting (done_after setting n) s
-  run_kept n s is = runs_are_kept (quiver_of problem.parts.quiver) any_letter letters rank setting n s order_laws (generators_are problem) (turns_in_range problem) is
-
   module _ (number : ℕ) where
     abbrev claim : List Term
     claim = claim_at problem number
 
     pub claim_reduced : (n : ℕ) (s : RunState) → IsRunState setting n s → (left : State) → normal_form_of compare s.rules claim budget.steps ≡ Ok left → IsReduced letters compare s.rules claim left
-    claim_reduced n s is left ends = normal_forms_are_reduced letters compare rank s.rules claim budget.steps left order_laws (run_kept n s is).kept.are_rules (claim_is problem number).shaped (claim_is problem number).over ends
+    claim_reduced n s is left ends =
+        normal_forms_are_reduced letters compare rank s.rules claim budget.steps left (order_laws problem budget) (state_kept problem budget n s is).kept.are_rules (claim_is problem number).shaped (claim_is problem number).over ends
 
     -- what is left isn't zero
     left_nonzero : (rules : List Rule) (rest : List Term) (left : IsLeft setting rules claim rest) → IsNonzero left.reduced.rest
@@ -163,19 +114,19 @@ module _ (problem : Problem) (budget : Budget) where
         (subst (λ (p : List Term). 0 < length p) (sym left.rest_is) left.nonzero)
 
     pub closed_outside : (n : ℕ) (s : RunState) (rest : List Term) → IsOpen setting claim n s → IsRound setting n s closed → IsLeft setting s.rules claim rest → InRationalIdeal generators claim → ⊥
-    closed_outside zero s rest opened round left inside = zero_goes_on setting s round
+    closed_outside zero s rest opened round left inside = absurd (zero_ends setting s closed round)
     closed_outside (suc n) s rest opened round left inside =
         let run = open_run setting claim (suc n) s opened in
-        nonzero_is_outside letters compare rank generators s.rules s.made setting.in_turn s.treated claim left.reduced order_laws (run_kept (suc n) s run).kept (all_have_turns problem)
+        nonzero_is_outside letters compare rank generators s.rules s.made setting.in_turn s.treated claim left.reduced (order_laws problem budget) (state_kept problem budget (suc n) s run).kept (all_have_turns problem)
         (closed_is_nothing_pending setting n s round) (claim_letters problem number) (claim_reduced (suc n) s run left.reduced left.reduction) (left_nonzero s.rules rest left) inside
 
     -- an open claim does not follow below a word that nothing is pending below
     pub open_not_below : (n : ℕ) (s : RunState) → IsOpen setting claim (suc n) s → (word : List ℕ) → NothingPendingBelow letters compare s.rules s.treated word → ComesBelow letters compare generators word claim → ⊥
     open_not_below n s opened word none_below comes =
         let run = open_run setting claim (suc n) s opened in
-        nonzero_is_not_below letters compare rank generators s.rules s.made setting.in_turn s.treated word claim opened.left.reduced order_laws
+        nonzero_is_not_below letters compare rank generators s.rules s.made setting.in_turn s.treated word claim opened.left.reduced (order_laws problem budget)
         (letters_below (quiver_of problem.parts.quiver) any_letter letters generators (generators_are problem))
-        (run_kept (suc n) s run).kept (all_have_turns problem) none_below (claim_reduced (suc n) s run opened.left.reduced opened.left.reduction)
+        (state_kept problem budget (suc n) s run).kept (all_have_turns problem) none_below (claim_reduced (suc n) s run opened.left.reduced opened.left.reduction)
         (left_nonzero s.rules opened.rest opened.left) comes
 
     -- what a stopped run says of the claim
@@ -185,8 +136,8 @@ module _ (problem : Problem) (budget : Budget) where
 
     pub stop_means : (n : ℕ) (s : RunState) (h : Halt) → IsOpen setting claim n s → IsRound setting n s (stopped h) → StopMeans h
     stop_means zero s h opened round =
-        let stop = zero_stops letters rank setting order_laws s h round in
+        let stop = zero_stops letters rank setting (order_laws problem budget) s h round in
         record { not_below = λ word least comes. (cc (sym stop.none ∙ least)); in_run = stop.in_run }
     stop_means (suc n) s h opened round =
-        let stop = later_stops letters rank setting order_laws s h n round in
+        let stop = later_stops letters rank setting (order_laws problem budget) s h n round in
         record { not_below = λ word least comes. open_not_below n s opened word (stop.none_below word least) comes; in_run = stop.in_run }

@@ -1,11 +1,9 @@
 -- The letters of outcomes and of last rules are letters of the quiver.
-use Rattle.std.proofs.Common.{◌≡◌, ◌<◌, ℕ, List, get_or, Option, Some, None, Ok, refl, sym, subst, arith}
+use Rattle.std.proofs.Common.{◌≡◌, ◌<◌, ℕ, List, Option, Some, None, Ok, refl, sym, subst}
 use Rattle.std.specs.List.{All}
-use Rattle.std.proofs.lemmas.Bool.Decides.{nat_tests}
 use Rattle.std.proofs.lemmas.List.Elements.{All-nil, All-append, All-map, All-pop, All-weaker}
 use Rattle.definitions.specs.Poly.{Term}
 use Rattle.word_core.specs.Letters.{IsOver}
-use Rattle.nc_polynomial.specs.declared.poly.Poly.{Poly}
 use Rattle.traced_rows.specs.declared.certificate.Cofactors.{Cofactors}
 use Rattle.traced_rows.specs.declared.certificate.CertRow.{CertRow}
 use Rattle.traced_rows.specs.declared.evidence.LemmaRow.{LemmaRow}
@@ -21,16 +19,11 @@ use Rattle.rule_reduce.specs.declared.rule.Rule.{Rule}
 use Rattle.rule_reduce.specs.RuleLists.{IsRule}
 use Rattle.quiver.specs.Declarations.{Declaration, letter_count}
 use Rattle.adjoint_rules.specs.declared.problem.Problem.{Problem}
-use Rattle.adjoint_rules.specs.Problem.{polynomials, HasLettersInPlay, IsInPlay, numbers}
 use Rattle.adjoint_rules.specs.Claims.{claim_at}
 use Rattle.certificate_text.specs.Evidence.{IsRowOver, IsLemmaRowOver}
 use Rattle.certificate_text.specs.Written.{IsLemmaOver, IsEvidenceOver}
 use Rattle.traced_completion.specs.declared.budget.Budget.{Budget}
-use Rattle.traced_completion.specs.Reductions.{IsReducible}
-use Rattle.traced_completion.specs.RunLaws.{HasWords}
 use Rattle.traced_completion.specs.PlainRun.{Setting, RunState, IsRunState, setting_of}
-use Rattle.traced_completion.proofs.ReducibleGenerators.{generators_reducible}
-use Rattle.traced_completion.proofs.RunStates.{states_rules}
 use Rattle.claim_decider.specs.declared.outcome.Outcome.{Outcome}
 use Rattle.claim_decider.specs.Outcomes.{evidence_of_zero, record_of, certificate_of}
 use Rattle.quiver.specs.Over.{IsPolyOver}
@@ -38,9 +31,11 @@ use Rattle.report_text.specs.Report.{IsLeastOver}
 use Rattle.outcome_laws.specs.OutcomeLetters.{IsOutcomeOver, OutcomesHaveLetters, LastRulesHaveLetters}
 use Rattle.outcome_laws.proofs.EvidenceWords.{expanded_words, gathered_words}
 use Rattle.outcome_laws.proofs.OutcomeWays.{Way, no_terms, expanded, gathered, left_over, given_up, with_run, way, IsProvedBy}
-use Rattle.ambiguities.proofs.OverLetters.{AreOver, IsOverRow, reduced_over}
+use Rattle.ambiguities.proofs.OverLetters.{IsOverRow, reduced_over}
 use Rattle.outcome_laws.proofs.OverRuns.{records_over, least_over}
-use Rattle.outcome_laws.proofs.Results.{generator_all}
+use Rattle.outcome_laws.proofs.ProblemPolynomials.{claim_is}
+use Rattle.outcome_laws.proofs.ProblemStates.{state_kept}
+use Rattle.claim_decider.proofs.UniqueOutcomes.{open_run}
 
 -- the problem
 module _ (problem : Problem) (budget : Budget) where
@@ -53,27 +48,8 @@ module _ (problem : Problem) (budget : Budget) where
   abbrev setting_in : Setting
   setting_in = setting_of problem budget
 
-  pub generators_have_words : All (HasWords letters_in) (polynomials problem.generators)
-  generators_have_words =
-      All-map (HasWords letters_in) (λ (p : Poly). p.terms) problem.generators
-      (All-weaker (IsReducible letters_in) (λ p. HasWords letters_in p.terms) (λ p is. record { nonempty = is.nonempty; over = is.over }) problem.generators (generators_reducible problem letters_in (omega arith)))
-
-  pub rules_of : (rounds : ℕ) (s : RunState) → IsRunState setting_in rounds s → All (IsRule letters_in setting_in.compare) s.rules
-  rules_of rounds s is = states_rules letters_in setting_in rounds s generators_have_words is
-
-  -- claims
-  letter_below : (a : ℕ) → IsInPlay ds problem.parts.starred (numbers problem.parts.marked) a → a < letters_in
-  letter_below a in_play = grind (arith, nat_tests)
-
-  poly_over : (p : Poly) → HasLettersInPlay ds problem.parts.starred (numbers problem.parts.marked) p → AreOver letters_in p.terms
-  poly_over p each =
-      All-weaker (λ (t : Term). All (IsInPlay ds problem.parts.starred (numbers problem.parts.marked)) t.1) (λ (t : Term). IsOver letters_in t.1)
-      (λ t word. All-weaker (IsInPlay ds problem.parts.starred (numbers problem.parts.marked)) (λ a. a < letters_in) letter_below t.1 word) p.terms each
-
-  pub claim_over : (number : ℕ) → AreOver letters_in (claim_at problem number)
-  claim_over =
-      generator_all (AreOver letters_in) (polynomials problem.parts.claims)
-      (All-map (AreOver letters_in) (λ (p : Poly). p.terms) problem.parts.claims (λ k p inside. poly_over (get_or problem.parts.claims k p) (problem.posed.claim_letters k p inside))) (All-nil (λ (t : Term). IsOver letters_in t.1))
+  rules_of : (rounds : ℕ) (s : RunState) → IsRunState setting_in rounds s → All (IsRule letters_in setting_in.compare) s.rules
+  rules_of rounds s is = (state_kept problem budget rounds s is).kept.are_rules
 
   -- outcomes
   module _ (form : Format) (number : ℕ) where
@@ -86,13 +62,14 @@ module _ (problem : Problem) (budget : Budget) where
 
     -- the record of the claim
     target_over : (by : IsProvedBy setting_in claim) → All (IsOverRow letters_in) by.reduced.rows
-    target_over by = (reduced_over letters_in setting_in.compare by.state.rules (rules_of by.rounds by.state by.run) claim setting_in.budget.steps by.reduced (claim_over number) by.reduction).1
+    target_over by =
+        (reduced_over letters_in setting_in.compare by.state.rules (rules_of by.rounds by.state by.run) claim setting_in.budget.steps by.reduced (claim_is problem number).over by.reduction).1
 
     expanded_over : (by : IsProvedBy setting_in claim) (c : Cofactors) → expansion_of by.state.made (record_of by.reduced) ≡ Ok c → IsEvidenceOver ds (certificate_of number c)
     expanded_over by c ends =
         All-weaker (λ (r : CertRow). IsOver letters_in r.left × IsOver letters_in r.right) (IsRowOver ds) (λ r both. record { left = both.0; right = both.1 }) c.rows
         (expanded_words (IsOver letters_in) (All-nil (λ a. a < letters_in)) (λ u v left right. All-append (λ a. a < letters_in) u v left right) by.state.made (record_of by.reduced) c
-        (records_over letters_in setting_in generators_have_words by.rounds by.state by.run) (target_over by) ends)
+        (records_over problem budget by.rounds by.state by.run) (target_over by) ends)
 
     lemma_over : (l : Lemma) → All (λ (r : LemmaRow). IsOver letters_in r.left × IsOver letters_in r.right) l.rows → IsLemmaOver ds l
     lemma_over l each =
@@ -100,7 +77,7 @@ module _ (problem : Problem) (budget : Budget) where
 
     gathered_over : (by : IsProvedBy setting_in claim) (c : LemmaCertificate) → gathered_of number by.state.made (record_of by.reduced) ≡ Ok c → IsEvidenceOver ds (evidence.Lemmas c)
     gathered_over by c ends =
-        let words = gathered_words (IsOver letters_in) number by.state.made (record_of by.reduced) c (records_over letters_in setting_in generators_have_words by.rounds by.state by.run) (target_over by) ends in
+        let words = gathered_words (IsOver letters_in) number by.state.made (record_of by.reduced) c (records_over problem budget by.rounds by.state by.run) (target_over by) ends in
         let each = All-weaker (λ (l : Lemma). All (λ (r : LemmaRow). IsOver letters_in r.left × IsOver letters_in r.right) l.rows) (IsLemmaOver ds) lemma_over (parts_of c) words in
         All-pop (IsLemmaOver ds) (parts_of c) c.lemmas (Some c.goal) refl each
 
@@ -109,14 +86,15 @@ module _ (problem : Problem) (budget : Budget) where
     least_is_over (Some word) each = each word refl
 
     outcome_over : (o : Outcome) → Way setting_in form number claim o → IsOutcomeOver ds o
-    outcome_over o (no_terms is) = subst (IsOutcomeOver ds) (sym is) (zero_over form)
+    outcome_over o (no_terms none is) = subst (IsOutcomeOver ds) (sym is) (zero_over form)
     outcome_over o (expanded by c ends is) = subst (IsOutcomeOver ds) (sym is) (expanded_over by c ends)
     outcome_over o (gathered by c ends is) = subst (IsOutcomeOver ds) (sym is) (gathered_over by c ends)
-    outcome_over o (left_over rounds s run rest left is) =
-        let over = (reduced_over letters_in setting_in.compare s.rules (rules_of rounds s run) claim setting_in.budget.steps left.reduced (claim_over number) left.reduction).0 in
+    outcome_over o (left_over rounds s is_open round rest left is) =
+        let over = (reduced_over letters_in setting_in.compare s.rules (rules_of rounds s (open_run setting_in claim rounds s is_open)) claim setting_in.budget.steps left.reduced (claim_is problem number).over left.reduction).0 in
         subst (IsOutcomeOver ds) (sym is) (subst (λ (p : List Term). All (λ t. IsOver letters_in t.1) p) left.rest_is over)
-    outcome_over o (given_up halt none is) = subst (IsOutcomeOver ds) (sym is) (subst (IsLeastOver ds) (sym none) tt)
-    outcome_over o (with_run rounds s halt run round is) = subst (IsOutcomeOver ds) (sym is) (least_is_over halt.least (least_over letters_in setting_in generators_have_words rounds s halt run round))
+    outcome_over o (given_up at c stops is) = subst (IsOutcomeOver ds) (sym is) tt
+    outcome_over o (with_run rounds s halt is_open round is) =
+        subst (IsOutcomeOver ds) (sym is) (least_is_over halt.least (least_over problem budget rounds s halt (open_run setting_in claim rounds s is_open) round))
 
 -- the laws
 pub outcomes_have_letters : OutcomesHaveLetters

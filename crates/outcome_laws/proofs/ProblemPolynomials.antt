@@ -1,8 +1,8 @@
 -- The generators and the claims of a problem are sorted and typed, and their letters are its letters.
-use Rattle.std.proofs.Common.{◌≡◌, ◌≢◌, ◌≤◌, ◌<◌, ℕ, pos, Bool, true, IsTrue, List, [], ◌∷◌, length, refl, sym, subst, arith}
+use Rattle.std.proofs.Common.{◌≡◌, ◌≢◌, ◌≤◌, ◌<◌, ℕ, pos, Bool, true, IsTrue, List, [], ◌∷◌, length, refl, sym, subst, arith, get_or}
 use Rattle.std.specs.List.{All, AllByRecursion, list_all}
 use Rattle.std.proofs.lemmas.List.{length-map}
-use Rattle.std.proofs.lemmas.List.Elements.{All-nil, All-cons}
+use Rattle.std.proofs.lemmas.List.Elements.{All-nil, All-cons, All-map}
 use Rattle.coef_int.specs.Range.{IsCoefficient}
 use Rattle.definitions.specs.Poly.{Term}
 use Rattle.definitions.specs.Combination.{generator_at}
@@ -11,7 +11,6 @@ use Rattle.definitions.specs.Soundness.{HasSignature}
 use Rattle.definitions.proofs.Paths.{step}
 use Rattle.word_core.specs.Letters.{IsOver}
 use Rattle.nc_polynomial.specs.declared.poly.Poly.{Poly}
-use Rattle.nc_polynomial.specs.Shape.{IsShaped}
 use Rattle.nc_polynomial.proofs.Distinct.{distinct-descending, words_listed}
 use Rattle.nc_polynomial.proofs.Shapes.{IsDescending-from_recursion, recursion_from_IsDescending}
 use Rattle.quiver.specs.Declarations.{letter_count, quiver_of}
@@ -29,6 +28,23 @@ use Rattle.rule_reduce.proofs.WordsKept.{words_with_coefficients}
 use Rattle.outcome_laws.specs.KeptRuns.{IsGenerator}
 use Rattle.outcome_laws.proofs.Results.{generator_all}
 use Rattle.outcome_laws.proofs.Turns.{each_generator_has_its_turn}
+use Rattle.nc_polynomial.specs.Limits.{word_limit}
+use Rattle.nc_polynomial.specs.Shape.{IsCanonical}
+
+-- polynomials by their numbers
+zero_is_canonical : IsCanonical []
+zero_is_canonical = record {
+  shaped = record {
+    descending = IsDescending-from_recursion [] tt;
+    nonzero = All-nil (λ (t : Term). t.0 ≢ pos 0);
+    in_range = All-nil (λ (t : Term). IsCoefficient t.0);
+  };
+  short = All-nil (λ (t : Term). length t.1 ≤ word_limit);
+  few = omega arith;
+}
+
+pub canonical_at : (ps : List Poly) (n : ℕ) → IsCanonical (generator_at (polynomials ps) n)
+canonical_at ps = generator_all IsCanonical (polynomials ps) (All-map IsCanonical (λ (p : Poly). p.terms) ps (λ k p inside. (get_or ps k p).canonical)) zero_is_canonical
 
 -- paths
 leads_over : (q : Quiver) (u v : ℕ) (w : List ℕ) → leads q u v w ≡ true → IsOver (letters q) w
@@ -63,11 +79,7 @@ module _ (q : Quiver) (n : ℕ) (same : letters q ≡ n) where
 
   zero_is : IsGenerator q any_letter n []
   zero_is = record {
-    shaped = record {
-      descending = IsDescending-from_recursion [] tt;
-      nonzero = All-nil (λ (t : Term). t.0 ≢ pos 0);
-      in_range = All-nil (λ (t : Term). IsCoefficient t.0);
-    };
+    shaped = zero_is_canonical.shaped;
     over = All-nil (λ (t : Term). IsOver n t.1);
     typed = record { source = 0; target = 0; typed = record { at = λ w some. absurd (some refl) }; in_play = record { at = λ w some. absurd (some refl) } };
   }
@@ -83,8 +95,9 @@ module _ (problem : Problem) where
       all_typed (quiver_of problem.parts.quiver) (letter_count problem.parts.quiver) (letters-quiver_of problem.parts.quiver) problem.generators
       (generators_have_signatures problem.parts problem.posed problem.generators problem.closed)
 
-  pub generators_shaped : (n : ℕ) → IsShaped (generator_at (polynomials problem.generators) n)
-  generators_shaped n = (one_typed (quiver_of problem.parts.quiver) (letter_count problem.parts.quiver) (letters-quiver_of problem.parts.quiver) (polynomials problem.generators) generators_are n).shaped
+  pub generator_is : (n : ℕ) → IsGenerator (quiver_of problem.parts.quiver) any_letter (letter_count problem.parts.quiver) (generator_at (polynomials problem.generators) n)
+  generator_is =
+      one_typed (quiver_of problem.parts.quiver) (letter_count problem.parts.quiver) (letters-quiver_of problem.parts.quiver) (polynomials problem.generators) generators_are
 
   pub claim_is : (number : ℕ) → IsGenerator (quiver_of problem.parts.quiver) any_letter (letter_count problem.parts.quiver) (claim_at problem number)
   claim_is number =

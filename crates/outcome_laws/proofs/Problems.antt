@@ -1,18 +1,11 @@
 -- Rounds, claims and problems have outcomes.
-use Rattle.std.proofs.Common.{◌≡◌, ◌≢◌, ◌⊎◌, inl, inr, ◌<◌, ◌≤◌, ℕ, zero, suc, pos, List, [], ◌∷◌, length, get_or, refl, sym, subst, arith}
+use Rattle.std.proofs.Common.{◌≡◌, ◌⊎◌, inl, inr, ◌<◌, ◌≤◌, ℕ, List, [], ◌∷◌, refl, arith}
 use Rattle.std.specs.List.{All}
 use Rattle.std.proofs.lemmas.Bool.{cases_lt}
 use Rattle.std.proofs.lemmas.List.Elements.{All-nil, All-cons, All-weaker}
-use Rattle.coef_int.specs.Range.{IsCoefficient}
-use Rattle.definitions.specs.Poly.{Term}
-use Rattle.definitions.specs.Combination.{generator_at}
 use Rattle.word_orders.proofs.AskedOrders.{asked_rank, asked_cmp-admissible}
-use Rattle.nc_polynomial.specs.Shape.{IsCanonical}
-use Rattle.nc_polynomial.specs.declared.poly.Poly.{Poly}
-use Rattle.nc_polynomial.proofs.Shapes.{IsDescending-from_recursion}
 use Rattle.traced_rows.specs.declared.evidence.Format.{Format}
 use Rattle.adjoint_rules.specs.declared.problem.Problem.{Problem}
-use Rattle.adjoint_rules.specs.Problem.{polynomials}
 use Rattle.adjoint_rules.specs.Claims.{claim_at, claim_numbers}
 use Rattle.traced_completion.specs.declared.budget.Budget.{Budget}
 use Rattle.traced_completion.specs.PlainRun.{Setting, RunState, start, setting_of, IsRunState}
@@ -20,32 +13,10 @@ use Rattle.ambiguities.proofs.Ascending.{contains-first, contains-rest}
 use Rattle.traced_completion.proofs.RunStates.{states_bounded}
 use Rattle.claim_decider.specs.declared.outcome.Outcome.{Outcome}
 use Rattle.claim_decider.specs.Decided.{AreOutcomesOf, GetsOutcomeBy, OneGetsOutcomeAt, polynomials_in}
-use Rattle.nc_polynomial.specs.Limits.{word_limit}
 use Rattle.outcome_laws.specs.Existence.{EachStateHasARound, EachClaimHasAnOutcome, EachProblemHasOutcomes}
 use Rattle.outcome_laws.proofs.Rounds.{has_round}
 use Rattle.outcome_laws.proofs.Claims.{Got, got, run_of}
-
--- polynomials
-zero_is_canonical : IsCanonical []
-zero_is_canonical = record {
-  shaped = record {
-    descending = IsDescending-from_recursion [] tt;
-    nonzero = All-nil (λ (t : Term). t.0 ≢ pos 0);
-    in_range = All-nil (λ (t : Term). IsCoefficient t.0);
-  };
-  short = All-nil (λ (t : Term). length t.1 ≤ word_limit);
-  few = omega arith;
-}
-
-canonical_at : (ps : List Poly) (n : ℕ) → IsCanonical (generator_at (polynomials ps) n)
-canonical_at ps zero = zero_is_canonical
-canonical_at [] (suc n) = subst IsCanonical (sym (past n)) zero_is_canonical
-  where
-    past : (n : ℕ) → get_or {A = List Term} [] n [] ≡ []
-    past zero = refl
-    past (suc n) = refl
-canonical_at (p ∷ ps) (suc zero) = p.canonical
-canonical_at (p ∷ ps) (suc (suc n)) = canonical_at ps (suc n)
+use Rattle.outcome_laws.proofs.ProblemPolynomials.{canonical_at}
 
 pub each_state_has_a_round : EachStateHasARound
 each_state_has_a_round problem budget number s =

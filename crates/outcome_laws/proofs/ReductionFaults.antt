@@ -1,5 +1,5 @@
 -- Why a reduction stops, step by step, and what it leaves where it doesn't.
-use Rattle.std.proofs.Common.{◌≡◌, ℕ, zero, suc, Bool, true, false, cond, ◌||◌, List, [], ◌∷◌, length, nat_lt, Option, Some, None, Result, Ok, Err, refl, sym, ap, ◌∙◌, subst, arith}
+use Rattle.std.proofs.Common.{◌≡◌, ℕ, suc, Bool, true, false, cond, ◌||◌, List, [], ◌∷◌, length, nat_lt, Option, Some, None, Result, Ok, Err, refl, ap, ◌∙◌, subst, arith}
 use Rattle.std.proofs.lemmas.Bool.Decides.{nat_tests}
 use Rattle.coef_int.specs.declared.Overflow.{Overflow}
 use Rattle.coef_int.specs.Range.{IsCoefficient}
@@ -18,12 +18,13 @@ use Rattle.rule_reduce.specs.declared.fault.ReduceFault.{ReduceFault}
 use Rattle.rule_reduce.specs.declared.fault.ReduceFault.TheVariants as halt
 use Rattle.rule_reduce.specs.RuleLists.{rule_at, entries_of}
 use Rattle.rule_reduce.specs.Choices.{choice_of, IsChoice}
-use Rattle.rule_reduce.specs.Steps.{Move, moved, move_operations, if_sized, move_result, move_of, step_by, step_result}
-use Rattle.rule_reduce.specs.NormalForms.{halt_of, then_next, at_limit, one_step, reduction, start_of, normal_form_of}
+use Rattle.rule_reduce.specs.Steps.{Move, moved, move_operations, if_sized, move_result, move_of}
+use Rattle.rule_reduce.specs.NormalForms.{halt_of, reduction, start_of, normal_form_of}
 use Rattle.rule_reduce.proofs.Chosen.{choices_are_exact}
 use Rattle.rule_reduce.proofs.Irreducible.{irreducible_where_none}
 use Rattle.outcome_laws.specs.ReductionSteps.{Reduced, unreduced, IsStep, HasOneMore, IsOfReduction, IsTooLarge, GetsTooLarge, Leaves}
 use Rattle.outcome_laws.proofs.Listed.{failing}
+use Rattle.outcome_laws.proofs.ReductionWalks.{move_goes, reduction_ends}
 use Rattle.outcome_laws.proofs.StepMade.{reduced_of, next_step, step_made, of_step}
 
 -- a polynomial that is too large
@@ -70,10 +71,17 @@ module _ (letters : ℕ) (compare : Compare) (rank : List ℕ → List ℕ) (law
   is_choice : (s : State) → IsShaped s.rest → (c : Choice) → choice_of compare (entries_of rules) s.rest ≡ Some c → IsChoice compare rules s.rest c
   is_choice s shaped c chosen = (choices_are_exact letters compare rank rules s.rest c laws shaped.descending).0 chosen
 
+  -- how it ends
+  abbrev Ends : ℕ → Reduced → Result State ReduceFault → Type 0
+  Ends n s (Ok t) = Leaves compare rules n s (reduced_of t)
+  Ends n s (Err e) = Stops compare rules limit n s e
+
   -- one more step before
-  one_earlier : (n : ℕ) (s t : Reduced) (e : ReduceFault) → IsStep compare rules s t → Stops compare rules limit n t e → Stops compare rules limit (suc n) s e
-  one_earlier n s t e step (steps_spent is more) = steps_spent is (record { now = more.now; goes = record { after = t; step = step; later = more.goes }; next = more.next })
-  one_earlier n s t e step (overflow o is fails of) =
+  one_earlier : (n : ℕ) (s t : Reduced) (r : Result State ReduceFault) → IsStep compare rules s t → Ends n t r → Ends (suc n) s r
+  one_earlier n s t (Ok u) step rest =
+      record { made = suc rest.made; few = omega (arith, rest.few); goes = record { after = t; step = step; later = rest.goes }; irreducible = rest.irreducible }
+  one_earlier n s t (Err e) step (steps_spent is more) = steps_spent is (record { now = more.now; goes = record { after = t; step = step; later = more.goes }; next = more.next })
+  one_earlier n s t (Err e) step (overflow o is fails of) =
       overflow o is fails
       (record {
         earlier = suc of.earlier;
@@ -81,7 +89,7 @@ module _ (letters : ℕ) (compare : Compare) (rank : List ℕ → List ℕ) (law
         reaches = record { now = of.reaches.now; goes = record { after = t; step = step; later = of.reaches.goes }; next = of.reaches.next };
         of_step = of.of_step;
       })
-  one_earlier n s t e step (size which is gets) =
+  one_earlier n s t (Err e) step (size which is gets) =
       size which is
       (record { earlier = suc gets.earlier; few = omega (arith, gets.few); now = gets.now; goes = record { after = t; step = step; later = gets.goes }; large = gets.large })
 
@@ -111,91 +119,30 @@ module _ (letters : ℕ) (compare : Compare) (rank : List ℕ → List ℕ) (law
         })
 
     went : (t : State) → move_result (move_of c g) s ≡ Ok t → IsStep compare rules (reduced_of s) (reduced_of t) × IsShaped t.rest
-    went t ends = go (first_overflow (move_operations (move_of c g) s)) refl ends
-      where
-        no_error : (d : PolyFault) → ◌≡◌ {A = Result State PolyFault} (Err d) (Ok t) → ⊥
-        no_error d k = cc
+    went t ends =
+        let goes = move_goes (move_of c g) s t ends in
+        let step = step_made compare rules s shaped c is g numbered goes.none in
+        subst (λ u. IsStep compare rules (reduced_of s) (reduced_of u) × IsShaped u.rest) goes.is (step, step.shaped)
 
-        same_state : ◌≡◌ {A = Result State PolyFault} (Ok (moved (move_of c g) s)) (Ok t) → moved (move_of c g) s ≡ t
-        same_state k = cc
-
-        sizes : first_overflow (move_operations (move_of c g) s) ≡ None → (r : Result (List Term) PolyFault) → if_sized r (moved (move_of c g) s) ≡ Ok t → IsStep compare rules (reduced_of s) (reduced_of t) × IsShaped t.rest
-        sizes none (Ok p) k =
-            let step = step_made compare rules s shaped c is g numbered none in
-            subst (λ u. IsStep compare rules (reduced_of s) (reduced_of u) × IsShaped u.rest) (same_state k) (step, step.shaped)
-        sizes none (Err d) k = absurd (no_error d k)
-
-        go : (o : Option Overflow) → first_overflow (move_operations (move_of c g) s) ≡ o → unless_overflow o (if_sized (sized (moved (move_of c g) s).rest) (moved (move_of c g) s)) ≡ Ok t
-            → IsStep compare rules (reduced_of s) (reduced_of t) × IsShaped t.rest
-        go None none k = sizes none (sized (moved (move_of c g) s).rest) k
-        go (Some o) first k = absurd (no_error (fault.Overflow o) k)
-
-  none_some : (g : Rule) → ◌≡◌ {A = Option Rule} None (Some g) → ⊥
-  none_some g k = cc
-
-  -- a step by its result
-  by_result : (n : ℕ) (s : State) → IsShaped s.rest → (c : Choice) → choice_of compare (entries_of rules) s.rest ≡ Some c → (h : ReduceFault)
-      → ((t : State) → IsShaped t.rest → reduction limit compare rules n t ≡ Err h → Stops compare rules limit n (reduced_of t) h)
-      → (r : Result State PolyFault) → step_result rules c s ≡ r → then_next r (reduction limit compare rules n) ≡ Err h → Stops compare rules limit (suc n) (reduced_of s) h
-  by_result n s shaped c chosen h later (Ok t) ends k =
+  ends_by : (n : ℕ) (s : State) → IsShaped s.rest → Ends n (reduced_of s) (reduction limit compare rules n s)
+  ends_by =
+      reduction_ends compare rules limit (λ n s r. IsShaped s.rest → Ends n (reduced_of s) r)
+      (λ n s none shaped. record { made = 0; few = omega arith; goes = refl; irreducible = irreducible_where_none compare rules s.rest none })
+      (λ s c chosen shaped.
       let is = is_choice s shaped c chosen in
-      let step = went s shaped c chosen is.rule is.numbered t (sym (ap (λ o. step_by o c s) is.numbered) ∙ ends) in
-      one_earlier n (reduced_of s) (reduced_of t) h step.0 (later t step.1 k)
-  by_result n s shaped c chosen h later (Err e) ends k =
-      let is = is_choice s shaped c chosen in
-      stops_at s shaped c chosen is.rule is.numbered n e h (cc) (move_stops (move_of c is.rule) s e (sym (ap (λ o. step_by o c s) is.numbered) ∙ ends))
-
-  stopped : (n : ℕ) (s : State) (e : ReduceFault) → IsShaped s.rest → reduction limit compare rules n s ≡ Err e → Stops compare rules limit n (reduced_of s) e
-  stopped zero s e shaped ends = go (choice_of compare (entries_of rules) s.rest) refl ends
-    where
-      go : (o : Option Choice) → choice_of compare (entries_of rules) s.rest ≡ o → at_limit limit o s ≡ Err e → Stops compare rules limit 0 (reduced_of s) e
-      go None none k = absurd (cc)
-      go (Some c) chosen k =
-          let is = is_choice s shaped c chosen in
-          steps_spent (cc) (record { now = reduced_of s; goes = refl; next = next_step compare rules s shaped c is is.rule is.numbered })
-  stopped (suc n) s e shaped ends = go (choice_of compare (entries_of rules) s.rest) refl ends (λ t. stopped n t e)
-    where
-      go : (o : Option Choice) → choice_of compare (entries_of rules) s.rest ≡ o → one_step rules o s (reduction limit compare rules n) ≡ Err e
-          → ((t : State) → IsShaped t.rest → reduction limit compare rules n t ≡ Err e → Stops compare rules limit n (reduced_of t) e)
-          → Stops compare rules limit (suc n) (reduced_of s) e
-      go None none k later = absurd (cc)
-      go (Some c) chosen k later = by_result n s shaped c chosen e later (step_result rules c s) refl k
-
-  same_value : (s t : State) → ◌≡◌ {A = Result State ReduceFault} (Ok s) (Ok t) → s ≡ t
-  same_value s t k = cc
-
-  ended : (s t : State) → choice_of compare (entries_of rules) s.rest ≡ None → ◌≡◌ {A = Result State ReduceFault} (Ok s) (Ok t) → (n : ℕ) → Leaves compare rules n (reduced_of s) (reduced_of t)
-  ended s t none k n =
-      subst (λ u. Leaves compare rules n (reduced_of s) (reduced_of u)) (same_value s t k)
-      (record { made = 0; few = omega arith; goes = refl; irreducible = irreducible_where_none compare rules s.rest none })
-
-  finished : (n : ℕ) (s t : State) → IsShaped s.rest → reduction limit compare rules n s ≡ Ok t → Leaves compare rules n (reduced_of s) (reduced_of t)
-  finished zero s t shaped ends = go (choice_of compare (entries_of rules) s.rest) refl ends
-    where
-      go : (o : Option Choice) → choice_of compare (entries_of rules) s.rest ≡ o → at_limit limit o s ≡ Ok t → Leaves compare rules 0 (reduced_of s) (reduced_of t)
-      go None none k = ended s t none k 0
-      go (Some c) chosen k = absurd (cc)
-  finished (suc n) s t shaped ends = go (choice_of compare (entries_of rules) s.rest) refl ends (λ u. finished n u t)
-    where
-      go : (o : Option Choice) → choice_of compare (entries_of rules) s.rest ≡ o → one_step rules o s (reduction limit compare rules n) ≡ Ok t
-          → ((u : State) → IsShaped u.rest → reduction limit compare rules n u ≡ Ok t → Leaves compare rules n (reduced_of u) (reduced_of t))
-          → Leaves compare rules (suc n) (reduced_of s) (reduced_of t)
-      go None none k later = ended s t none k (suc n)
-      go (Some c) chosen k later = by_step (step_result rules c s) refl k
-        where
-          by_step : (r : Result State PolyFault) → step_result rules c s ≡ r → then_next r (reduction limit compare rules n) ≡ Ok t → Leaves compare rules (suc n) (reduced_of s) (reduced_of t)
-          by_step (Err e) made j = absurd (cc)
-          by_step (Ok u) made j =
-              let is = is_choice s shaped c chosen in
-              let step = went s shaped c chosen is.rule is.numbered u (sym (ap (λ o. step_by o c s) is.numbered) ∙ made) in
-              let rest = later u step.1 j in
-              record { made = suc rest.made; few = omega (arith, rest.few); goes = record { after = reduced_of u; step = step.0; later = rest.goes }; irreducible = rest.irreducible }
+      steps_spent refl (record { now = reduced_of s; goes = refl; next = next_step compare rules s shaped c is is.rule is.numbered }))
+      (λ n s c g e chosen numbered fails shaped. stops_at s shaped c chosen g numbered n e (halt_of e) refl (move_stops (move_of c g) s e fails))
+      (λ n s t c g r chosen numbered ends later shaped.
+      let step = went s shaped c chosen g numbered t ends in
+      one_earlier n (reduced_of s) (reduced_of t) r step.0 (later step.1))
 
 -- the normal form of a polynomial
 pub normal_form_stops : (letters : ℕ) (compare : Compare) (rank : List ℕ → List ℕ) (rules : List Rule) (p : List Term) (steps : ℕ) (e : ReduceFault) → IsAdmissible letters compare rank → IsShaped p
     → normal_form_of compare rules p steps ≡ Err e → Stops compare rules steps steps (unreduced p) e
-normal_form_stops letters compare rank rules p steps e laws shaped ends = stopped letters compare rank laws rules steps steps (start_of p) e shaped ends
+normal_form_stops letters compare rank rules p steps e laws shaped ends =
+    subst (Ends letters compare rank laws rules steps steps (unreduced p)) ends (ends_by letters compare rank laws rules steps steps (start_of p) shaped)
 
 pub normal_form_leaves : (letters : ℕ) (compare : Compare) (rank : List ℕ → List ℕ) (rules : List Rule) (p : List Term) (steps : ℕ) (s : State) → IsAdmissible letters compare rank → IsShaped p
     → normal_form_of compare rules p steps ≡ Ok s → Leaves compare rules steps (unreduced p) (reduced_of s)
-normal_form_leaves letters compare rank rules p steps s laws shaped ends = finished letters compare rank laws rules steps steps (start_of p) s shaped ends
+normal_form_leaves letters compare rank rules p steps s laws shaped ends =
+    subst (Ends letters compare rank laws rules steps steps (unreduced p)) ends (ends_by letters compare rank laws rules steps steps (start_of p) shaped)

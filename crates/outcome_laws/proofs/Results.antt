@@ -1,5 +1,5 @@
--- Results that are values, and operations of which none overflows.
-use Rattle.std.proofs.Common.{◌≡◌, ℕ, zero, suc, List, [], ◌∷◌, ◌++◌, Bool, true, false, cond, Some, None, refl, ◌∙◌, arith}
+-- Results that are values or faults, and operations of which none overflows.
+use Rattle.std.proofs.Common.{◌≡◌, ◌<◌, ℕ, zero, suc, List, [], ◌∷◌, ◌++◌, length, Bool, true, false, cond, Option, Some, None, Result, Ok, Err, refl, ap, ◌∙◌, arith}
 use Rattle.std.specs.List.{All}
 use Rattle.std.proofs.lemmas.List.Elements.{All-head, All-tail}
 use Rattle.std.proofs.lemmas.Bool.Decides.{nat_tests}
@@ -8,7 +8,53 @@ use Rattle.definitions.specs.Combination.{generator_at}
 use Rattle.coef_int.specs.declared.Overflow.{Overflow}
 use Rattle.coef_int.specs.Range.{IsCoefficient, is_coefficient}
 use Rattle.coef_int.specs.Operations.{exact_value, first_overflow}
+use Rattle.nc_polynomial.specs.declared.fault.PolyFault.{PolyFault}
 use Rattle.nc_polynomial.proofs.Chains.{first-fits}
+use Rattle.rule_reduce.specs.declared.state.State.{State}
+use Rattle.rule_reduce.specs.declared.fault.ReduceFault.{ReduceFault}
+use Rattle.rule_reduce.specs.declared.fault.ReduceFault.TheVariants as fault
+use Rattle.rule_reduce.specs.NormalForms.{halt_of}
+use Rattle.rule_making.specs.Making.{Rest, rest_with}
+use Rattle.traced_completion.specs.Results.{and_then, halted, unless_overflow}
+use Rattle.traced_completion.specs.Works.{First, rows_operations, second_rows, second_rest}
+
+module _ {A E : Type 0} where
+  pub no_value : (e : E) (x : A) → ◌≡◌ {A = Result A E} (Err e) (Ok x) → ⊥
+  no_value e x is = cc
+
+  pub same_value : (x y : A) → ◌≡◌ {A = Result A E} (Ok x) (Ok y) → x ≡ y
+  same_value x y is = cc
+
+-- what a result was that went on
+pub record WentOn {A B : Type 0} (r : Result A ReduceFault) (next : A → Result B ReduceFault) (y : B) : Type 0 where
+  pub value : A
+  pub given : r ≡ Ok value
+  pub rest : next value ≡ Ok y
+
+pub went_on : {A B : Type 0} (r : Result A ReduceFault) (next : A → Result B ReduceFault) (y : B) → and_then r next ≡ Ok y → WentOn r next y
+went_on (Ok x) next y is = record { value = x; given = refl; rest = is }
+went_on (Err e) next y is = absurd (no_value e y is)
+
+-- what ends well after it has no fault
+pub failed_first : {A B : Type 0} (r : Result A ReduceFault) (f : A → B) (e : ReduceFault) → and_then r (λ x. Ok (f x)) ≡ Err e → r ≡ Err e
+failed_first (Ok x) f e is = absurd (cc)
+failed_first {A} {B} (Err d) f e is = ap Err (cc)
+
+-- an S-polynomial that is no fault
+pub halted_value : (r : Result (List Term) PolyFault) (p : List Term) → halted r ≡ Ok p → r ≡ Ok p
+halted_value (Ok q) p is = ap Ok (same_value q p is)
+halted_value (Err e) p is = absurd (no_value (halt_of e) p is)
+
+-- What the second reduction leaves, with its rows. Where it isn't zero, no product of them overflows.
+pub second_value : (f : First) (s : State) (p : List Term) (rest : Option Rest) → second_rest f s p ≡ Ok rest
+    → (rest_with p (second_rows f s) ≡ rest) × (0 < length p → first_overflow (rows_operations f s) ≡ None)
+second_value f s [] rest is = (same_value None rest is, λ some. absurd (omega (arith, some)))
+second_value f s (t ∷ p) rest is = go (first_overflow (rows_operations f s)) refl is
+  where
+    go : (o : Option Overflow) → first_overflow (rows_operations f s) ≡ o → unless_overflow o (rest_with (t ∷ p) (second_rows f s)) ≡ Ok rest
+        → (rest_with (t ∷ p) (second_rows f s) ≡ rest) × (0 < length (t ∷ p) → first_overflow (rows_operations f s) ≡ None)
+    go None none e = (same_value (rest_with (t ∷ p) (second_rows f s)) rest e, λ some. none)
+    go (Some o) first e = absurd (no_value (fault.Overflow o) rest e)
 
 -- what holds of each generator and of zero holds of the generator with any number
 pub generator_all : (P : List Term → Type 0) (ps : List (List Term)) → All P ps → P [] → (number : ℕ) → P (generator_at ps number)

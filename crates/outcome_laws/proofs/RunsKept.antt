@@ -1,58 +1,40 @@
--- The invariant holds after round 0, later rounds and whole runs.
-use Rattle.std.proofs.Common.{◌≡◌, ◌≤◌, ℕ, zero, suc, Bool, List, [], ◌∷◌, ◌++◌, length, map, Option, Result, Ok, Err, refl, sym, subst, arith, append-nil, append_assoc}
+-- The invariant of a run holds after one more generator, and after one more ambiguity.
+use Rattle.std.proofs.Common.{◌≡◌, ◌≤◌, ℕ, zero, suc, Bool, List, [], ◌∷◌, ◌++◌, length, take, Ok, refl, sym, ap, ◌∙◌, subst, arith, append_assoc, Option, Some, None}
 use Rattle.std.specs.List.{All}
-use Rattle.std.proofs.lemmas.List.Elements.{All-head, All-tail, All-weaker, All-get_or}
-use Rattle.definitions.specs.Poly.{Term}
+use Rattle.std.proofs.lemmas.List.Elements.{All-weaker, All-get_or, All-take}
+use Rattle.std.proofs.Math.Seq.{take-append_seam}
+use Rattle.definitions.specs.Poly.{Term, coefficient_of}
 use Rattle.definitions.specs.Combination.{generator_at}
 use Rattle.definitions.specs.Quiver.{Quiver}
 use Rattle.word_core.specs.Letters.{IsOver}
 use Rattle.word_orders.specs.Admissible.{Compare, IsAdmissible}
-use Rattle.nc_polynomial.specs.Shape.{IsShaped}
 use Rattle.rule_reduce.specs.declared.rule.Rule.{Rule}
 use Rattle.rule_reduce.specs.declared.state.State.{State}
-use Rattle.rule_reduce.specs.declared.fault.ReduceFault.{ReduceFault}
 use Rattle.rule_reduce.specs.RuleLists.{IsRule}
 use Rattle.rule_reduce.specs.NormalForms.{normal_form_of}
 use Rattle.rule_reduce.proofs.WordsKept.{words_with_coefficients}
 use Rattle.ambiguities.specs.declared.ambiguity.Ambiguity.{Ambiguity}
+use Rattle.ambiguities.specs.Ambiguities.{IsAmbiguity}
+use Rattle.ambiguities.specs.SPolynomials.{s_rows_of, s_polynomial_of}
+use Rattle.ambiguities.proofs.Balance.{s_polynomials_balance}
+use Rattle.ambiguities.proofs.Bounds.{over_terms}
 use Rattle.confluence.specs.Reductions.{HasLettersBelow, IsReduced}
-use Rattle.confluence.proofs.RestLaws.{normal_forms_are_reduced}
-use Rattle.confluence.specs.Rests.{generator_rows}
+use Rattle.confluence.specs.Rests.{IsAppended}
 use Rattle.confluence.specs.Kept.{HaveLettersBelow, Kept}
 use Rattle.confluence.specs.Typed.{IsTypedInPlay, AreTypedInPlay}
-use Rattle.confluence.proofs.ShapeLaws.{normal_forms_are_shaped, rests_have_letters_below}
+use Rattle.confluence.proofs.RestLaws.{normal_forms_are_reduced}
+use Rattle.confluence.proofs.ShapeLaws.{normal_forms_are_shaped, rests_have_letters_below, s_polynomials_are_shaped}
 use Rattle.confluence.proofs.Steps.{generators_are_kept}
-use Rattle.confluence.proofs.TypedLaws.{normal_forms_stay_typed, rules_stay_typed}
+use Rattle.confluence.proofs.Treating.{ambiguities_are_kept, resolved_at_once_is_kept}
+use Rattle.confluence.proofs.TypedLaws.{normal_forms_stay_typed, rules_stay_typed, s_polynomials_stay_typed}
 use Rattle.rule_making.specs.Making.{Recorded, Rest, rest_with, Adds}
-use Rattle.traced_completion.specs.Results.{and_then}
-use Rattle.traced_completion.specs.Works.{generator_work, Goes, InTurn}
+use Rattle.traced_completion.specs.Works.{generator_rows, First, second_rows}
+use Rattle.traced_completion.specs.PlainRun.{Setting}
 use Rattle.outcome_laws.specs.KeptRuns.{IsGenerator}
 use Rattle.outcome_laws.proofs.Adding.{appended}
 use Rattle.outcome_laws.proofs.Results.{generator_all}
 
--- results
-module _ {A E : Type 0} where
-  pub no_value : (e : E) (x : A) → ◌≡◌ {A = Result A E} (Err e) (Ok x) → ⊥
-  no_value e x is = cc
-
-  pub same_value : (x y : A) → ◌≡◌ {A = Result A E} (Ok x) (Ok y) → x ≡ y
-  same_value x y is = cc
-
--- what a result was that went on
-pub record WentOn {A B : Type 0} (r : Result A ReduceFault) (next : A → Result B ReduceFault) (y : B) : Type 0 where
-  pub value : A
-  pub given : r ≡ Ok value
-  pub rest : next value ≡ Ok y
-
-pub went_on : {A B : Type 0} (r : Result A ReduceFault) (next : A → Result B ReduceFault) (y : B) → and_then r next ≡ Ok y → WentOn r next y
-went_on (Ok x) next y is = record { value = x; given = refl; rest = is }
-went_on (Err e) next y is = absurd (no_value e y is)
-
 -- generators
-generator_of : (q : Quiver) (play : ℕ → Bool) (letters : ℕ) (generators : List (List Term)) (n : ℕ) → All (IsGenerator q play letters) generators → 1 ≤ n → n ≤ length generators → IsGenerator q play letters (generator_at generators n)
-generator_of q play letters generators zero each first last = absurd (omega (arith, first))
-generator_of q play letters generators (suc n) each first last = All-get_or (IsGenerator q play letters) generators n [] (omega (arith, last)) each
-
 pub letters_below : (q : Quiver) (play : ℕ → Bool) (letters : ℕ) (generators : List (List Term)) → All (IsGenerator q play letters) generators → HaveLettersBelow letters generators
 letters_below q play letters generators each =
     generator_all (HasLettersBelow letters) generators
@@ -60,56 +42,117 @@ letters_below q play letters generators each =
     (λ g is. record { at = words_with_coefficients (IsOver letters) g is.over }) generators each)
     (record { at = λ w some. absurd (some refl) })
 
-module _ (q : Quiver) (play : ℕ → Bool) (letters : ℕ) (compare : Compare) (rank : List ℕ → List ℕ) (laws : IsAdmissible letters compare rank) (generators : List (List Term)) (each : All (IsGenerator q play letters) generators) (steps : ℕ) where
+-- the rules with what was added still begin with those from the start
+pub record BeginsWith (start rules : List Rule) : Type 0 where
+  pub more : List Rule
+  pub is : rules ≡ start ++ more
+
+pub all_front : (P : Rule → Type 0) (start rules : List Rule) → BeginsWith start rules → All P rules → All P start
+all_front P start rules front each = subst (All P) (ap (take (length start)) front.is ∙ take-append_seam start front.more) (All-take P (length start) rules each)
+
+pub begins_with : (start : List Rule) (compare : Compare) (rest : Option Rest) (before after : Recorded) → BeginsWith start before.rules → Adds compare rest before after → BeginsWith start after.rules
+begins_with start compare None before after front same = record { more = front.more; is = ap (λ (r : Recorded). r.rules) same ∙ front.is }
+begins_with start compare (Some rest) before after front extended = record {
+  more = front.more ++ (extended.rule ∷ []);
+  is = ap (λ (r : Recorded). r.rules) extended.appended ∙ ap (λ rs. rs ++ (extended.rule ∷ [])) front.is ∙ append_assoc start front.more (extended.rule ∷ []);
+}
+
+-- an ambiguity whose first reduction was made
+pub record IsFirst (setting : Setting) (start : List Rule) (a : Ambiguity) (s : State) : Type 0 where
+  pub is : IsAmbiguity start a
+  pub polynomial : List Term
+  pub made : s_polynomial_of start a ≡ Ok polynomial
+  pub reduced : normal_form_of setting.compare start polynomial setting.budget.steps ≡ Ok s
+
+abbrev pub first_with : List Rule → Ambiguity → State → First
+first_with rules a s = record { rows = s_rows_of rules a; reduced = s }
+
+module _ (q : Quiver) (play : ℕ → Bool) (letters : ℕ) (rank : List ℕ → List ℕ) (setting : Setting) (laws : IsAdmissible letters setting.compare rank) (each : All (IsGenerator q play letters) setting.generators) where
+  abbrev compare : Compare
+  compare = setting.compare
+
+  abbrev generators : List (List Term)
+  generators = setting.generators
+
   abbrev pub KeptNow : Recorded → List ℕ → List Ambiguity → Type 0
   KeptNow r done treated = Kept letters compare generators r.rules r.made done treated × AreTypedInPlay q play r.rules
 
-  pub over_all : HaveLettersBelow letters generators
+  over_all : HaveLettersBelow letters generators
   over_all = letters_below q play letters generators each
 
-  -- what a reduction leaves, with all that is asked of it
-  pub record IsLeft (rules : List Rule) (p : List Term) (s : State) : Type 0 where
-    pub reduced : IsReduced letters compare rules p s
-    pub shaped : IsShaped s.rest
-    pub over : All (λ t. IsOver letters t.1) s.rest
-    pub typed : IsTypedInPlay q play s.rest
+  generator_of : (n : ℕ) → (1 ≤ n) × (n ≤ length generators) → IsGenerator q play letters (generator_at generators n)
+  generator_of zero in_range = absurd (omega (arith, in_range.0))
+  generator_of (suc n) in_range = All-get_or (IsGenerator q play letters) generators n [] (omega (arith, in_range.1)) each
 
-  pub left : (rules : List Rule) (p : List Term) (s : State) → All (IsRule letters compare) rules → AreTypedInPlay q play rules → IsShaped p → All (λ t. IsOver letters t.1) p → IsTypedInPlay q play p → normal_form_of compare rules p steps ≡ Ok s → IsLeft rules p s
-  left rules p s are rules_typed shaped over typed ends =
-      let reduced = normal_forms_are_reduced letters compare rank rules p steps s laws are shaped over ends in
-      let rest_shaped = normal_forms_are_shaped compare rules p steps s shaped ends in
-      record {
-        reduced = reduced;
-        shaped = rest_shaped;
-        over = rests_have_letters_below letters compare rules p s (record { at = words_with_coefficients (IsOver letters) p over }) reduced rest_shaped;
-        typed = normal_forms_stay_typed q play letters compare rules p steps s are rules_typed shaped typed ends;
-      }
-
-  -- one generator
-  one_generator : (n : ℕ) → 1 ≤ n → n ≤ length generators → (before after : Recorded) (done : List ℕ) (treated : List Ambiguity) (rest : Option Rest) → KeptNow before done treated
-      → generator_work compare steps generators n before.rules ≡ Ok rest → Adds compare rest before after → KeptNow after (done ++ (n ∷ [])) treated
-  one_generator n first last before after done treated rest now ends added =
-      let went = went_on (normal_form_of compare before.rules (generator_at generators n) steps) (λ s. Ok (rest_with s.rest (generator_rows n s))) rest ends in
-      let g = generator_of q play letters generators n each first last in
-      let is = left before.rules (generator_at generators n) went.value now.0.are_rules now.1 g.shaped g.over g.typed went.given in
-      let rest_is : rest_with went.value.rest (generator_rows n went.value) ≡ rest = same_value (rest_with went.value.rest (generator_rows n went.value)) rest went.rest in
-      let adds = appended q play letters compare went.value.rest (generator_rows n went.value) before after is.shaped is.over is.typed (subst (λ r. Adds compare r before after) (sym rest_is) added) in (
-        generators_are_kept letters compare rank generators before.rules before.made done treated n went.value after.rules after.made laws over_all first last now.0 is.reduced adds,
-        rules_stay_typed q play letters compare went.value.rest (generator_rows n went.value) before.rules before.made after.rules after.made now.1 is.typed adds,
+  -- what a reduction by rules of one signature leaves
+  left : (rules : List Rule) (p : List Term) (s : State) → All (IsRule letters compare) rules → AreTypedInPlay q play rules → IsGenerator q play letters p
+      → normal_form_of compare rules p setting.budget.steps ≡ Ok s
+      → IsReduced letters compare rules p s × IsGenerator q play letters s.rest
+  left rules p s are rules_typed is ends =
+      let reduced = normal_forms_are_reduced letters compare rank rules p setting.budget.steps s laws are is.shaped is.over ends in
+      let shaped = normal_forms_are_shaped compare rules p setting.budget.steps s is.shaped ends in (
+        reduced,
+        record {
+          shaped = shaped;
+          over = rests_have_letters_below letters compare rules p s (record { at = words_with_coefficients (IsOver letters) p is.over }) reduced shaped;
+          typed = normal_forms_stay_typed q play letters compare rules p setting.budget.steps s are rules_typed is.shaped is.typed ends;
+        },
       )
 
-  pub generators_in_turn : (numbers : List ℕ) → All (λ k. (1 ≤ k) × (k ≤ length generators)) numbers → (before after : Recorded) (done : List ℕ) (treated : List Ambiguity) → KeptNow before done treated
-      → InTurn compare (map (generator_work compare steps generators) numbers) before (Ok after) → KeptNow after (done ++ numbers) treated
-  generators_in_turn [] in_range before after done treated now turn =
-      subst (λ r. KeptNow r (done ++ []) treated) (sym (same_value after before turn)) (subst (λ d. KeptNow before d treated) (sym (append-nil done)) now)
-  generators_in_turn (n ∷ numbers) in_range before after done treated now turn = go (generator_work compare steps generators n before.rules) refl turn
-      (λ between here next. subst (λ d. KeptNow after d treated) (append_assoc done (n ∷ []) numbers) (generators_in_turn numbers (All-tail (λ k. (1 ≤ k) × (k ≤ length generators)) n numbers in_range) between after (done ++ (n ∷ [])) treated here next))
-    where
-      go : (r : Result (Option Rest) ReduceFault) → generator_work compare steps generators n before.rules ≡ r
-          → Goes compare r before (λ between. InTurn compare (map (generator_work compare steps generators) numbers) between (Ok after)) (Ok after)
-          → ((between : Recorded) → KeptNow between (done ++ (n ∷ [])) treated → InTurn compare (map (generator_work compare steps generators) numbers) between (Ok after) → KeptNow after (done ++ (n ∷ numbers)) treated)
-          → KeptNow after (done ++ (n ∷ numbers)) treated
-      go (Err e) ends on later = absurd (no_value e after (sym on))
-      go (Ok rest) ends on later =
-          let first = All-head (λ k. (1 ≤ k) × (k ≤ length generators)) n numbers in_range in
-          later on.between (one_generator n first.0 first.1 before on.between done treated rest now ends on.added) on.next
+  pub generator_kept : (n : ℕ) → (1 ≤ n) × (n ≤ length generators) → (before after : Recorded) (done : List ℕ) (treated : List Ambiguity) (s : State) → KeptNow before done treated
+      → normal_form_of compare before.rules (generator_at generators n) setting.budget.steps ≡ Ok s
+      → Adds compare (rest_with s.rest (generator_rows n s.multiplier s.rows)) before after → KeptNow after (done ++ (n ∷ [])) treated
+  generator_kept n in_range before after done treated s now ends added =
+      let is = left before.rules (generator_at generators n) s now.0.are_rules now.1 (generator_of n in_range) ends in
+      let rows = generator_rows n s.multiplier s.rows in
+      let adds = appended q play letters compare s.rest rows before after is.1 added in (
+        generators_are_kept letters compare rank generators before.rules before.made done treated n s after.rules after.made laws over_all in_range.0 in_range.1 now.0 is.0 adds,
+        rules_stay_typed q play letters compare s.rest rows before.rules before.made after.rules after.made now.1 is.1.typed adds,
+      )
+
+  -- an ambiguity of the rules from before a round
+  module _ (start : List Rule) (a : Ambiguity) (first : State) (is : IsFirst setting start a first) (before : Recorded) (front : BeginsWith start before.rules)
+      (done : List ℕ) (treated : List Ambiguity) (now : KeptNow before done treated) where
+    first_left : IsReduced letters compare start is.polynomial first × IsGenerator q play letters first.rest
+    first_left =
+        let are = all_front (IsRule letters compare) start before.rules front now.0.are_rules in
+        let typed = all_front (λ g. IsTypedInPlay q play g.poly.terms) start before.rules front now.1 in
+        let shaped = s_polynomials_are_shaped start a is.polynomial is.made in
+        left start is.polynomial first are typed (record {
+          shaped = shaped;
+          over = over_terms letters compare rank start a is.polynomial laws are is.is is.made shaped;
+          typed = s_polynomials_stay_typed q play letters compare start a is.polynomial are typed is.is is.made;
+        }) is.reduced
+
+    kept_before : Kept letters compare generators (start ++ front.more) before.made done treated
+    kept_before = subst (λ rs. Kept letters compare generators rs before.made done treated) front.is now.0
+
+    -- its first rest is zero
+    pub at_once_kept : first.rest ≡ [] → KeptNow before done (treated ++ (a ∷ []))
+    at_once_kept none = (
+      subst (λ rs. Kept letters compare generators rs before.made done (treated ++ (a ∷ []))) (sym front.is)
+          (resolved_at_once_is_kept letters compare rank generators start front.more before.made done treated a is.polynomial first laws kept_before is.is
+          (s_polynomials_balance start a is.polynomial is.made) first_left.0 (record { at = λ w. ap (λ r. coefficient_of r w) none })),
+      now.1,
+    )
+
+    -- it is reduced again
+    pub ambiguity_kept : (after : Recorded) (s : State) → normal_form_of compare before.rules first.rest setting.budget.steps ≡ Ok s
+        → Adds compare (rest_with s.rest (second_rows (first_with start a first) s)) before after → KeptNow after done (treated ++ (a ∷ []))
+    ambiguity_kept after s ends added =
+        let second = left before.rules first.rest s now.0.are_rules now.1 first_left.1 ends in
+        let rows = second_rows (first_with start a first) s in
+        let adds = appended q play letters compare s.rest rows before after second.1 added in (
+          ambiguities_are_kept letters compare rank generators start front.more before.made done treated a after.rules after.made laws over_all kept_before
+              (record {
+                ambiguity = is.is;
+                s_polynomial = is.polynomial;
+                is_sum = s_polynomials_balance start a is.polynomial is.made;
+                first = first;
+                is_first = first_left.0;
+                second = s;
+                is_second = subst (λ rs. IsReduced letters compare rs first.rest s) front.is second.0;
+                appended = subst (λ rs. IsAppended letters compare s.rest rows rs before.made after.rules after.made) front.is adds;
+              }),
+          rules_stay_typed q play letters compare s.rest rows before.rules before.made after.rules after.made now.1 second.1.typed adds,
+        )

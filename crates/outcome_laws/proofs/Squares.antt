@@ -1,22 +1,24 @@
 -- The places in the squares over short words, as the words of the place's two numbers and the word's letters.
-use Rattle.std.proofs.Common.{◌≡◌, ◌≢◌, ℕ, ◌+◌, ◌*◌, ◌^◌, ◌≤◌, ◌<◌, zero, suc, ◌⊎◌, inl, inr, refl, arith, subst, sym, ap, ◌∙◌, Bool, true, false, List, [], ◌∷◌, ◌++◌, map, length}
+use Rattle.std.proofs.Common.{◌≡◌, ℕ, ◌+◌, ◌*◌, ◌^◌, ◌≤◌, ◌<◌, zero, suc, ◌⊎◌, inl, inr, refl, arith, subst, sym, ap, ◌∙◌, List, [], ◌∷◌, ◌++◌, map, length}
 use Rattle.std.proofs.lemmas.Bool.{cases_lt}
 use Rattle.std.proofs.lemmas.List.{length-append, length-map}
 use Rattle.std.proofs.lemmas.List.FromFn.{length-range_with_len}
 use Rattle.std.proofs.Math.Nat.{pow-zero, pow-suc}
-use Rattle.std.specs.List.{flat_map, range_with_len}
-use Rattle.definitions.specs.Poly.{Word, word_eq}
-use Rattle.definitions.proofs.Linear.{word_eq-same, word_eq-true}
+use Rattle.std.specs.List.{Contains, flat_map, range_with_len}
+use Rattle.definitions.specs.Poly.{Word}
 use Rattle.outcome_laws.proofs.Turns.{contains_number}
 use Rattle.outcome_laws.specs.Counts.{short_ambiguities}
-use Rattle.outcome_laws.proofs.Pigeons.{Member, here, member_from_contains, member_left, member_right, member_map, member_flat_map}
+use Rattle.std.proofs.lemmas.List.Elements.{Contains-append_left, Contains-append_right}
+use Rattle.ambiguities.proofs.Ascending.{contains-none, contains-cases, contains-first, contains-map}
 
-pub same_or_not : (u v : Word) → (u ≡ v) ⊎ (u ≢ v)
-same_or_not u v = go (word_eq u v) refl
+-- what is listed for an item is listed for all
+contains_flat_map : {A B : Type 0} (f : A → List B) (x : A) (y : B) (xs : List A) → Contains xs x → Contains (f x) y → Contains (flat_map f xs) y
+contains_flat_map f x y [] at here = absurd (contains-none x at)
+contains_flat_map {A} {B} f x y (z ∷ xs) at here = go (contains-cases z xs x at) (λ later. contains_flat_map f x y xs later here)
   where
-    go : (b : Bool) → word_eq u v ≡ b → (u ≡ v) ⊎ (u ≢ v)
-    go true is = inl (word_eq-true u v is)
-    go false is = inr (λ same. (cc (sym (subst (λ w. word_eq u w ≡ true) same (word_eq-same u)) ∙ is)))
+    go : (z ≡ x) ⊎ Contains xs x → (Contains xs x → Contains (flat_map f xs) y) → Contains (flat_map f (z ∷ xs)) y
+    go (inl same) later = Contains-append_left (f z) (flat_map f xs) y (subst (λ v. Contains (f v) y) (sym same) here)
+    go (inr inside) later = Contains-append_right (f z) (flat_map f xs) y (later inside)
 
 -- lists of one length
 length_flat_map : {A B : Type 0} (f : A → List B) (c : ℕ) → ((x : A) → length (f x) ≡ c) → (xs : List A) → length (flat_map f xs) ≡ length xs * c
@@ -33,13 +35,13 @@ length_flat_map f c e (x ∷ xs) = length-append (f x) (flat_map f xs) ∙ added
 abbrev below : ℕ → List ℕ
 below m = range_with_len 0 m
 
-member_below : (m k : ℕ) → k < m → Member k (below m)
-member_below m k inside = member_from_contains (below m) k (contains_number 0 m k (omega arith) (omega (arith, inside)))
+contains_below : (m k : ℕ) → k < m → Contains (below m) k
+contains_below m k inside = contains_number 0 m k (omega arith) (omega (arith, inside))
 
 -- all letters are in the list
 abbrev pub AllIn : List ℕ → Word → Type 0
 AllIn letters [] = Unit {0}
-AllIn letters (a ∷ w) = Member a letters × AllIn letters w
+AllIn letters (a ∷ w) = Contains letters a × AllIn letters w
 
 module _ (letters : List ℕ) where
   -- the words of a length
@@ -53,9 +55,10 @@ module _ (letters : List ℕ) where
       length_flat_map (λ a. map (λ w. a ∷ w) (words m)) (length letters ^ m) (λ a. length-map (words m) (λ w. a ∷ w) ∙ length_words m) letters
       ∙ (omega arith) ∙ sym (pow-suc (length letters) m)
 
-  member_words : (w : Word) → AllIn letters w → Member w (words (length w))
-  member_words [] h = here []
-  member_words (a ∷ w) h = member_flat_map (λ b. map (λ v. b ∷ v) (words (length w))) a (a ∷ w) letters h.0 (member_map (λ v. a ∷ v) w (words (length w)) (member_words w h.1))
+  contains_words : (w : Word) → AllIn letters w → Contains (words (length w)) w
+  contains_words [] h = contains-first [] []
+  contains_words (a ∷ w) h =
+      contains_flat_map (λ b. map (λ v. b ∷ v) (words (length w))) a (a ∷ w) letters h.0 (contains-map (λ v. a ∷ v) (words (length w)) w (contains_words w h.1))
 
   -- the places in the squares over the words of a length
   abbrev row_of : ℕ → Word → ℕ → List Word
@@ -76,11 +79,11 @@ module _ (letters : List ℕ) where
       length_square : (w : Word) → length (square_of m w) ≡ m * m
       length_square w = length_flat_map (row_of m w) m (length_row w) (below m) ∙ ap (λ z. z * m) (length-range_with_len 0 m)
 
-  member_squares : (w : Word) (x y : ℕ) → AllIn letters w → x < length w → y < length w → Member (x ∷ y ∷ w) (squares (length w))
-  member_squares w x y a hx hy =
+  contains_squares : (w : Word) (x y : ℕ) → AllIn letters w → x < length w → y < length w → Contains (squares (length w)) (x ∷ y ∷ w)
+  contains_squares w x y a hx hy =
       let m = length w in
-      member_flat_map (square_of m) w (x ∷ y ∷ w) (words m) (member_words w a)
-      (member_flat_map (row_of m w) x (x ∷ y ∷ w) (below m) (member_below m x hx) (member_map (λ z. x ∷ z ∷ w) y (below m) (member_below m y hy)))
+      contains_flat_map (square_of m) w (x ∷ y ∷ w) (words m) (contains_words w a)
+      (contains_flat_map (row_of m w) x (x ∷ y ∷ w) (below m) (contains_below m x hx) (contains-map (λ z. x ∷ z ∷ w) (below m) y (contains_below m y hy)))
 
   -- those over the words up to a length
   abbrev pub places : ℕ → List Word
@@ -96,12 +99,12 @@ module _ (letters : List ℕ) where
       added : (a b c d : ℕ) → a ≡ c → b ≡ d → a + b ≡ c + d
       added a b c d p q = omega arith
 
-  pub member_places : (n : ℕ) (w : Word) (x y : ℕ) → AllIn letters w → length w ≤ n → x < length w → y < length w → Member (x ∷ y ∷ w) (places n)
-  member_places zero w x y a h hx hy = absurd (omega arith)
-  member_places (suc n) w x y a h hx hy = go (cases_lt (length w) (suc n)) (λ shorter. member_places n w x y a shorter hx hy)
+  pub contains_places : (n : ℕ) (w : Word) (x y : ℕ) → AllIn letters w → length w ≤ n → x < length w → y < length w → Contains (places n) (x ∷ y ∷ w)
+  contains_places zero w x y a h hx hy = absurd (omega arith)
+  contains_places (suc n) w x y a h hx hy = go (cases_lt (length w) (suc n)) (λ shorter. contains_places n w x y a shorter hx hy)
     where
-      go : (length w < suc n) ⊎ (suc n ≤ length w) → (length w ≤ n → Member (x ∷ y ∷ w) (places n)) → Member (x ∷ y ∷ w) (places n ++ squares (suc n))
-      go (inl less) earlier = member_left (x ∷ y ∷ w) (places n) (squares (suc n)) (earlier (omega (arith, less)))
+      go : (length w < suc n) ⊎ (suc n ≤ length w) → (length w ≤ n → Contains (places n) (x ∷ y ∷ w)) → Contains (places n ++ squares (suc n)) (x ∷ y ∷ w)
+      go (inl less) earlier = Contains-append_left (places n) (squares (suc n)) (x ∷ y ∷ w) (earlier (omega (arith, less)))
       go (inr longest) earlier =
           let same : length w ≡ suc n = omega (arith, longest, h) in
-          member_right (x ∷ y ∷ w) (places n) (squares (suc n)) (subst (λ m. Member (x ∷ y ∷ w) (squares m)) same (member_squares w x y a hx hy))
+          Contains-append_right (places n) (squares (suc n)) (x ∷ y ∷ w) (subst (λ m. Contains (squares m) (x ∷ y ∷ w)) same (contains_squares w x y a hx hy))

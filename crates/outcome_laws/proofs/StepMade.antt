@@ -30,7 +30,8 @@ use Rattle.rule_reduce.specs.RuleLists.{rule_at}
 use Rattle.rule_reduce.specs.Choices.{IsChoice}
 use Rattle.rule_reduce.specs.Steps.{Move, row_operations, state_operations, less_operations, moved, move_operations, move_of}
 use Rattle.outcome_laws.specs.ReductionSteps.{Reduced, Next, IsStep, IsOfStep, of_multiplier, of_rest, of_taken, of_rule, of_difference}
-use Rattle.outcome_laws.proofs.Listed.{listed_first, value_of, sum_at}
+use Rattle.ambiguities.proofs.Ascending.{contains-cases}
+use Rattle.outcome_laws.proofs.Listed.{value_of, sum_at}
 use Rattle.outcome_laws.proofs.Results.{fits_first, none_append}
 
 -- how far a state has come
@@ -172,5 +173,5 @@ module _ (compare : Compare) (rules : List Rule) (s : State) (shaped : IsShaped 
       by_less (inr in_sums) = difference in_sums
 
       by_part : Contains (state_operations move.by s) o ⊎ Contains (less_operations move.times move.left move.rule move.right (multiplied s.rest move.by)) o → OfStep o
-      by_part (inl in_state) = by_state (listed_first (product_of s.multiplier move.by) (multiplications s.rest move.by ++ row_operations s.rows move.by) o in_state)
+      by_part (inl in_state) = by_state (contains-cases (product_of s.multiplier move.by) (multiplications s.rest move.by ++ row_operations s.rows move.by) o in_state)
       by_part (inr in_less) = by_less (Contains-append_cases (products move.times move.rule) (sums (multiplied s.rest move.by) (negated (shifted move.times move.left move.rule move.right))) o in_less)

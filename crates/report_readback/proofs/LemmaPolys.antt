@@ -73,7 +73,7 @@ module _ (problem : Problem) (budget : Budget) (form : Format) (number : ℕ) (c
       }
 
   by_way : LemmaCertificateAddsUp problem number c → Way (setting_of problem budget) form number (claim_at problem number) (outcome.Derived (evidence.Lemmas c)) → HasLemmas
-  by_way adds_up (no_terms same) = at_once form same adds_up
+  by_way adds_up (no_terms none same) = at_once form same adds_up
   by_way adds_up (expanded by cofactors is same) = absurd (cc)
   by_way adds_up (gathered by certificate is same) =
       let same_one : certificate ≡ c = cc in
@@ -82,9 +82,9 @@ module _ (problem : Problem) (budget : Budget) (form : Format) (number : ℕ) (c
         canonical = lemmas_are_canonical by.state.rules by.state.made (record_of by.reduced);
         evidence = gathering_adds_up problem budget number by.rounds by.state by.run by.reduced by.reduction by.none c (is ∙ ap Ok same_one);
       }
-  by_way adds_up (left_over rounds s run rest left same) = absurd (cc)
-  by_way adds_up (given_up halt none same) = absurd (cc)
-  by_way adds_up (with_run rounds s halt run round same) = absurd (cc)
+  by_way adds_up (left_over rounds s is_open round rest left same) = absurd (cc)
+  by_way adds_up (given_up at cause stops same) = absurd (cc)
+  by_way adds_up (with_run rounds s halt is_open round same) = absurd (cc)
 
   pub lemmas_of : IsOutcomeAt problem budget form number (outcome.Derived (evidence.Lemmas c)) → HasLemmas
   lemmas_of is =
