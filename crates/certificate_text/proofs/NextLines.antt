@@ -25,7 +25,7 @@ use Rattle.certificate_text.specs.Reading.{begun, lemma_of, closed_by, lemma_row
 use Rattle.block_text.proofs.Results.{by_test, bind_ok, asked_ok, ok_has}
 use Rattle.block_text.proofs.SaidLines.{IsNumberLine, number_said}
 use Rattle.certificate_text.proofs.LineTrees.{lemma_is, goal_is, plain_row_is, lemma_row_is}
-use Rattle.certificate_text.proofs.RowTrees.{Pass, HaveSize, no_rows_size, size_push, passes_unvalued, passes_full, integer_is_within}
+use Rattle.certificate_text.proofs.RowTrees.{Pass, HaveSize, no_rows_size, IsAdded, added, unvalued, full, is_added, integer_is_within}
 use Rattle.block_text.proofs.Zips.{zip_push, zip_length}
 use Rattle.certificate_text.proofs.OpenBlocks.{IsRowOf, IsMadeBy, IsHead, scaled_by, front_of, lemma_made, IsHeaded, IsClaimed, IsOpened, IsLed, IsInside, IsOpen, Lead, lemma_tokens, lead_lines, IsNext, IsFew, rows_of, are_lemmas-push}
 
@@ -156,21 +156,17 @@ module _ (ds : List Declaration) (form : Format) {C E : Type 0} (made : RowToken
     abbrev Behind : Result C Flaw → Result E Flaw
     Behind r = r >>= λ c. (grown size (left c) (right c) >>= λ larger. Ok (put larger c))
 
-    by_size : (r : RowTokens) (row : CertRow) → line ≡ row_line r → IsRowOf form r → row_values ds r ≡ Ok row → (next : Result Size Flaw) → grown size row.left row.right ≡ next
-        → IsRowJudged (next >>= λ larger. Ok (put larger (made r row)))
-    by_size r row line_is is value (Ok next) fits = grows r next (made r row) refl line_is is (row, value, refl) (size_push ds size before have r row value next fits)
-    by_size r row line_is is value (Err flaw) full = halts flaw r refl line_is is (passes_full ds size before have r row value flaw full)
-
-    by_values : (r : RowTokens) → line ≡ row_line r → IsRowOf form r → (v : Result CertRow Flaw) → row_values ds r ≡ v → IsRowJudged (Behind (v >>= λ row. Ok (made r row)))
-    by_values r line_is is (Ok row) value = rw (words r row) (by_size r row line_is is value (grown size row.left row.right) refl)
-    by_values r line_is is (Err flaw) unread = halts flaw r refl line_is is (passes_unvalued ds size before have r flaw unread)
+    by_row : (r : RowTokens) → line ≡ row_line r → IsRowOf form r → IsAdded ds size before have r (row_values ds r) (λ row. grown size row.left row.right) → IsRowJudged (Behind (values r))
+    by_row r line_is is (added row larger value fits grown_have) = grows r larger (made r row) (rw (valued r, value, words r row, fits) refl) line_is is (row, value, refl) grown_have
+    by_row r line_is is (unvalued flaw unread pass) = halts flaw r (rw (valued r, unread) refl) line_is is pass
+    by_row r line_is is (full row flaw value over pass) = halts flaw r (rw (valued r, value, words r row, over) refl) line_is is pass
 
     pub row_judged : IsRowJudged (Behind (asked BadLine (row_tokens form line) >>= values))
     row_judged = by_tokens (row_tokens form line) refl
       where
         by_tokens : (o : Option RowTokens) → row_tokens form line ≡ o → IsRowJudged (Behind (asked BadLine o >>= values))
         by_tokens None none = unfit refl
-        by_tokens (Some r) there = let known = row_is form line r there in rw (valued r) (by_values r known.0 known.1 (row_values ds r) refl)
+        by_tokens (Some r) there = let known = row_is form line r there in by_row r known.0 known.1 (is_added ds size before have r)
 
 -- a row of a lemma or of the goal
 pub lemma_row_judged : {E : Type 0} (ds : List Declaration) (size : Size) (put : Size → LemmaRow → E) (before : List RowTokens) (line : Line) → HaveSize ds size before

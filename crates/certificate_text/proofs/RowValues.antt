@@ -1,5 +1,5 @@
 -- Rows that keep bounds are read, one after another.
-use Rattle.std.proofs.Common.{◌≡◌, ◌<◌, ◌≤◌, ◌+◌, ℕ, suc, List, [], ◌∷◌, ◌++◌, Result, Ok, arith, refl, sym, ◌∙◌, length, map, add-zero, zero-add, length-append}
+use Rattle.std.proofs.Common.{◌≡◌, ◌<◌, ◌≤◌, ◌+◌, ℕ, suc, List, [], ◌∷◌, ◌++◌, Result, Ok, arith, refl, ◌∙◌, length, map, add-zero, length-append}
 use Rattle.std.specs.List.{All, AllZip}
 use Rattle.std.proofs.lemmas.Bool.{le-ltb, lt-leb, or_from}
 use Rattle.std.proofs.lemmas.List.{append_assoc, append-nil}
@@ -15,7 +15,7 @@ use Rattle.certificate_text.specs.Lines.{RowTokens, word_limit, row_limit, lette
 use Rattle.certificate_text.specs.Blocks.{row_line}
 use Rattle.certificate_text.specs.Bounds as bound
 use Rattle.certificate_text.specs.Bounds.{Bound, flaw_of, HasNames, HasNumbers, HasShortWords, letters_in}
-use Rattle.certificate_text.proofs.RowTrees.{word_of-length}
+use Rattle.certificate_text.proofs.RowTrees.{word_of-length, letters_in-append}
 use Rattle.block_text.proofs.NumberedLines.{run}
 use Rattle.block_text.proofs.Meets.{Meets, reads, then_meets, meets-weaker, asked_meets, unless_meets}
 
@@ -74,10 +74,6 @@ All-parts P [] ys all = (All-nil P, all)
 All-parts P (x ∷ xs) ys all =
     let rest = All-parts P xs ys (All-tail P x (xs ++ ys) all) in
     (All-cons P x xs (All-head P x (xs ++ ys) all) rest.0, rest.1)
-
-pub letters_in-append : (rs more : List RowTokens) → letters_in (rs ++ more) ≡ letters_in rs + letters_in more
-letters_in-append [] more = sym (zero-add (letters_in more))
-letters_in-append (r ∷ rs) more = let rest = letters_in-append rs more in omega (arith, rest)
 
 pub with_rows-append : (size : Size) (rs more : List RowTokens) → with_rows (with_rows size rs) more ≡ with_rows size (rs ++ more)
 with_rows-append size rs more =

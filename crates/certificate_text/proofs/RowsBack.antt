@@ -21,6 +21,7 @@ use Rattle.block_text.specs.Written.{letter_text, word_text}
 use Rattle.certificate_text.specs.Written.{origin_text, lemma_row_text}
 use Rattle.block_text.specs.Back.{IsLineText}
 use Rattle.certificate_text.specs.Back.{number_of}
+pub use Rattle.certificate_text.proofs.RowTrees.{letters_in-append}
 use Rattle.block_text.proofs.ContentBack.{IsTextOf, no_text, text-append, text_of_tokens}
 use Rattle.block_text.proofs.NumbersBack.{IsInteger, decimal_text, decimal_number, decimal_within}
 use Rattle.block_text.proofs.TextsBack.{line_text-append, literal, IsWrittenWord, plain_name}
@@ -164,10 +165,6 @@ rows-append ds xs ys left right = record {
   numbers = All-append HasNumbers xs ys left.numbers right.numbers;
   words = All-append HasShortWords xs ys left.words right.words;
 }
-
-pub letters_in-append : (xs ys : List RowTokens) → letters_in (xs ++ ys) ≡ letters_in xs + letters_in ys
-letters_in-append [] ys = omega arith
-letters_in-append (r ∷ xs) ys = omega (arith, letters_in-append xs ys)
 
 pub zip_by : {A B : Type 0} (R : A → B → Type 0) (f : B → A) (ys : List B) → All (λ y. R (f y) y) ys → AllZip R (map f ys) ys
 zip_by R f [] each = tt
