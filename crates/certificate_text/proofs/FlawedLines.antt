@@ -1,5 +1,5 @@
 -- A line that is wrong at its place in a block: it does not fit the grammar, or it is the first that passes a bound.
-use Rattle.std.proofs.Common.{◌≡◌, ◌⊎◌, inl, inr, ◌+◌, ℕ, pos, List, [], ◌∷◌, ◌++◌, Some, None, Err, IsTrue, sym, ap, ap₂, ◌∙◌, subst, length, nat_le, append-nil, codes}
+use Rattle.std.proofs.Common.{◌≡◌, ◌⊎◌, inl, inr, ◌+◌, ℕ, pos, List, [], ◌∷◌, ◌++◌, Some, None, Err, IsTrue, refl, sym, ap, ap₂, ◌∙◌, subst, length, nat_le, append-nil, codes}
 use Rattle.std.specs.List.{All}
 use Rattle.std.specs.Option.{option_map}
 use Rattle.std.proofs.lemmas.List.Elements.{All-nil, All-cons, All-replicate}
@@ -15,7 +15,7 @@ use Rattle.block_text.specs.Fault.{asked}
 use Rattle.block_text.specs.Letters.{is_number, number_within}
 use Rattle.block_text.specs.Lines.{number_limit, integer_limit, integer_of, claim_of, Line, claim_line}
 use Rattle.certificate_text.specs.Lines.{RowTokens, row_limit, is_value, is_row, denominator_of, lemma_digits, lemma_scale_of, goal_digits, goal_scale_of}
-use Rattle.certificate_text.specs.Blocks.{BlockTokens, lemmas, row_line, head_line, denominator_line}
+use Rattle.certificate_text.specs.Blocks.{lemmas, row_line, head_line, denominator_line}
 use Rattle.certificate_text.specs.Bounds.{Bound, names, numbers, words, rows, rows_in, HasNames, IsWithin, IsScaledOf, flaw_of, KeepsOne}
 use Rattle.certificate_text.specs.Reading.{lemma_of, lemma_row}
 use Rattle.block_text.proofs.Results.{by_test, bind_err, asked_ok, asked_err}
@@ -23,10 +23,10 @@ use Rattle.block_text.proofs.SaidLines.{number_unsaid}
 use Rattle.certificate_text.proofs.LineTrees.{lemma_is, goal_is}
 use Rattle.certificate_text.proofs.RowTrees.{before, RowsWithin, Pass, HaveSize, integer_is_within}
 use Rattle.block_text.proofs.Zips.{zip_length}
-use Rattle.block_text.proofs.Owed.{Begins, IsStopped, passes, stopped_by, begins_as}
+use Rattle.block_text.proofs.Owed.{Begins, IsStopped, passes, stopped_by}
 use Rattle.certificate_text.specs.Evidence.{certificate_kind}
-use Rattle.certificate_text.proofs.OpenBlocks.{block_of, lead_outside, begin_lead, scaled_by, lemma_made, IsHeaded, IsClaimed, IsOpened, Lead, lead_lines, IsNext, rows_of, rows_are, begin_claimed, begin_shortest, shortest}
-use Rattle.certificate_text.proofs.NextLines.{IsRowJudged, unfit, halts, grows, lemma_row_judged, integer_in}
+use Rattle.certificate_text.proofs.OpenBlocks.{block_of, lead_outside, begin_lead, scaled_by, lemma_made, IsHeaded, IsClaimed, IsOpened, Lead, lead_lines, IsNext, rows_of, rows_are, begin_shortest, shortest}
+use Rattle.certificate_text.proofs.NextLines.{behind, IsRowJudged, unfit, halts, grows, lemma_row_judged, integer_in}
 
 pub too_large : (digits : List ℕ) (flaw : Flaw) → integer_of digits ≡ Err flaw → flaw ≡ NumberTooLarge
 too_large digits flaw read = asked_err NumberTooLarge (option_map pos (number_within integer_limit digits)) flaw read
@@ -89,61 +89,53 @@ module _ (most : Format) (ds : List Declaration) (flaw : Flaw) (front : List Lin
 
   pub stopped_headed : (form : Format) → IsHeaded most form front → claim_of line ≡ Err flaw → Stopped
   stopped_headed form headed read = stopped_by (certificate_kind most ds) flaw _ (number_unsaid (codes "claim") (number_within number_limit) line flaw read) (λ found.
-      passes numbers found.0 (begins_as (certificate_kind most ds) (before numbers) front (head_line form ∷ []) line (claim_line found.1.digits) headed.are found.1.is
-      (begin_claimed most ds form found.1.digits (before numbers) headed.read found.1.number (shortest_names form found.1.digits (codes "1")))))
+      passes numbers found.0
+      (begin_shortest most ds form found.1.digits (codes "1") (front ++ line ∷ []) (denominator_line (codes "1") ∷ [])
+      (ap (λ ls. ls ++ denominator_line (codes "1") ∷ []) (behind front (head_line form ∷ []) line (claim_line found.1.digits) headed.are found.1.is)) headed.read found.1.number refl
+      (before numbers) (shortest_names form found.1.digits (codes "1"))))
 
   pub stopped_claimed : (form : Format) (n : ℕ) → IsClaimed most form n front → denominator_of line ≡ Err flaw → Stopped
   stopped_claimed form n claimed read = stopped_by (certificate_kind most ds) flaw _ (number_unsaid (codes "denominator") integer_in line flaw read) (λ found.
-      passes numbers found.0 (begins_as (certificate_kind most ds) (before numbers) front (head_line form ∷ claim_line claimed.claim ∷ []) line (denominator_line found.1.digits) claimed.are found.1.is
-      (begin_shortest most ds form claimed.claim found.1.digits (before numbers) claimed.read claimed.claim_number found.1.number (shortest_names form claimed.claim found.1.digits))))
+      passes numbers found.0
+      (begin_shortest most ds form claimed.claim found.1.digits (front ++ line ∷ []) []
+      (append-nil (front ++ line ∷ []) ∙ behind front (head_line form ∷ claim_line claimed.claim ∷ []) line (denominator_line found.1.digits) claimed.are found.1.is) claimed.read claimed.claim_number found.1.number
+      (before numbers) (shortest_names form claimed.claim found.1.digits)))
 
   -- lemmas and the goal
   module _ (o : Opened) (opened : IsOpened most ds o front) where
-    -- the block with this first line of a lemma or of the goal
-    stopped_by_lead : (lead : Lead) (digits : List ℕ) (bound : Bound) → IsNext lead opened.done.tokens → IsTrue (is_number digits) → line ∷ [] ≡ lead_lines lead (scaled_by digits [])
-        → flaw ≡ flaw_of bound → All (λ k. KeepsOne ds k (block_of most ds opened.head opened.done lead (scaled_by digits []))) (before bound) → Stopped
-    stopped_by_lead lead digits bound next number line_is flaw_is keeps =
-        passes bound flaw_is
-        (subst (Begins (certificate_kind most ds) (before bound)) (ap₂ (λ (ls ms : List Line). ls ++ ms) (sym opened.are) (sym line_is))
-        (begin_lead most ds opened.head opened.done (before bound) lead (scaled_by digits []) opened.read next (record { scale = number; rows = All-nil (λ t. IsTrue (is_row t)) }) keeps))
-
-    module _ (lead : Lead) (digits : List ℕ) where
-      abbrev led : BlockTokens
-      led = block_of most ds opened.head opened.done lead (scaled_by digits [])
-
+    -- the first line of a lemma or of the goal
+    module _ (lead : Lead) (digits : List ℕ) (next : IsNext lead opened.done.tokens) (number : IsTrue (is_number digits)) (line_is : line ∷ [] ≡ lead_lines lead (scaled_by digits [])) where
       abbrev LedKeeps : Bound → Type 0
-      LedKeeps bound = KeepsOne ds bound led
+      LedKeeps bound = KeepsOne ds bound (block_of most ds opened.head opened.done lead (scaled_by digits []))
 
-      led_rows : (bound : Bound) → RowsWithin ds (rows_in led) bound
+      led_rows : (bound : Bound) → RowsWithin ds (rows_in (block_of most ds opened.head opened.done lead (scaled_by digits []))) bound
       led_rows bound =
           subst (λ rs. RowsWithin ds rs bound) (sym (append-nil (rows_of opened.done.tokens)) ∙ sym (rows_are opened.head.claim opened.head.denominator opened.done.tokens lead (scaled_by digits []))) (opened.have.keep bound)
 
-      stopped_large : IsNext lead opened.done.tokens → IsTrue (is_number digits) → line ∷ [] ≡ lead_lines lead (scaled_by digits []) → flaw ≡ NumberTooLarge → Stopped
-      stopped_large next number line_is large =
-          stopped_by_lead lead digits numbers next number line_is large (All-replicate LedKeeps 1 names (led_rows names))
+      stopped_lead : (bound : Bound) → flaw ≡ flaw_of bound → All LedKeeps (before bound) → Stopped
+      stopped_lead bound told keeps =
+          passes bound told
+          (subst (Begins (certificate_kind most ds) (before bound)) (ap₂ (λ (ls ms : List Line). ls ++ ms) (sym opened.are) (sym line_is))
+          (begin_lead most ds opened.head opened.done (before bound) lead (scaled_by digits []) opened.read next (record { scale = number; rows = All-nil (λ t. IsTrue (is_row t)) }) keeps))
 
-      stopped_many : IsNext lead opened.done.tokens → IsTrue (is_number digits) → line ∷ [] ≡ lead_lines lead (scaled_by digits []) → IsWithin integer_limit digits
-          → flaw ≡ TooMany row_limit → Stopped
-      stopped_many next number line_is within many =
-          let outside = lead_outside most ds opened.head opened.done lead (scaled_by digits []) within in
-          stopped_by_lead lead digits rows next number line_is many
-          (All-cons LedKeeps names (numbers ∷ words ∷ []) (led_rows names) (All-cons LedKeeps numbers (words ∷ []) (outside, led_rows numbers) (All-replicate LedKeeps 1 words (led_rows words))))
+      stopped_large : flaw ≡ NumberTooLarge → Stopped
+      stopped_large large = stopped_lead numbers large (All-replicate LedKeeps 1 names (led_rows names))
+
+      stopped_many : IsWithin integer_limit digits → flaw ≡ TooMany row_limit → Stopped
+      stopped_many within many =
+          stopped_lead rows many
+          (All-cons LedKeeps names (numbers ∷ words ∷ []) (led_rows names)
+          (All-cons LedKeeps numbers (words ∷ []) (lead_outside most ds opened.head opened.done lead (scaled_by digits []) within, led_rows numbers) (All-replicate LedKeeps 1 words (led_rows words))))
 
     pub stopped_goal : goal_scale_of line ≡ Err flaw → Stopped
     stopped_goal read = stopped_by (certificate_kind most ds) flaw _ (goal_unread line flaw read) (λ found. stopped_large None found.digits tt found.number (ap (λ l. l ∷ []) found.line_is) found.large)
 
-    stopped_past : IsLemmaPast (length o.lemmas) line flaw → Stopped
-    stopped_past found = by_past found.past
-      where
-        count : length opened.done.tokens ≡ length o.lemmas
-        count = zip_length (λ k lemma. IsScaledOf ds k.scaled lemma) opened.done.tokens o.lemmas opened.done.values
-
-        next : IsNext (Some found.number) opened.done.tokens
-        next = subst (λ n. IsTrue (is_value (n + 1) found.number)) (sym count) found.next
-
-        by_past : (flaw ≡ NumberTooLarge) ⊎ ((flaw ≡ TooMany row_limit) × IsWithin integer_limit found.digits) → Stopped
-        by_past (inl large) = stopped_large (Some found.number) found.digits next found.scale (ap (λ l. l ∷ []) found.line_is) large
-        by_past (inr many) = stopped_many (Some found.number) found.digits next found.scale (ap (λ l. l ∷ []) found.line_is) many.1 many.0
-
     pub stopped_lemma : lemma_scale_of (length o.lemmas) line ≡ Err flaw → Stopped
-    stopped_lemma read = stopped_by (certificate_kind most ds) flaw _ (lemma_unread (length o.lemmas) line flaw read) stopped_past
+    stopped_lemma read = stopped_by (certificate_kind most ds) flaw _ (lemma_unread (length o.lemmas) line flaw read) (λ found. by_past found found.past)
+      where
+        next : (found : IsLemmaPast (length o.lemmas) line flaw) → IsNext (Some found.number) opened.done.tokens
+        next found = subst (λ n. IsTrue (is_value (n + 1) found.number)) (sym (zip_length (λ k lemma. IsScaledOf ds k.scaled lemma) opened.done.tokens o.lemmas opened.done.values)) found.next
+
+        by_past : (found : IsLemmaPast (length o.lemmas) line flaw) → (flaw ≡ NumberTooLarge) ⊎ ((flaw ≡ TooMany row_limit) × IsWithin integer_limit found.digits) → Stopped
+        by_past found (inl large) = stopped_large (Some found.number) found.digits (next found) found.scale (ap (λ l. l ∷ []) found.line_is) large
+        by_past found (inr many) = stopped_many (Some found.number) found.digits (next found) found.scale (ap (λ l. l ∷ []) found.line_is) many.1 many.0

@@ -352,62 +352,50 @@ IsOpen most ds (at.Opened o) front = IsOpened most ds o front
 IsOpen most ds (at.Lemma o l) front = (number : List ℕ) × IsInside most ds o l (Some number) front
 IsOpen most ds (at.Goal o goal) front = IsInside most ds o goal None front
 
--- and the blocks that continue it
-begin_shorter : (most : Format) (ds : List Declaration) (within : List Bound) (front behind : List Line) → Begins (certificate_kind most ds) within (front ++ behind) → Begins (certificate_kind most ds) within front
-begin_shorter most ds within front behind begin = record {
-  tree = begin.tree;
-  more = behind ++ begin.more;
-  are = begin.are ∙ append_assoc front behind begin.more;
-  is_tree = begin.is_tree;
-  keeps = begin.keeps;
-}
-
--- the shortest certificate
+-- and the blocks that continue it: the shortest certificate, and its lines after the denominator
 abbrev pub shortest : Format → List ℕ → List ℕ → BlockTokens
 shortest Plain claim denominator = plain (record { claim = claim; denominator = denominator; rows = [] })
 shortest Lemmas claim denominator = lemmas (with_goal claim denominator [] [] unit_goal)
 
+abbrev rest_of : Format → List Line
+rest_of Plain = []
+rest_of Lemmas = goal_lines unit_goal
+
 module _ (most : Format) (ds : List Declaration) where
-  pub shortest_keeps : (form : Format) (claim denominator : List ℕ) → IsWithin number_limit claim → IsWithin integer_limit denominator → (bound : Bound) → KeepsOne ds bound (shortest form claim denominator)
+  shortest_lines : (form : Format) (claim denominator : List ℕ) → certificate_lines (shortest form claim denominator) ≡ head_line form ∷ claim_line claim ∷ denominator_line denominator ∷ rest_of form
+  shortest_lines Plain claim denominator = refl
+  shortest_lines Lemmas claim denominator = refl
+
+  shortest_block : (form : Format) (claim denominator : List ℕ) → IsRead most form → IsTrue (is_number claim) → IsTrue (is_number denominator) → IsBlock most (shortest form claim denominator)
+  shortest_block Plain claim denominator read n d = record { claim = n; denominator = d; rows = All-nil IsPlainRow }
+  shortest_block Lemmas claim denominator read n d = lemmas_block most _ read (record { claim = n; denominator = d; lemmas = tt; goal = unit_scaled })
+
+  shortest_keeps : (form : Format) (claim denominator : List ℕ) → IsWithin number_limit claim → IsWithin integer_limit denominator → (bound : Bound) → KeepsOne ds bound (shortest form claim denominator)
   shortest_keeps Plain claim denominator n d bound = keeps_one ds (shortest Plain claim denominator) (n, d) (omega arith) bound (no_rows_keep ds bound)
   shortest_keeps Lemmas claim denominator n d bound =
       keeps_one ds (shortest Lemmas claim denominator) (n, d, All-nil (λ (l : LemmaTokens). IsWithin integer_limit l.scaled.scale), unit_within) (omega arith) bound (no_rows_keep ds bound)
 
-  pub begin_shortest : (form : Format) (claim denominator : List ℕ) (within : List Bound) → IsRead most form → IsTrue (is_number claim) → IsTrue (is_number denominator)
-      → All (λ bound. KeepsOne ds bound (shortest form claim denominator)) within → Begins (certificate_kind most ds) within (head_line form ∷ claim_line claim ∷ denominator_line denominator ∷ [])
-  begin_shortest Plain claim denominator within read n d keeps = record {
-    tree = shortest Plain claim denominator;
-    more = [];
-    are = refl;
-    is_tree = record { claim = n; denominator = d; rows = All-nil IsPlainRow };
-    keeps = keeps;
-  }
-  begin_shortest Lemmas claim denominator within read n d keeps = record {
-    tree = shortest Lemmas claim denominator;
-    more = goal_lines unit_goal;
-    are = refl;
-    is_tree = lemmas_block most (with_goal claim denominator [] [] unit_goal) read (record { claim = n; denominator = d; lemmas = tt; goal = unit_scaled });
-    keeps = keeps;
-  }
+  module _ (form : Format) (claim denominator : List ℕ) (front more : List Line) (are : front ++ more ≡ head_line form ∷ claim_line claim ∷ denominator_line denominator ∷ []) (read : IsRead most form)
+      (n : IsTrue (is_number claim)) (d : IsTrue (is_number denominator)) where
+    pub begin_shortest : (within : List Bound) → All (λ bound. KeepsOne ds bound (shortest form claim denominator)) within → Begins (certificate_kind most ds) within front
+    begin_shortest within keeps = record {
+      tree = shortest form claim denominator;
+      more = more ++ rest_of form;
+      are = shortest_lines form claim denominator ∙ ap (λ ls. ls ++ rest_of form) (sym are) ∙ append_assoc front more (rest_of form);
+      is_tree = shortest_block form claim denominator read n d;
+      keeps = keeps;
+    }
 
-  pub begin_claimed : (form : Format) (claim : List ℕ) (within : List Bound) → IsRead most form → IsTrue (is_number claim)
-      → All (λ bound. KeepsOne ds bound (shortest form claim (codes "1"))) within → Begins (certificate_kind most ds) within (head_line form ∷ claim_line claim ∷ [])
-  begin_claimed form claim within read n keeps =
-      begin_shorter most ds within (head_line form ∷ claim_line claim ∷ []) (denominator_line (codes "1") ∷ []) (begin_shortest form claim (codes "1") within read n refl keeps)
-
-  pub begin_headed : (form : Format) (within : List Bound) → IsRead most form → Begins (certificate_kind most ds) within (head_line form ∷ [])
-  begin_headed form within read =
-      begin_shorter most ds within (head_line form ∷ []) (claim_line (codes "1") ∷ []) (begin_claimed form (codes "1") within read refl
-      (everywhere (λ bound. KeepsOne ds bound (shortest form (codes "1") (codes "1"))) (shortest_keeps form (codes "1") (codes "1") (1, refl) unit_within) within))
+    pub begin_within : IsWithin number_limit claim → IsWithin integer_limit denominator → Begins (certificate_kind most ds) bounds front
+    begin_within claim_within denominator_within =
+        begin_shortest bounds (everywhere (λ bound. KeepsOne ds bound (shortest form claim denominator)) (shortest_keeps form claim denominator claim_within denominator_within) bounds)
 
   pub begin_opened : (o : Opened) (front : List Line) → IsOpened most ds o front → Begins (certificate_kind most ds) bounds front
-  begin_opened o front opened =
-      subst (Begins (certificate_kind most ds) bounds) (sym opened.are)
-      (begin_shorter most ds bounds (front_of most ds opened.head opened.done) (goal_lines unit_goal)
-      (begin_lead most ds opened.head opened.done bounds None unit_goal opened.read tt unit_scaled
-      (everywhere (λ bound. KeepsOne ds bound (block_of most ds opened.head opened.done None unit_goal)) keeps bounds)))
-    where
-      keeps : (bound : Bound) → KeepsOne ds bound (block_of most ds opened.head opened.done None unit_goal)
-      keeps bound =
-          lead_keeps most ds opened.head opened.done None unit_goal opened.few unit_within bound
-          (subst (λ rs. RowsWithin ds rs bound) (sym (append-nil (rows_of opened.done.tokens))) (opened.have.keep bound))
+  begin_opened o front opened = record {
+    tree = block_of most ds opened.head opened.done None unit_goal;
+    more = goal_lines unit_goal;
+    are = ap (λ ls. ls ++ goal_lines unit_goal) (sym opened.are);
+    is_tree = lead_block most ds opened.head opened.done None unit_goal opened.read tt unit_scaled;
+    keeps = everywhere (λ bound. KeepsOne ds bound (block_of most ds opened.head opened.done None unit_goal)) (λ bound. lead_keeps most ds opened.head opened.done None unit_goal opened.few unit_within bound
+        (subst (λ rs. RowsWithin ds rs bound) (sym (append-nil (rows_of opened.done.tokens))) (opened.have.keep bound))) bounds;
+  }

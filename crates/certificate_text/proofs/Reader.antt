@@ -8,22 +8,21 @@ use Rattle.traced_rows.specs.declared.evidence.Format.{Format}
 use Rattle.traced_rows.specs.declared.evidence.Format.TheVariants.{Plain, Lemmas}
 use Rattle.block_text.specs.declared.fault.Flaw.{Flaw}
 use Rattle.block_text.specs.declared.fault.Flaw.TheVariants.{BadLine}
-use Rattle.block_text.specs.Lines.{Line, begins, claim_of}
+use Rattle.block_text.specs.Lines.{Line, claim_line, begins, claim_of}
 use Rattle.block_text.specs.Blocks.{is_other_head}
 use Rattle.block_text.proofs.Bounds.{bound_of}
 use Rattle.block_text.proofs.Owed.{Begins, IsWhole, IsStopped, misfit, IsReader}
 use Rattle.block_text.proofs.Zips.{AllZip-weaker}
 use Rattle.block_text.specs.Fault.{◌>>=◌}
 use Rattle.block_text.proofs.Results.{by_test, bind_assoc, ok_has}
-use Rattle.block_text.proofs.Standing.{everywhere}
 use Rattle.certificate_text.specs.declared.place.Size.{Size}
 use Rattle.certificate_text.specs.declared.place.Opened.{Opened}
 use Rattle.certificate_text.specs.declared.place.Stage.{Stage}
 use Rattle.certificate_text.specs.declared.place.Stage.TheVariants as at
 use Rattle.certificate_text.specs.Lines.{RowTokens, is_plain_head, is_lemmas_head, denominator_of, goal_scale_of, lemma_scale_of, row_values, lemma_row_of, grown}
 use Rattle.traced_rows.specs.declared.certificate.CertRow.{CertRow}
-use Rattle.certificate_text.specs.Blocks.{lemmas, head_line}
-use Rattle.certificate_text.specs.Bounds.{Bound, names, bounds, flaw_of, KeepsOne}
+use Rattle.certificate_text.specs.Blocks.{denominator_line, lemmas, head_line}
+use Rattle.certificate_text.specs.Bounds.{Bound, names, bounds, flaw_of}
 use Rattle.certificate_text.specs.Evidence.{other_words, certificate_kind}
 use Rattle.certificate_text.specs.Reading.{lemmas_headed, begin, begun, certificate_of, lemma_of, closed_by, resized, scaled, lemma_row, next, finish, lemma_certificate_of, certificate_steps}
 use Rattle.certificate_text.proofs.BlockLines.{block_meets}
@@ -31,7 +30,7 @@ use Rattle.certificate_text.proofs.FlawedLines.{stopped_headed, stopped_claimed,
 use Rattle.certificate_text.proofs.LineTrees.{plain_head_is, lemmas_head_is}
 use Rattle.certificate_text.proofs.NextLines.{IsRowJudged, unfit, halts, grows, row_judged, lemma_row_judged, next_headed, next_claimed, next_goal, next_lemma, lemma_finished}
 use Rattle.certificate_text.proofs.OneCertificate.{same_certificate}
-use Rattle.certificate_text.proofs.OpenBlocks.{IsMadeBy, RowPlace, HasRows, rows_begin, rows_end, rows_more, rows_stop, plain_row, Lead, lemmas_read, IsOpened, IsInside, IsOpen, begin_headed, begin_claimed, begin_opened, shortest, shortest_keeps, unit_within}
+use Rattle.certificate_text.proofs.OpenBlocks.{IsMadeBy, RowPlace, HasRows, rows_begin, rows_end, rows_more, rows_stop, plain_row, Lead, lemmas_read, IsOpened, IsInside, IsOpen, begin_within, begin_opened, unit_within}
 
 ok_again : {A F : Type 0} (r : Result A F) → r ≡ (r >>= λ x. Ok x)
 ok_again (Ok x) = refl
@@ -121,10 +120,10 @@ module _ (most : Format) (ds : List Declaration) where
     stops_at s f made (stopped g e stops) = let same : g ≡ f = cc in subst (λ h. IsStopped (certificate_kind most ds) h (front ++ line ∷ [])) same stops
 
   goes_on : (s : Stage) (front : List Line) → IsOpen most ds s front → Begins (certificate_kind most ds) bounds front
-  goes_on (at.Headed form) front is_open = subst (Begins (certificate_kind most ds) bounds) (sym is_open.are) (begin_headed most ds form bounds is_open.read)
+  goes_on (at.Headed form) front is_open =
+      begin_within most ds form (codes "1") (codes "1") front (claim_line (codes "1") ∷ denominator_line (codes "1") ∷ []) (ap (λ ls. ls ++ claim_line (codes "1") ∷ denominator_line (codes "1") ∷ []) is_open.are) is_open.read refl refl (1, refl) unit_within
   goes_on (at.Claimed form n) front is_open =
-      subst (Begins (certificate_kind most ds) bounds) (sym is_open.are) (begin_claimed most ds form is_open.claim bounds is_open.read is_open.claim_number
-      (everywhere (λ (bound : Bound). KeepsOne ds bound (shortest form is_open.claim (codes "1"))) (shortest_keeps most ds form is_open.claim (codes "1") (n, is_open.claim_value) unit_within) bounds))
+      begin_within most ds form is_open.claim (codes "1") front (denominator_line (codes "1") ∷ []) (ap (λ ls. ls ++ denominator_line (codes "1") ∷ []) is_open.are) is_open.read is_open.claim_number refl (n, is_open.claim_value) unit_within
   goes_on (at.Rows c size) front is_open = rows_begin _ is_open.1
   goes_on (at.Opened o) front is_open = begin_opened most ds o front is_open
   goes_on (at.Lemma o l) front is_open = rows_begin _ is_open.1.1
