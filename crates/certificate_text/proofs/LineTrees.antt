@@ -47,32 +47,20 @@ row_end_is coefficient left lemma number right [] r read = (refl, cc)
 row_end_is coefficient left lemma number right (token ∷ behind) r read = absurd (cc)
 
 -- the tokens after the first bracket, without `lemma`, are those of a row
-record IsOrigin (coefficient : List ℕ) (left : Line) (lemma : Bool) (tokens : Line) (r : RowTokens) : Type 0 where
-  number : List ℕ
-  right : Line
-  same : made coefficient left lemma number right ≡ r
-  tokens_are : tokens ≡ number ∷ codes "(" ∷ (right ++ codes ")" ∷ [])
-
-number_part_is : (coefficient : List ℕ) (left : Line) (lemma : Bool) (tokens : Line) (r : RowTokens) → number_part coefficient left lemma tokens ≡ Some r → IsOrigin coefficient left lemma tokens r
+number_part_is : (coefficient : List ℕ) (left : Line) (lemma : Bool) (tokens : Line) (r : RowTokens) → number_part coefficient left lemma tokens ≡ Some r
+    → (number : List ℕ) × (right : Line) × (made coefficient left lemma number right ≡ r) × (tokens ≡ number ∷ codes "(" ∷ (right ++ codes ")" ∷ []))
 number_part_is coefficient left lemma [] r read = absurd (cc)
 number_part_is coefficient left lemma (number ∷ tokens) r read =
     option_and_then_some (λ (right : Parts). row_end coefficient left lemma number right.0 right.1) (bracketed tokens) r read (λ right found ended.
     let end = row_end_is coefficient left lemma number right.0 right.1 r ended in
-    record {
-      number = number;
-      right = right.0;
-      same = end.1;
-      tokens_are = ap (λ ts. number ∷ ts) (bracketed_is tokens right found ∙ ap (λ (behind : Line). codes "(" ∷ (right.0 ++ codes ")" ∷ behind)) end.0);
-    })
+    (number, right.0, end.1, ap (λ ts. number ∷ ts) (bracketed_is tokens right found ∙ ap (λ (behind : Line). codes "(" ∷ (right.0 ++ codes ")" ∷ behind)) end.0)))
 
 -- the line of the row after the first bracket
 abbrev origin_line : RowTokens → Line
 origin_line r = origin_tokens r ++ (codes "(" ∷ (r.right ++ codes ")" ∷ []))
 
-record IsBehind (coefficient : List ℕ) (left tokens : Line) (r : RowTokens) : Type 0 where
-  coefficient_is : r.coefficient ≡ coefficient
-  left_is : r.left ≡ left
-  tokens_are : tokens ≡ origin_line r
+abbrev IsBehind : List ℕ → Line → Line → RowTokens → Type 0
+IsBehind coefficient left tokens r = (r.coefficient ≡ coefficient) × (r.left ≡ left) × (tokens ≡ origin_line r)
 
 behind_is : (coefficient : List ℕ) (left tokens : Line) (r : RowTokens) → origin_part coefficient left tokens ≡ Some r → IsBehind coefficient left tokens r
 behind_is coefficient left [] r read = absurd (cc)
@@ -80,11 +68,9 @@ behind_is coefficient left (word ∷ tokens) r read =
     by_test (is (codes "lemma") word) _ _ (Some r) read
     (λ there read_on.
     let origin = number_part_is coefficient left true tokens r read_on in
-    subst (IsBehind coefficient left (word ∷ tokens)) origin.same
-    (record { coefficient_is = refl; left_is = refl; tokens_are = ap₂ (λ t ts. t ∷ ts) (is_word (codes "lemma") word there) origin.tokens_are }))
+    subst (IsBehind coefficient left (word ∷ tokens)) origin.2 (refl, refl, ap₂ (λ t ts. t ∷ ts) (is_word (codes "lemma") word there) origin.3))
     (λ absent read_on.
-    let origin = number_part_is coefficient left false (word ∷ tokens) r read_on in
-    subst (IsBehind coefficient left (word ∷ tokens)) origin.same (record { coefficient_is = refl; left_is = refl; tokens_are = origin.tokens_are }))
+    let origin = number_part_is coefficient left false (word ∷ tokens) r read_on in subst (IsBehind coefficient left (word ∷ tokens)) origin.2 (refl, refl, origin.3))
 
 parts_are : (line : Line) (r : RowTokens) → row_parts line ≡ Some r → line ≡ row_line r
 parts_are [] r read = absurd (cc)
@@ -93,9 +79,8 @@ parts_are (word ∷ coefficient ∷ tokens) r read =
     let found = cond_option (is (codes "row") word) (option_and_then (λ (left : Parts). origin_part coefficient left.0 left.1) (bracketed tokens)) r read in
     option_and_then_some (λ (left : Parts). origin_part coefficient left.0 left.1) (bracketed tokens) r found.1 (λ left there rest.
     let behind = behind_is coefficient left.0 left.1 r rest in
-    let bracket : tokens ≡ codes "(" ∷ (r.left ++ codes ")" ∷ origin_line r) =
-    bracketed_is tokens left there ∙ ap₂ (λ (l ts : Line). codes "(" ∷ (l ++ codes ")" ∷ ts)) (sym behind.left_is) behind.tokens_are in
-    ap₂ (λ w (ts : Line). w ∷ ts) (is_word (codes "row") word found.0) (ap₂ (λ (c : List ℕ) (ts : Line). c ∷ ts) (sym behind.coefficient_is) bracket))
+    let bracket : tokens ≡ codes "(" ∷ (r.left ++ codes ")" ∷ origin_line r) = bracketed_is tokens left there ∙ ap₂ (λ (l ts : Line). codes "(" ∷ (l ++ codes ")" ∷ ts)) (sym behind.1) behind.2 in
+    ap₂ (λ w (ts : Line). w ∷ ts) (is_word (codes "row") word found.0) (ap₂ (λ (c : List ℕ) (ts : Line). c ∷ ts) (sym behind.0) bracket))
 
 -- the line of a row over generators
 pub plain_row_is : (line : Line) (r : RowTokens) → row_tokens Plain line ≡ Some r → (line ≡ row_line r) × IsTrue (is_row r) × (r.lemma ≡ false)

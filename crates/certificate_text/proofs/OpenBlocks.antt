@@ -43,9 +43,6 @@ IsRead most Plain = ⊤
 IsRead Plain Lemmas = ⊥
 IsRead Lemmas Lemmas = ⊤
 
-pub lemmas_read : (most : Format) → most ≡ Lemmas → IsRead most Lemmas
-lemmas_read most same = subst (λ form. IsRead form Lemmas) (sym same) tt
-
 lemmas_block : (most : Format) (b : LemmasTokens) → IsRead most Lemmas → IsLemmasBlock b → IsBlock most (lemmas b)
 lemmas_block Plain b read is_block = read
 lemmas_block Lemmas b read is_block = is_block

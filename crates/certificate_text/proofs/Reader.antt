@@ -30,7 +30,7 @@ use Rattle.certificate_text.proofs.FlawedLines.{stopped_headed, stopped_claimed,
 use Rattle.certificate_text.proofs.LineTrees.{plain_head_is, lemmas_head_is}
 use Rattle.certificate_text.proofs.NextLines.{IsRowJudged, unfit, halts, grows, row_judged, lemma_row_judged, next_headed, next_claimed, next_goal, next_lemma, lemma_finished}
 use Rattle.certificate_text.proofs.OneCertificate.{same_certificate}
-use Rattle.certificate_text.proofs.OpenBlocks.{IsMadeBy, RowPlace, HasRows, rows_begin, rows_end, rows_more, rows_stop, plain_row, Lead, lemmas_read, IsOpened, IsInside, IsOpen, begin_within, begin_opened, unit_within}
+use Rattle.certificate_text.proofs.OpenBlocks.{IsMadeBy, RowPlace, HasRows, rows_begin, rows_end, rows_more, rows_stop, plain_row, Lead, IsRead, IsOpened, IsInside, IsOpen, begin_within, begin_opened, unit_within}
 
 ok_again : {A F : Type 0} (r : Result A F) → r ≡ (r >>= λ x. Ok x)
 ok_again (Ok x) = refl
@@ -41,31 +41,24 @@ told : (b : Bound) → bound_of flaw_of bounds (flaw_of b) ≡ Some b
 told names = refl
 told b = refl
 
--- a head of format 1, or one of format 2 where that is read
-pub data IsHeadOf (most : Format) (line : Line) (s : Stage) : Type 0 where
-  of_plain : line ≡ head_line Plain → s ≡ at.Headed Plain → IsHeadOf most line s
-  of_lemmas : line ≡ head_line Lemmas → most ≡ Lemmas → s ≡ at.Headed Lemmas → IsHeadOf most line s
+-- no head is one of a block of another kind
+no_other : (form : Format) → is_other_head other_words (head_line form) ≡ false
+no_other Plain = refl
+no_other Lemmas = refl
 
-lemmas_by : (form most : Format) (line : Line) (s : Stage) → most ≡ form → line ≡ head_line Lemmas → lemmas_headed form ≡ Some s → IsHeadOf most line s
-lemmas_by Plain most line s same is read = absurd (cc)
-lemmas_by Lemmas most line s same is read = of_lemmas is same (let found : at.Headed Lemmas ≡ s = cc in sym found)
-
-head_by : (most : Format) (line : Line) (s : Stage) → begin most line ≡ Some s → IsHeadOf most line s
-head_by most line s read =
-    by_test (is_plain_head line) _ _ (Some s) read (λ is made. of_plain (plain_head_is line is) (let found : at.Headed Plain ≡ s = cc in sym found)) (λ no_plain read_lemmas.
-    by_test (is_lemmas_head line) _ _ (Some s) read_lemmas (λ is made. lemmas_by most most line s refl (lemmas_head_is line is) made) (λ no_lemmas made. absurd (cc)))
-
-no_other_by : (most : Format) (line : Line) (s : Stage) → IsHeadOf most line s → is_other_head other_words line ≡ false
-no_other_by most line s (of_plain is same) = rw is refl
-no_other_by most line s (of_lemmas is form same) = rw is refl
+-- where format 2 is read
+lemmas_by : (most : Format) (s : Stage) → lemmas_headed most ≡ Some s → IsRead most Lemmas × (at.Headed Lemmas ≡ s)
+lemmas_by Plain s made = absurd (cc)
+lemmas_by Lemmas s made = (tt, cc)
 
 module _ (most : Format) (ds : List Declaration) where
-  begins_by : (line : Line) (s : Stage) → IsHeadOf most line s → IsOpen most ds s (line ∷ [])
-  begins_by line s (of_plain is same) = subst (λ (t : Stage). IsOpen most ds t (line ∷ [])) (sym same) (record { read = tt; are = ap (λ l. l ∷ []) is })
-  begins_by line s (of_lemmas is form same) = subst (λ (t : Stage). IsOpen most ds t (line ∷ [])) (sym same) (record { read = lemmas_read most form; are = ap (λ l. l ∷ []) is })
+  headed : (form : Format) (line : Line) (s : Stage) → line ≡ head_line form → IsRead most form → at.Headed form ≡ s → (is_other_head other_words line ≡ false) × IsOpen most ds s (line ∷ [])
+  headed form line s is read same = (rw is (no_other form), subst (λ (t : Stage). IsOpen most ds t (line ∷ [])) same (record { read = read; are = ap (λ l. l ∷ []) is }))
 
   begins_head : (line : Line) (s : Stage) → begin most line ≡ Some s → (is_other_head other_words line ≡ false) × IsOpen most ds s (line ∷ [])
-  begins_head line s read = let head = head_by most line s read in (no_other_by most line s head, begins_by line s head)
+  begins_head line s made =
+      by_test (is_plain_head line) _ _ (Some s) made (λ is same. headed Plain line s (plain_head_is line is) tt (cc)) (λ no_plain made_on.
+      by_test (is_lemmas_head line) _ _ (Some s) made_on (λ is same. let found = lemmas_by most s same in headed Lemmas line s (lemmas_head_is line is) found.0 found.1) (λ no_lemmas none. absurd (cc)))
 
   module _ (front : List Line) (line : Line) where
     -- what is made of the line: the next place, or the first flaw
