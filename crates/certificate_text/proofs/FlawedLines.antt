@@ -23,9 +23,9 @@ use Rattle.block_text.proofs.SaidLines.{number_unsaid}
 use Rattle.certificate_text.proofs.LineTrees.{lemma_is, goal_is}
 use Rattle.certificate_text.proofs.RowTrees.{before, RowsWithin, Pass, HaveSize, integer_is_within}
 use Rattle.block_text.proofs.Zips.{zip_length}
-use Rattle.block_text.proofs.Owed.{Begins, IsStopped, passes, stopped_by}
+use Rattle.block_text.proofs.Owed.{IsStopped, passes, stopped_by}
 use Rattle.certificate_text.specs.Evidence.{certificate_kind}
-use Rattle.certificate_text.proofs.OpenBlocks.{block_of, lead_outside, begin_lead, scaled_by, lemma_made, IsHeaded, IsClaimed, IsOpened, Lead, lead_lines, IsNext, rows_of, rows_are, begin_shortest, shortest}
+use Rattle.certificate_text.proofs.OpenBlocks.{block_of, lead_outside, lead_block, lines_are, more_lines, scaled_by, lemma_made, IsHeaded, IsClaimed, IsOpened, Lead, lead_lines, IsNext, rows_of, rows_are, begin_shortest, shortest}
 use Rattle.certificate_text.proofs.NextLines.{behind, IsRowJudged, unfit, halts, grows, lemma_row_judged, integer_in}
 
 pub too_large : (digits : List ℕ) (flaw : Flaw) → integer_of digits ≡ Err flaw → flaw ≡ NumberTooLarge
@@ -114,9 +114,16 @@ module _ (most : Format) (ds : List Declaration) (flaw : Flaw) (front : List Lin
 
       stopped_lead : (bound : Bound) → flaw ≡ flaw_of bound → All LedKeeps (before bound) → Stopped
       stopped_lead bound told keeps =
-          passes bound told
-          (subst (Begins (certificate_kind most ds) (before bound)) (ap₂ (λ (ls ms : List Line). ls ++ ms) (sym opened.are) (sym line_is))
-          (begin_lead most ds opened.head opened.done (before bound) lead (scaled_by digits []) opened.read next (record { scale = number; rows = All-nil (λ t. IsTrue (is_row t)) }) keeps))
+          let more = more_lines opened.head.claim opened.head.denominator opened.done.tokens lead in
+          passes bound told (record {
+            tree = block_of most ds opened.head opened.done lead (scaled_by digits []);
+            more = more;
+            are =
+                lines_are opened.head.claim opened.head.denominator opened.done.tokens lead (scaled_by digits [])
+                ∙ ap (λ ls. ls ++ more) (ap₂ (λ (ls ms : List Line). ls ++ ms) (sym opened.are) (sym line_is));
+            is_tree = lead_block most ds opened.head opened.done lead (scaled_by digits []) opened.read next (record { scale = number; rows = All-nil (λ t. IsTrue (is_row t)) });
+            keeps = keeps;
+          })
 
       stopped_large : flaw ≡ NumberTooLarge → Stopped
       stopped_large large = stopped_lead numbers large (All-replicate LedKeeps 1 names (led_rows names))

@@ -81,35 +81,35 @@ next_headed most form front line n headed read =
       are = behind front (head_line form ∷ []) line (claim_line known.0.digits) headed.are known.0.is;
     }
 
+-- after the denominator
+module _ {most form : Format} {n : ℕ} {front : List Line} (here : IsClaimed most form n front) {line : Line} {d : ℤ} (known : (found : IsNumberLine (codes "denominator") line) × (integer_in found.digits ≡ Some d)) where
+  abbrev head_with : IsHead n d
+  head_with = record {
+    claim = here.claim;
+    denominator = known.0.digits;
+    claim_number = here.claim_number;
+    denominator_number = known.0.number;
+    claim_value = here.claim_value;
+    denominator_value = ap (asked NumberTooLarge) known.1;
+  }
+
+  front_with : front ++ line ∷ [] ≡ head_line form ∷ claim_line here.claim ∷ denominator_line known.0.digits ∷ []
+  front_with = behind front (head_line form ∷ claim_line here.claim ∷ []) line (denominator_line known.0.digits) here.are known.0.is
+
 pub next_claimed : (most : Format) (ds : List Declaration) (form : Format) (front : List Line) (line : Line) (n : ℕ) (d : ℤ) → IsClaimed most form n front → denominator_of line ≡ Ok d
     → IsOpen most ds (begun form n d) (front ++ line ∷ [])
-next_claimed most ds form front line n d claimed read = by_form form claimed
-  where
-    known : (found : IsNumberLine (codes "denominator") line) × (integer_in found.digits ≡ Some d)
-    known = number_said (codes "denominator") integer_in line d read
-
-    head : {form : Format} → IsClaimed most form n front → IsHead n d
-    head here = record {
-      claim = here.claim;
-      denominator = known.0.digits;
-      claim_number = here.claim_number;
-      denominator_number = known.0.number;
-      claim_value = here.claim_value;
-      denominator_value = ap (asked NumberTooLarge) known.1;
-    }
-
-    are : {form : Format} (here : IsClaimed most form n front) → front ++ line ∷ [] ≡ head_line form ∷ claim_line here.claim ∷ denominator_line known.0.digits ∷ []
-    are {form} here = behind front (head_line form ∷ claim_line here.claim ∷ []) line (denominator_line known.0.digits) here.are known.0.is
-
-    by_form : (form : Format) → IsClaimed most form n front → IsOpen most ds (begun form n d) (front ++ line ∷ [])
-    by_form Plain here = (head here, record { tokens = []; each = All-nil IsPlainRow; say = tt; have = no_rows_size ds; are = are here })
-    by_form Lemmas here = record {
+next_claimed most ds Plain front line n d here read =
+    let known = number_said (codes "denominator") integer_in line d read in
+    (head_with here known, record { tokens = []; each = All-nil IsPlainRow; say = tt; have = no_rows_size ds; are = front_with here known })
+next_claimed most ds Lemmas front line n d here read =
+    let known = number_said (codes "denominator") integer_in line d read in
+    record {
       read = here.read;
-      head = head here;
+      head = head_with here known;
       done = record { tokens = []; numbered = tt; scales = All-nil (λ (l : LemmaTokens). IsWithin integer_limit l.scaled.scale); values = tt };
       few = omega arith;
       have = no_rows_size ds;
-      are = are here;
+      are = front_with here known;
     }
 
 -- the lines of rows with one more row

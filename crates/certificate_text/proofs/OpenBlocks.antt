@@ -248,17 +248,6 @@ module _ (most : Format) (ds : List Declaration) {n : ℕ} {z : ℤ} (head : IsH
     unit_within,
   )
 
-  -- the block begins with these lines
-  pub begin_lead : (within : List Bound) (lead : Lead) (s : ScaledTokens) → IsRead most Lemmas → IsNext lead done.tokens → IsScaled s → All (λ bound. KeepsOne ds bound (block_of lead s)) within
-      → Begins (certificate_kind most ds) within (front_of ++ lead_lines lead s)
-  begin_lead within lead s read next scaled keeps = record {
-    tree = block_of lead s;
-    more = more_lines head.claim head.denominator done.tokens lead;
-    are = lines_are head.claim head.denominator done.tokens lead s;
-    is_tree = lead_block lead s read next scaled;
-    keeps = keeps;
-  }
-
   pub lead_keeps : (lead : Lead) (s : ScaledTokens) → IsFew lead done.tokens → IsWithin integer_limit s.scale → (bound : Bound) → RowsWithin ds (rows_of done.tokens ++ s.rows) bound → KeepsOne ds bound (block_of lead s)
   lead_keeps lead s few scale bound keep =
       keeps_one ds (block_of lead s) (lead_outside lead s scale) (few_lemmas head.claim head.denominator done.tokens lead s few) bound
