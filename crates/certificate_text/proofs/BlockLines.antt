@@ -31,8 +31,8 @@ use Rattle.block_text.proofs.Owed.{read_inside, read_block, read_inside-run}
 use Rattle.block_text.proofs.Meets.{Meets, reads, then_meets, meets-weaker, asked_meets, unless_meets}
 use Rattle.block_text.proofs.Zips.{AllZip-weaker}
 use Rattle.certificate_text.proofs.RowLines.{row_line_read, lemma_row_line_read}
-use Rattle.certificate_text.proofs.OpenBlocks.{plain_row, lemma_made}
-use Rattle.certificate_text.proofs.RowValues.{RowsFit, with_rows, with_rows-append, rows_fit_parts, TakesRow, IsMadeOf, rows_meet}
+use Rattle.certificate_text.proofs.OpenBlocks.{IsMadeBy, plain_row, lemma_made}
+use Rattle.certificate_text.proofs.RowValues.{RowsFit, with_rows, with_rows-append, rows_fit_parts, TakesRow, rows_meet}
 
 -- a size, and the place after it
 size_steps : {S M E F : Type 0} (size : Result S F) (made : S → M) (behind : M → E) → ((size >>= λ s. Ok (made s)) >>= λ m. Ok (behind m)) ≡ (size >>= λ s. Ok (behind (made s)))
@@ -115,7 +115,7 @@ module _ (K : Bound → Type 0) where
           record {
             claim = k_is;
             denominator = z_is;
-            rows = AllZip-weaker (IsMadeOf (step ds) K ds (plain_place k z) plain_row) _ (λ r row made. rw made.2 made.1) b.rows read.rows read.are_made;
+            rows = AllZip-weaker (IsMadeBy ds plain_row) _ (λ r row made. rw made.2 made.1) b.rows read.rows read.are_made;
           },
         )))
 

@@ -112,16 +112,13 @@ next_claimed most ds Lemmas front line n d here read =
       are = front_with here known;
     }
 
--- the lines of rows with one more row
-pub rows_push : (rs : List RowTokens) (r : RowTokens) → map row_line (rs ++ r ∷ []) ≡ map row_line rs ++ row_line r ∷ []
-rows_push rs r = map-append row_line rs (r ∷ [])
-
+-- rows behind a scale with one more row
 abbrev pub scaled_push : ScaledTokens → RowTokens → ScaledTokens
 scaled_push s r = record { scale = s.scale; rows = s.rows ++ r ∷ [] }
 
 pub lead_lines-push : (lead : Lead) (s : ScaledTokens) (r : RowTokens) → lead_lines lead s ++ row_line r ∷ [] ≡ lead_lines lead (scaled_push s r)
-lead_lines-push None s r = ap (λ (ls : List Line). (codes "goal" ∷ codes "scale" ∷ s.scale ∷ []) ∷ ls) (sym (rows_push s.rows r))
-lead_lines-push (Some number) s r = ap (λ (ls : List Line). (codes "lemma" ∷ number ∷ codes "scale" ∷ s.scale ∷ []) ∷ ls) (sym (rows_push s.rows r))
+lead_lines-push None s r = ap (λ (ls : List Line). (codes "goal" ∷ codes "scale" ∷ s.scale ∷ []) ∷ ls) (sym (map-append row_line s.rows (r ∷ [])))
+lead_lines-push (Some number) s r = ap (λ (ls : List Line). (codes "lemma" ∷ number ∷ codes "scale" ∷ s.scale ∷ []) ∷ ls) (sym (map-append row_line s.rows (r ∷ [])))
 
 -- the same after other lines
 pub lead_push : (front : List Line) (lead : Lead) (s : ScaledTokens) (r : RowTokens) → (front ++ lead_lines lead s) ++ row_line r ∷ [] ≡ front ++ lead_lines lead (scaled_push s r)

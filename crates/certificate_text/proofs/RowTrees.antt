@@ -2,7 +2,7 @@
 use Rattle.std.proofs.Common.{◌≡◌, ◌<◌, ◌≤◌, ◌+◌, ℕ, ℤ, pos, suc, Bool, true, false, ◌||◌, List, [], ◌∷◌, ◌++◌, Option, Some, None, Result, Ok, Err, arith, refl, sym, ap, ◌∙◌, subst, length, nat_lt, nat_le, ltb-false, leb-false}
 use Rattle.std.specs.List.{All}
 use Rattle.std.specs.Option.{option_map}
-use Rattle.std.proofs.lemmas.Bool.{or_parts}
+use Rattle.std.proofs.lemmas.Bool.{or_parts, or_from, le-ltb, lt-leb}
 use Rattle.std.proofs.lemmas.List.{length-append}
 use Rattle.std.proofs.lemmas.List.Elements.{All-nil, All-cons, All-push, All-replicate}
 use Rattle.std.proofs.lemmas.Option.{option_and_then_some}
@@ -36,36 +36,36 @@ word_of-length ds (token ∷ tokens) w read =
     sym (ap length same) ∙ ap suc (word_of-length ds tokens v there)))
 
 -- what is made of the tokens of a row: values with words of these lengths, or the first flaw, of the names and then of the numbers
-data IsValued (ds : List Declaration) (r : RowTokens) (v : Result CertRow Flaw) : Type 0 where
+pub data IsValued (ds : List Declaration) (r : RowTokens) (v : Result CertRow Flaw) : Type 0 where
   valued : (row : CertRow) → v ≡ Ok row → HasNames ds r → HasNumbers r → length row.left ≡ length r.left → length row.right ≡ length r.right → IsValued ds r v
-  unknown : v ≡ Err UnknownName → IsValued ds r v
-  large : v ≡ Err NumberTooLarge → HasNames ds r → IsValued ds r v
+  unknown : v ≡ Err UnknownName → (HasNames ds r → ⊥) → IsValued ds r v
+  large : v ≡ Err NumberTooLarge → HasNames ds r → (HasNumbers r → ⊥) → IsValued ds r v
 
-is_valued : (ds : List Declaration) (r : RowTokens) → IsValued ds r (row_values ds r)
+pub is_valued : (ds : List Declaration) (r : RowTokens) → IsValued ds r (row_values ds r)
 is_valued ds r = by_values (word_of ds r.left) (word_of ds r.right) (integer_within integer_limit r.coefficient) (number_within number_limit r.number) refl refl refl refl
   where
     by_values : (left right : Option (List ℕ)) (coefficient : Option ℤ) (number : Option ℕ) → word_of ds r.left ≡ left → word_of ds r.right ≡ right → integer_within integer_limit r.coefficient ≡ coefficient
         → number_within number_limit r.number ≡ number → IsValued ds r (row_values ds r)
-    by_values None right coefficient number a b c d = unknown (rw a refl)
-    by_values (Some v) None coefficient number a b c d = unknown (rw (a, b) refl)
-    by_values (Some v) (Some w) None number a b c d = large (rw (a, b, c) refl) (record { left = (v, a); right = (w, b) })
-    by_values (Some v) (Some w) (Some z) None a b c d = large (rw (a, b, c, d) refl) (record { left = (v, a); right = (w, b) })
+    by_values None right coefficient number a b c d = unknown (rw a refl) (λ known. let there = known.left.1 in absurd (cc))
+    by_values (Some v) None coefficient number a b c d = unknown (rw (a, b) refl) (λ known. let there = known.right.1 in absurd (cc))
+    by_values (Some v) (Some w) None number a b c d = large (rw (a, b, c) refl) (record { left = (v, a); right = (w, b) }) (λ within. let there = within.coefficient.1 in absurd (cc))
+    by_values (Some v) (Some w) (Some z) None a b c d = large (rw (a, b, c, d) refl) (record { left = (v, a); right = (w, b) }) (λ within. let there = within.number.1 in absurd (cc))
     by_values (Some v) (Some w) (Some z) (Some n) a b c d =
         valued (record { coef = z; left = v; generator = n; right = w }) (rw (a, b, c, d) refl) (record { left = (v, a); right = (w, b) }) (record { coefficient = (z, c); number = (n, d) })
         (word_of-length ds r.left v a) (word_of-length ds r.right w b)
 
 -- the size with one more row, of words of these lengths, or the first bound that it passes
-record IsShort (left right : ℕ) : Type 0 where
-  short_left : left ≤ word_limit
-  short_right : right ≤ word_limit
+pub record IsShort (left right : ℕ) : Type 0 where
+  pub short_left : left ≤ word_limit
+  pub short_right : right ≤ word_limit
 
-data IsSized (size : Size) (left right : ℕ) (v : Result Size Flaw) : Type 0 where
+pub data IsSized (size : Size) (left right : ℕ) (v : Result Size Flaw) : Type 0 where
   fits : v ≡ Ok (record { rows = size.rows + 1; letters = size.letters + (left + right) }) → IsShort left right → size.rows < row_limit → size.letters + (left + right) ≤ letter_limit → IsSized size left right v
-  long : v ≡ Err (TooMany word_limit) → IsSized size left right v
-  many : v ≡ Err (TooMany row_limit) → IsShort left right → IsSized size left right v
-  crowded : v ≡ Err (TooMany letter_limit) → IsShort left right → size.rows < row_limit → IsSized size left right v
+  long : v ≡ Err (TooMany word_limit) → (IsShort left right → ⊥) → IsSized size left right v
+  many : v ≡ Err (TooMany row_limit) → IsShort left right → (size.rows < row_limit → ⊥) → IsSized size left right v
+  crowded : v ≡ Err (TooMany letter_limit) → IsShort left right → size.rows < row_limit → (size.letters + (left + right) ≤ letter_limit → ⊥) → IsSized size left right v
 
-is_sized : (size : Size) (left right : List ℕ) → IsSized size (length left) (length right) (grown size left right)
+pub is_sized : (size : Size) (left right : List ℕ) → IsSized size (length left) (length right) (grown size left right)
 is_sized size left right = by_tests _ _ _ refl refl refl
   where
     short : (nat_lt word_limit (length left) || nat_lt word_limit (length right)) ≡ false → IsShort (length left) (length right)
@@ -73,9 +73,9 @@ is_sized size left right = by_tests _ _ _ refl refl refl
 
     by_tests : (a b c : Bool) → (nat_lt word_limit (length left) || nat_lt word_limit (length right)) ≡ a → nat_le row_limit size.rows ≡ b → nat_lt letter_limit (size.letters + (length left + length right)) ≡ c
         → IsSized size (length left) (length right) (grown size left right)
-    by_tests true b c a_is b_is c_is = long (rw a_is refl)
-    by_tests false true c a_is b_is c_is = many (rw (a_is, b_is) refl) (short a_is)
-    by_tests false false true a_is b_is c_is = crowded (rw (a_is, b_is, c_is) refl) (short a_is) (leb-false row_limit size.rows b_is)
+    by_tests true b c a_is b_is c_is = long (rw a_is refl) (λ are. let none = or_from _ _ (le-ltb word_limit (length left) are.short_left) (le-ltb word_limit (length right) are.short_right) in absurd (cc))
+    by_tests false true c a_is b_is c_is = many (rw (a_is, b_is) refl) (short a_is) (λ few. let none = lt-leb row_limit size.rows few in absurd (cc))
+    by_tests false false true a_is b_is c_is = crowded (rw (a_is, b_is, c_is) refl) (short a_is) (leb-false row_limit size.rows b_is) (λ fit. let none = le-ltb letter_limit _ fit in absurd (cc))
     by_tests false false false a_is b_is c_is = fits (rw (a_is, b_is, c_is) refl) (short a_is) (leb-false row_limit size.rows b_is) (ltb-false letter_limit _ c_is)
 
 -- the rows keep the bound
@@ -132,8 +132,8 @@ module _ (ds : List Declaration) (size : Size) (rs : List RowTokens) (have : Hav
   is_added = by_values (is_valued ds r)
     where
       by_values : IsValued ds r (row_values ds r) → IsAdded (row_values ds r) (λ row. grown size row.left row.right)
-      by_values (unknown is) = unvalued UnknownName is (record { bound = names; flaw_is = refl; keep = All-nil Keeps })
-      by_values (large is known) = unvalued NumberTooLarge is (record { bound = numbers; flaw_is = refl; keep = All-replicate Keeps 1 names (names_push known) })
+      by_values (unknown is none) = unvalued UnknownName is (record { bound = names; flaw_is = refl; keep = All-nil Keeps })
+      by_values (large is known none) = unvalued NumberTooLarge is (record { bound = numbers; flaw_is = refl; keep = All-replicate Keeps 1 names (names_push known) })
       by_values (valued row is known within left right) = by_size (is_sized size row.left row.right)
         where
           before_words : All Keeps (before words)
@@ -146,9 +146,9 @@ module _ (ds : List Declaration) (size : Size) (rs : List RowTokens) (have : Hav
           before_rows short = All-push Keeps (before words) words before_words (with_words short)
 
           by_size : IsSized size (length row.left) (length row.right) (grown size row.left row.right) → IsAdded (row_values ds r) (λ row. grown size row.left row.right)
-          by_size (long e) = full row (TooMany word_limit) is e (record { bound = words; flaw_is = refl; keep = before_words })
-          by_size (many e short) = full row (TooMany row_limit) is e (record { bound = rows; flaw_is = refl; keep = before_rows short })
-          by_size (crowded e short few) =
+          by_size (long e none) = full row (TooMany word_limit) is e (record { bound = words; flaw_is = refl; keep = before_words })
+          by_size (many e short none) = full row (TooMany row_limit) is e (record { bound = rows; flaw_is = refl; keep = before_rows short })
+          by_size (crowded e short few none) =
               full row (TooMany letter_limit) is e (record { bound = letters; flaw_is = refl; keep = All-push Keeps (before rows) rows (before_rows short) (omega (arith, longer, have.count, few)) })
           by_size (fits e short few fit) = added row _ is e (record {
             keep = each;
