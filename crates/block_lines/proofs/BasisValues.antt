@@ -2,7 +2,7 @@
 use Rattle.std.proofs.Common.{◌≡◌, ◌≤◌, ℕ, List, [], ◌∷◌, arith, length, refl, ap, ap₂, subst, map}
 use Rattle.std.proofs.Props as std
 use Rattle.std.specs.List.{All, AllZip}
-use Rattle.std.proofs.lemmas.List.{length-map}
+use Rattle.std.proofs.lemmas.List.{length-map, get_or-map}
 use Rattle.std.proofs.lemmas.List.Elements.{All-nil, All-cons, All-head, All-tail, All-weaker}
 use Rattle.definitions.specs.Poly.{Poly as Terms}
 use Rattle.nc_polynomial.specs.declared.poly.Poly.{Poly}
@@ -110,8 +110,7 @@ module _ (ds : List Declaration) where
       record { rules = found.0; rest = found.1; few = omega (arith, count, (keeps rules).1.1 refl) }
 
   unmapped : {A B : Type 0} (P : B → Type 0) (f : A → B) (xs : List A) → All P (map f xs) → All (λ x. P (f x)) xs
-  unmapped P f [] each = All-nil (λ x. P (f x))
-  unmapped P f (x ∷ xs) each = All-cons (λ y. P (f y)) x xs (All-head P (f x) (map f xs) each) (unmapped P f xs (All-tail P (f x) (map f xs) each))
+  unmapped P f xs each k d below = subst P (get_or-map f xs k d (f d) below) (each k (f d) (omega (arith, length-map xs f, below)))
 
   -- the bases of a text
   pub are_canonical : (bytes : List ℕ) (vs : List BasisTerms) → IsBlocks (basis_kind ds) bytes vs → All AreCanonical vs

@@ -1,8 +1,8 @@
 -- The certificates that are read can be checked.
 use Rattle.std.proofs.Common.{◌≡◌, ◌≤◌, ◌+◌, ℕ, zero, suc, ℤ, pos, Bool, true, false, List, [], ◌∷◌, Some, Ok, arith, refl, sym, ap₂, ◌∙◌, subst, length, map, IfOk, Result}
 use Rattle.std.specs.List.{All, flat_map}
-use Rattle.std.proofs.lemmas.List.{length-append}
-use Rattle.std.proofs.lemmas.List.Elements.{All-nil, All-cons, All-head, All-tail}
+use Rattle.std.proofs.lemmas.List.{length-append, length-map, get_or-map}
+use Rattle.std.proofs.lemmas.List.Elements.{All-nil, All-cons}
 use Rattle.coef_int.specs.Range.{IsCoefficient}
 use Rattle.quiver.specs.Declarations.{Declaration}
 use Rattle.traced_rows.specs.declared.certificate.CertRow.{CertRow}
@@ -144,6 +144,4 @@ module _ (ds : List Declaration) where
 
 -- what holds of the blocks of format 1 holds of their certificates
 pub all_plain : (ds : List Declaration) (cs : List Certificate) → All (IsCheckableEvidence ds) (map block.Plain cs) → All (IsCheckable ds) cs
-all_plain ds [] each = All-nil (IsCheckable ds)
-all_plain ds (c ∷ cs) each =
-    All-cons (IsCheckable ds) c cs (All-head (IsCheckableEvidence ds) (block.Plain c) (map block.Plain cs) each) (all_plain ds cs (All-tail (IsCheckableEvidence ds) (block.Plain c) (map block.Plain cs) each))
+all_plain ds cs each k d below = subst (IsCheckableEvidence ds) (get_or-map block.Plain cs k d (block.Plain d) below) (each k (block.Plain d) (omega (arith, length-map cs block.Plain, below)))

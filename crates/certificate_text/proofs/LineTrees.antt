@@ -3,11 +3,12 @@ use Rattle.std.proofs.Common.{◌≡◌, ℕ, Bool, true, false, not, cond, ◌&
 use Rattle.std.specs.Option.{option_and_then}
 use Rattle.std.proofs.lemmas.Bool.{and_parts}
 use Rattle.std.proofs.lemmas.Option.{option_and_then_some, cond_some}
+use Rattle.traced_rows.specs.declared.evidence.Format.{Format}
 use Rattle.traced_rows.specs.declared.evidence.Format.TheVariants.{Plain, Lemmas}
 use Rattle.block_text.specs.Letters.{is_number}
 use Rattle.block_text.specs.Lines.{is, bracketed, Line}
 use Rattle.certificate_text.specs.Lines.{RowTokens, is_plain_head, is_lemmas_head, is_value, scale_digits, lemma_digits, goal_digits, row_end, number_part, origin_part, row_parts, is_row, row_tokens}
-use Rattle.certificate_text.specs.Blocks.{origin_tokens, row_line, head_line}
+use Rattle.certificate_text.specs.Blocks.{origin_tokens, row_line, head_line, IsPlainRow}
 use Rattle.block_text.proofs.Results.{by_test, cond_option}
 use Rattle.block_text.proofs.LineTrees.{Parts, is_word, pair_is, number_is, bracketed_is}
 
@@ -82,21 +83,22 @@ parts_are (word ∷ coefficient ∷ tokens) r read =
     let bracket : tokens ≡ codes "(" ∷ (r.left ++ codes ")" ∷ origin_line r) = bracketed_is tokens left there ∙ ap₂ (λ (l ts : Line). codes "(" ∷ (l ++ codes ")" ∷ ts)) (sym behind.1) behind.2 in
     ap₂ (λ w (ts : Line). w ∷ ts) (is_word (codes "row") word found.0) (ap₂ (λ (c : List ℕ) (ts : Line). c ∷ ts) (sym behind.0) bracket))
 
--- the line of a row over generators
-pub plain_row_is : (line : Line) (r : RowTokens) → row_tokens Plain line ≡ Some r → (line ≡ row_line r) × IsTrue (is_row r) × (r.lemma ≡ false)
-plain_row_is line r read =
+-- a row of a certificate of this format
+abbrev pub IsRowOf : Format → RowTokens → Type 0
+IsRowOf Plain r = IsPlainRow r
+IsRowOf Lemmas r = IsTrue (is_row r)
+
+-- the line of a row
+pub row_is : (form : Format) (line : Line) (r : RowTokens) → row_tokens form line ≡ Some r → (line ≡ row_line r) × IsRowOf form r
+row_is Plain line r read =
     option_and_then_some (λ s. cond (not s.lemma && is_row s) (Some s) None) (row_parts line) r read (λ s found kept.
     let known = cond_some (not s.lemma && is_row s) s r kept in
     let parts = and_parts (not s.lemma) (is_row s) known.0 in
-    subst (λ (t : RowTokens). (line ≡ row_line t) × IsTrue (is_row t) × (t.lemma ≡ false)) known.1 (parts_are line s found, parts.1, not_true s.lemma parts.0))
+    subst (λ (t : RowTokens). (line ≡ row_line t) × IsPlainRow t) known.1 (parts_are line s found, record { row = parts.1; generator = not_true s.lemma parts.0 }))
   where
     not_true : (b : Bool) → not b ≡ true → b ≡ false
     not_true true same = absurd (cc)
     not_true false same = refl
-
--- the line of a row over generators and lemmas
-pub lemma_row_is : (line : Line) (r : RowTokens) → row_tokens Lemmas line ≡ Some r → (line ≡ row_line r) × IsTrue (is_row r)
-lemma_row_is line r read =
+row_is Lemmas line r read =
     option_and_then_some (λ s. cond (is_row s) (Some s) None) (row_parts line) r read (λ s found kept.
-    let known = cond_some (is_row s) s r kept in
-    subst (λ (t : RowTokens). (line ≡ row_line t) × IsTrue (is_row t)) known.1 (parts_are line s found, known.0))
+    let known = cond_some (is_row s) s r kept in subst (λ (t : RowTokens). (line ≡ row_line t) × IsTrue (is_row t)) known.1 (parts_are line s found, known.0))

@@ -24,10 +24,10 @@ use Rattle.certificate_text.specs.Bounds.{IsWithin, IsScaledOf, IsLemmaRowOf}
 use Rattle.certificate_text.specs.Reading.{begun, lemma_of, closed_by, lemma_row}
 use Rattle.block_text.proofs.Results.{by_test, bind_ok, asked_ok, ok_has}
 use Rattle.block_text.proofs.SaidLines.{IsNumberLine, number_said}
-use Rattle.certificate_text.proofs.LineTrees.{lemma_is, goal_is, plain_row_is, lemma_row_is}
+use Rattle.certificate_text.proofs.LineTrees.{lemma_is, goal_is, IsRowOf, row_is}
 use Rattle.certificate_text.proofs.RowTrees.{Pass, HaveSize, no_rows_size, IsAdded, added, unvalued, full, is_added, integer_is_within}
 use Rattle.block_text.proofs.Zips.{zip_push, zip_length}
-use Rattle.certificate_text.proofs.OpenBlocks.{IsRowOf, IsMadeBy, IsHead, scaled_by, front_of, lemma_made, IsHeaded, IsClaimed, IsOpened, IsLed, IsInside, IsOpen, Lead, lemma_tokens, lead_lines, IsNext, IsFew, rows_of, are_lemmas-push}
+use Rattle.certificate_text.proofs.OpenBlocks.{IsMadeBy, IsHead, scaled_by, front_of, lemma_made, IsHeaded, IsClaimed, IsOpened, IsLed, IsInside, IsOpen, Lead, lemma_tokens, lead_lines, IsNext, IsFew, rows_of, are_lemmas-push}
 
 -- two lists of lines with one more line
 pub behind : (front other : List Line) (line last : Line) → front ≡ other → line ≡ last → front ++ line ∷ [] ≡ other ++ last ∷ []
@@ -134,11 +134,6 @@ pub record IsRowMore (ds : List Declaration) (s : ScaledTokens) (before : List R
 
 pub scaled_more : (s : ScaledTokens) (r : RowTokens) → IsScaled s → IsTrue (is_row r) → IsScaled (scaled_push s r)
 scaled_more s r scaled row = record { scale = scaled.scale; rows = All-push (λ t. IsTrue (is_row t)) s.rows r scaled.rows row }
-
--- the line of a row
-row_is : (form : Format) (line : Line) (r : RowTokens) → row_tokens form line ≡ Some r → (line ≡ row_line r) × IsRowOf form r
-row_is Plain line r there = let known = plain_row_is line r there in (known.0, record { row = known.1; generator = known.2 })
-row_is Lemmas line r there = lemma_row_is line r there
 
 -- what is read of the line of a row after others, and what is made of it and of the size with it
 module _ (ds : List Declaration) (form : Format) {C E : Type 0} (made : RowTokens → CertRow → C) (left right : C → List ℕ) (put : Size → C → E) (size : Size) (before : List RowTokens) (line : Line) where

@@ -23,6 +23,7 @@ use Rattle.block_text.specs.declared.fault.Flaw.{Flaw}
 use Rattle.certificate_text.specs.Lines.{RowTokens, row_limit, is_value, is_row, row_values, over_lemma}
 use Rattle.certificate_text.specs.Blocks.{ScaledTokens, LemmaTokens, LemmasTokens, BlockTokens, plain, lemmas, row_line, head_line, denominator_line, lemma_lines, goal_lines, certificate_lines, IsPlainRow, IsScaled, AreLemmas, IsLemmasBlock, IsBlock}
 use Rattle.certificate_text.specs.Bounds.{Bound, names, numbers, words, rows, letters, bounds, IsCertificateOf, rows_in, lemmas_in, IsWithin, IsScaledOf, HasNumbersOutside, KeepsOne}
+use Rattle.certificate_text.proofs.LineTrees.{IsRowOf}
 use Rattle.certificate_text.proofs.RowTrees.{before, Pass, RowsWithin, HaveSize, no_rows_keep, integer_is_within}
 use Rattle.block_text.proofs.Owed.{Begins, IsWhole, IsStopped, passes}
 use Rattle.block_text.proofs.Zips.{zip_push}
@@ -46,11 +47,6 @@ IsRead Lemmas Lemmas = ⊤
 lemmas_block : (most : Format) (b : LemmasTokens) → IsRead most Lemmas → IsLemmasBlock b → IsBlock most (lemmas b)
 lemmas_block Plain b read is_block = read
 lemmas_block Lemmas b read is_block = is_block
-
--- a row of a certificate of this format
-abbrev pub IsRowOf : Format → RowTokens → Type 0
-IsRowOf Plain r = IsPlainRow r
-IsRowOf Lemmas r = IsTrue (is_row r)
 
 -- the row that the tokens say, as a value of the format
 abbrev pub IsMadeBy : {C : Type 0} → List Declaration → (RowTokens → CertRow → C) → RowTokens → C → Type 0
