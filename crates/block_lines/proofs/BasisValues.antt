@@ -2,7 +2,7 @@
 use Rattle.std.proofs.Common.{◌≡◌, ◌≤◌, ℕ, List, [], ◌∷◌, arith, length, refl, ap, ap₂, subst, map}
 use Rattle.std.proofs.Props as std
 use Rattle.std.specs.List.{All, AllZip}
-use Rattle.std.proofs.lemmas.List.{length-map}
+use Rattle.std.proofs.lemmas.List.{length-map, get_or-map}
 use Rattle.std.proofs.lemmas.List.Elements.{All-nil, All-cons, All-head, All-tail, All-weaker}
 use Rattle.definitions.specs.Poly.{Poly as Terms}
 use Rattle.nc_polynomial.specs.declared.poly.Poly.{Poly}
@@ -49,24 +49,21 @@ same_basis a b same =
     let rest = same_poly a.rest b.rest (ap (λ (v : BasisTerms). v.1.1.0) same) in
     λ j. record { claim = (same j).0; rules = lists j; rest = rest j }
 
--- the polynomials of lists of terms
-pub polynomials_with : (lists : List Terms) → All IsCanonical lists → (ps : List Poly) × (map (λ p. p.terms) ps ≡ lists)
-polynomials_with [] each = ([], refl)
-polynomials_with (p ∷ lists) each =
-    let more = polynomials_with lists (All-tail IsCanonical p lists each) in
-    (record { terms = p; canonical = All-head IsCanonical p lists each } ∷ more.0, ap (λ ls. p ∷ ls) more.1)
+-- lists of what each of these is made of
+lists_with : {A B : Type 0} (f : A → B) (P : B → Type 0) → ((y : B) → P y → (x : A) × (f x ≡ y)) → (ys : List B) → All P ys → (xs : List A) × (map f xs ≡ ys)
+lists_with f P one [] each = ([], refl)
+lists_with f P one (y ∷ ys) each =
+    let first = one y (All-head P y ys each) in
+    let more = lists_with f P one ys (All-tail P y ys each) in
+    (first.0 ∷ more.0, ap₂ (λ v vs. v ∷ vs) first.1 more.1)
 
 basis_with : (v : BasisTerms) → AreCanonical v → (b : Basis) × (by_terms b ≡ v)
 basis_with v are =
-    let found = polynomials_with v.1.0 are.rules in
+    let found = lists_with (λ (p : Poly). p.terms) IsCanonical (λ p canonical. (record { terms = p; canonical = canonical }, refl)) v.1.0 are.rules in
     (record { claim = v.0; rules = found.0; rest = record { terms = v.1.1.0; canonical = are.rest } }, λ j. (v.0, (found.1 j, v.1.1)))
 
 pub bases_with : (vs : List BasisTerms) → All AreCanonical vs → (bases : List Basis) × (map by_terms bases ≡ vs)
-bases_with [] each = ([], refl)
-bases_with (v ∷ vs) each =
-    let first = basis_with v (All-head AreCanonical v vs each) in
-    let more = bases_with vs (All-tail AreCanonical v vs each) in
-    (first.0 ∷ more.0, ap₂ (λ w ws. w ∷ ws) first.1 more.1)
+bases_with vs each = lists_with by_terms AreCanonical basis_with vs each
 
 -- what a tree says
 module _ (ds : List Declaration) where
@@ -113,8 +110,7 @@ module _ (ds : List Declaration) where
       record { rules = found.0; rest = found.1; few = omega (arith, count, (keeps rules).1.1 refl) }
 
   unmapped : {A B : Type 0} (P : B → Type 0) (f : A → B) (xs : List A) → All P (map f xs) → All (λ x. P (f x)) xs
-  unmapped P f [] each = All-nil (λ x. P (f x))
-  unmapped P f (x ∷ xs) each = All-cons (λ y. P (f y)) x xs (All-head P (f x) (map f xs) each) (unmapped P f xs (All-tail P (f x) (map f xs) each))
+  unmapped P f xs each k d below = subst P (get_or-map f xs k d (f d) below) (each k (f d) (omega (arith, length-map xs f, below)))
 
   -- the bases of a text
   pub are_canonical : (bytes : List ℕ) (vs : List BasisTerms) → IsBlocks (basis_kind ds) bytes vs → All AreCanonical vs

@@ -8,7 +8,6 @@ use Rattle.std.proofs.lemmas.List.Elements.{All-cons, All-head, All-tail, All-ap
 use Rattle.quiver.specs.Declarations.{Declaration}
 use Rattle.traced_rows.specs.declared.certificate.CertRow.{CertRow}
 use Rattle.traced_rows.specs.declared.evidence.Lemma.{Lemma}
-use Rattle.traced_rows.specs.declared.evidence.LemmaRow.{LemmaRow}
 use Rattle.traced_rows.specs.declared.evidence.Evidence.{Evidence}
 use Rattle.traced_rows.specs.declared.evidence.Evidence.TheVariants as evidence
 use Rattle.traced_rows.specs.declared.evidence.Format.{Format}
@@ -17,21 +16,23 @@ use Rattle.certificate_text.specs.declared.place.Size.{Size}
 use Rattle.certificate_text.specs.declared.place.Opened.{Opened}
 use Rattle.certificate_text.specs.declared.place.Stage.{Stage}
 use Rattle.certificate_text.specs.declared.place.Stage.TheVariants as at
+use Rattle.block_text.specs.declared.fault.Flaw.{Flaw}
 use Rattle.block_text.specs.Fault.{◌>>=◌}
 use Rattle.block_text.specs.Letters.{is_number, number_within}
 use Rattle.block_text.specs.Lines.{number_limit, integer_limit, begins, integer_of, Line, claim_line, is_end}
-use Rattle.certificate_text.specs.Lines.{RowTokens, row_limit, lemma_scale_of, is_value, is_row, row_values, over_lemma, no_rows, grown}
+use Rattle.certificate_text.specs.Lines.{RowTokens, row_limit, lemma_scale_of, goal_scale_of, is_value, is_row, row_values, over_lemma, no_rows, grown}
 use Rattle.certificate_text.specs.Blocks as tokens
-use Rattle.certificate_text.specs.Blocks.{ScaledTokens, LemmaTokens, PlainTokens, LemmasTokens, BlockTokens, row_line, denominator_line, lemma_lines, goal_lines, certificate_lines, IsBlock, IsPlainRow, IsScaled, AreLemmas, IsPlainBlock, IsLemmasBlock}
+use Rattle.certificate_text.specs.Blocks.{ScaledTokens, LemmaTokens, PlainTokens, LemmasTokens, BlockTokens, row_line, denominator_line, lemma_lines, goal_lines, certificate_lines, IsBlock, IsPlainRow, AreLemmas, IsPlainBlock, IsLemmasBlock}
 use Rattle.certificate_text.specs.Bounds as bound
 use Rattle.certificate_text.specs.Bounds.{Bound, flaw_of, IsWithin, HasNumbersOutside, rows_in, IsScaledOf, IsCertificateOf, KeepsOne}
-use Rattle.certificate_text.specs.Reading.{next as step, begun, finish, scaled, closed_by, certificate_of, opened_of, lemma_of, lemma_row, certificate_steps}
+use Rattle.certificate_text.specs.Reading.{next as step, begun, finish, scaled, closed_by, resized, certificate_of, opened_of, lemma_of, lemma_row, certificate_steps}
 use Rattle.block_text.proofs.NumberedLines.{run, run-append}
 use Rattle.block_text.proofs.Owed.{read_inside, read_block, read_inside-run}
 use Rattle.block_text.proofs.Meets.{Meets, reads, then_meets, meets-weaker, asked_meets, unless_meets}
 use Rattle.block_text.proofs.Zips.{AllZip-weaker}
 use Rattle.certificate_text.proofs.RowLines.{row_line_read, lemma_row_line_read}
-use Rattle.certificate_text.proofs.RowValues.{RowsFit, with_rows, with_rows-append, rows_fit_parts, TakesRow, IsMadeOf, rows_meet}
+use Rattle.certificate_text.proofs.OpenBlocks.{IsMadeBy, plain_row, lemma_made}
+use Rattle.certificate_text.proofs.RowValues.{RowsFit, with_rows, with_rows-append, rows_fit_parts, TakesRow, rows_meet}
 
 -- a size, and the place after it
 size_steps : {S M E F : Type 0} (size : Result S F) (made : S → M) (behind : M → E) → ((size >>= λ s. Ok (made s)) >>= λ m. Ok (behind m)) ≡ (size >>= λ s. Ok (behind (made s)))
@@ -101,9 +102,6 @@ module _ (K : Bound → Type 0) where
     abbrev plain_place : ℕ → ℤ → Size → List CertRow → Stage
     plain_place k z size rows = at.Rows (certificate_of k z rows) size
 
-    abbrev plain_row : RowTokens → CertRow → CertRow
-    plain_row r row = row
-
     takes_plain : (k : ℕ) (z : ℤ) (r : RowTokens) → IsPlainRow r → TakesRow (step ds) K ds (plain_place k z) plain_row r
     takes_plain k z r plain size front = rw (row_line_read ds r plain) refl
 
@@ -117,26 +115,11 @@ module _ (K : Bound → Type 0) where
           record {
             claim = k_is;
             denominator = z_is;
-            rows = AllZip-weaker (IsMadeOf (step ds) K ds (plain_place k z) plain_row) _ (λ r row made. rw made.2 made.1) b.rows read.rows read.are_made;
+            rows = AllZip-weaker (IsMadeBy ds plain_row) _ (λ r row made. rw made.2 made.1) b.rows read.rows read.are_made;
           },
         )))
 
     -- a certificate of format 2
-    abbrev lemma_made : RowTokens → CertRow → LemmaRow
-    lemma_made r row = over_lemma r.lemma row
-
-    abbrev lemma_place : ℕ → ℤ → List Lemma → ℤ → Size → List LemmaRow → Stage
-    lemma_place k z front scale size rows = at.Lemma (opened_of k z front size) (lemma_of scale rows)
-
-    abbrev goal_place : ℕ → ℤ → List Lemma → ℤ → Size → List LemmaRow → Stage
-    goal_place k z front scale size rows = at.Goal (opened_of k z front size) (lemma_of scale rows)
-
-    takes_in_lemma : (k : ℕ) (z : ℤ) (front : List Lemma) (scale : ℤ) (r : RowTokens) → IsTrue (is_row r) → TakesRow (step ds) K ds (lemma_place k z front scale) lemma_made r
-    takes_in_lemma k z front scale r row size rows = lemma_row_takes ds r row size (lemma_of scale rows) (λ larger l. at.Lemma (opened_of k z front larger) l)
-
-    takes_in_goal : (k : ℕ) (z : ℤ) (front : List Lemma) (scale : ℤ) (r : RowTokens) → IsTrue (is_row r) → TakesRow (step ds) K ds (goal_place k z front scale) lemma_made r
-    takes_in_goal k z front scale r row size rows = lemma_row_takes ds r row size (lemma_of scale rows) (λ larger l. at.Goal (opened_of k z front larger) l)
-
     -- at this place the next lemma or the goal may begin
     abbrev Waits : Opened → Stage → Type 0
     Waits o place = (line : Line) → begins (codes "row") line ≡ false → step ds place line ≡ scaled o line
@@ -149,102 +132,69 @@ module _ (K : Bound → Type 0) where
     scale_meets before l numbered number within few =
         rw (numbered, number) (then_meets _ (integer_meets l.scaled.scale within) (λ scale _ scale_is. unless_meets bound.rows _ _ (λ kept. lt-leb row_limit before (few kept)) (reads _ refl scale_is)))
 
-    -- the rows after this scale begin
-    abbrev Begins : List ℕ → (ℤ → Stage) → Stage → Type 0
-    Begins digits place q = (scale : ℤ) × (integer_of digits ≡ Ok scale) × (q ≡ (place scale))
+    -- the rows of a lemma or of the goal behind its scale, by the place where they stand
+    module _ (stands : Opened → Lemma → Stage) (steps_on : (o : Opened) (l : Lemma) (r : RowTokens) → step ds (stands o l) (row_line r) ≡ (lemma_row ds o.size l (row_line r) >>= λ next. Ok (stands (resized o next.0) next.1))) where
+      record ScaledIsRead (o : Opened) (s : ScaledTokens) (q : Stage) : Type 0 where
+        said : Lemma
+        is_said : IsScaledOf ds s said
+        is : q ≡ stands (resized o (with_rows o.size s.rows)) said
 
-    lemma_begins : (k : ℕ) (z : ℤ) (front : List Lemma) (size : Size) (place : Stage) (l : LemmaTokens) → Waits (opened_of k z front size) place → IsTrue (is_value (length front + 1) l.number) → IsTrue (is_number l.scaled.scale)
-        → (K bound.numbers → IsWithin integer_limit l.scaled.scale) → (K bound.rows → length front < row_limit)
-        → Meets flaw_of K (Begins l.scaled.scale (λ scale. lemma_place k z front scale size [])) (step ds place (codes "lemma" ∷ l.number ∷ codes "scale" ∷ l.scaled.scale ∷ []))
-    lemma_begins k z front size place l waits numbered number within few =
-        rw (waits (codes "lemma" ∷ l.number ∷ codes "scale" ∷ l.scaled.scale ∷ []) refl)
-        (then_meets _ (scale_meets (length front) l numbered number within few) (λ scale _ scale_is. reads _ refl (scale, scale_is, refl)))
-
-    -- what is read of a lemma
-    record LemmaIsRead (k : ℕ) (z : ℤ) (front : List Lemma) (size : Size) (l : LemmaTokens) (q : Stage) : Type 0 where
-      lemma : Lemma
-      is_lemma : IsScaledOf ds l.scaled lemma
-      is : q ≡ (at.Lemma (opened_of k z front (with_rows size l.scaled.rows)) lemma)
-
-    lemma_meets : (k : ℕ) (z : ℤ) (front : List Lemma) (size : Size) (place : Stage) (l : LemmaTokens) → Waits (opened_of k z front size) place → IsTrue (is_value (length front + 1) l.number) → IsScaled l.scaled
-        → (K bound.numbers → IsWithin integer_limit l.scaled.scale) → (K bound.rows → length front < row_limit) → RowsFit K ds size l.scaled.rows
-        → Meets flaw_of K (LemmaIsRead k z front size l) (run (step ds) place (lemma_lines l))
-    lemma_meets k z front size place l waits numbered is_scaled within few keep =
-        then_meets _ (lemma_begins k z front size place l waits numbered is_scaled.scale within few) (λ p _ begins.
-        rw begins.2 (meets-weaker (rows_meet (step ds) K ds (lemma_place k z front begins.0) lemma_made size [] l.scaled.rows (All-weaker (λ r. IsTrue (is_row r)) _ (takes_in_lemma k z front begins.0) l.scaled.rows is_scaled.rows) keep) (λ q _ read.
-        record { lemma = lemma_of begins.0 read.rows; is_lemma = record { scale = begins.1; rows = read.are_made }; is = read.is })))
+      scaled_meets : (o : Opened) (place : Stage) (s : ScaledTokens) (line : Line) (scale_of : Result ℤ Flaw) → step ds place line ≡ (scale_of >>= λ scale. Ok (stands o (lemma_of scale [])))
+          → Meets flaw_of K (λ scale. integer_of s.scale ≡ Ok scale) scale_of → All (λ r. IsTrue (is_row r)) s.rows → RowsFit K ds o.size s.rows → Meets flaw_of K (ScaledIsRead o s) (run (step ds) place (line ∷ map row_line s.rows))
+      scaled_meets o place s line scale_of opens first rows keep =
+          rw opens (then_meets _
+          (then_meets {Q = λ q. (scale : ℤ) × (integer_of s.scale ≡ Ok scale) × (q ≡ stands o (lemma_of scale []))} _ first (λ scale _ is. reads _ refl (scale, is, refl))) (λ p _ begins.
+          rw begins.2 (meets-weaker
+          (rows_meet (step ds) K ds (λ size cs. stands (resized o size) (lemma_of begins.0 cs)) lemma_made o.size [] s.rows
+          (All-weaker (λ r. IsTrue (is_row r)) (TakesRow (step ds) K ds (λ size cs. stands (resized o size) (lemma_of begins.0 cs)) lemma_made) (λ r row size cs. rw (steps_on (resized o size) (lemma_of begins.0 cs) r) (lemma_row_takes ds r row size (lemma_of begins.0 cs) (λ larger l. stands (resized o larger) l))) s.rows rows) keep)
+          (λ q _ read. record { said = lemma_of begins.0 read.rows; is_said = record { scale = begins.1; rows = read.are_made }; is = read.is }))))
 
     -- what is read of lemmas
-    record LemmasAreRead (k : ℕ) (z : ℤ) (front : List Lemma) (size : Size) (ls : List LemmaTokens) (q : Stage) : Type 0 where
+    record LemmasAreRead (o : Opened) (ls : List LemmaTokens) (q : Stage) : Type 0 where
       lemmas : List Lemma
       are_lemmas : AllZip (λ l lemma. IsScaledOf ds l.scaled lemma) ls lemmas
-      place : Stage
-      waits : Waits (opened_of k z (front ++ lemmas) (with_rows size (flat_map (λ l. l.scaled.rows) ls))) place
-      is : q ≡ place
+      waits : Waits (opened_of o.claim o.denominator (o.lemmas ++ lemmas) (with_rows o.size (flat_map (λ l. l.scaled.rows) ls))) q
 
-    lemmas_meet : (k : ℕ) (z : ℤ) (front : List Lemma) (size : Size) (place : Stage) (ls : List LemmaTokens) → Waits (opened_of k z front size) place → AreLemmas (length front + 1) ls
-        → (K bound.numbers → All (λ l. IsWithin integer_limit l.scaled.scale) ls) → (K bound.rows → length front + length ls ≤ row_limit) → RowsFit K ds size (flat_map (λ l. l.scaled.rows) ls)
-        → Meets flaw_of K (LemmasAreRead k z front size ls) (run (step ds) place (flat_map lemma_lines ls))
-    lemmas_meet k z front size place [] waits numbered within few keep = reads _ refl (record {
-      lemmas = [];
-      are_lemmas = tt;
-      place = place;
-      waits = rw (append-nil front, add-zero size.rows, add-zero size.letters) waits;
-      is = refl;
-    })
-    lemmas_meet k z front size place (l ∷ ls) waits numbered within few keep =
-        let parts = rows_fit_parts K ds size l.scaled.rows (flat_map (λ l. l.scaled.rows) ls) keep in
+    lemmas_meet : (o : Opened) (place : Stage) (ls : List LemmaTokens) → Waits o place → AreLemmas (length o.lemmas + 1) ls → (K bound.numbers → All (λ l. IsWithin integer_limit l.scaled.scale) ls)
+        → (K bound.rows → length o.lemmas + length ls ≤ row_limit) → RowsFit K ds o.size (flat_map (λ l. l.scaled.rows) ls) → Meets flaw_of K (LemmasAreRead o ls) (run (step ds) place (flat_map lemma_lines ls))
+    lemmas_meet o place [] waits numbered within few keep = reads _ refl (record { lemmas = []; are_lemmas = tt; waits = rw (append-nil o.lemmas, add-zero o.size.rows, add-zero o.size.letters) waits })
+    lemmas_meet o place (l ∷ ls) waits numbered within few keep =
+        let parts = rows_fit_parts K ds o.size l.scaled.rows (flat_map (λ l. l.scaled.rows) ls) keep in
+        let line : Line = codes "lemma" ∷ l.number ∷ codes "scale" ∷ l.scaled.scale ∷ [] in
         rw (run-append (step ds) place (lemma_lines l) (flat_map lemma_lines ls))
         (then_meets _
-        (lemma_meets k z front size place l waits numbered.0 numbered.1 (λ kept. All-head (λ l. IsWithin integer_limit l.scaled.scale) l ls (within kept)) (λ kept. omega (arith, few kept)) parts.0)
+        (scaled_meets at.Lemma (λ o l r. refl) o place l.scaled line (lemma_scale_of (length o.lemmas) line) (waits line refl)
+        (scale_meets (length o.lemmas) l numbered.0 numbered.1.scale (λ kept. All-head (λ l. IsWithin integer_limit l.scaled.scale) l ls (within kept)) (λ kept. omega (arith, few kept))) numbered.1.rows parts.0)
         (λ p _ one.
-        let next : length front + 1 + 1 ≡ length (front ++ one.lemma ∷ []) + 1 = omega (arith, length-append front (one.lemma ∷ [])) in
+        let next : length o.lemmas + 1 + 1 ≡ length (o.lemmas ++ one.said ∷ []) + 1 = omega (arith, length-append o.lemmas (one.said ∷ [])) in
+        let grown : Opened = resized o (with_rows o.size l.scaled.rows) in
         rw one.is (meets-weaker
-        (lemmas_meet k z (front ++ one.lemma ∷ []) (with_rows size l.scaled.rows) (at.Lemma (opened_of k z front (with_rows size l.scaled.rows)) one.lemma) ls (waits_in_lemma (opened_of k z front (with_rows size l.scaled.rows)) one.lemma)
-        (rw next at numbered.2) (λ kept. All-tail (λ l. IsWithin integer_limit l.scaled.scale) l ls (within kept)) (λ kept. omega (arith, few kept, length-append front (one.lemma ∷ []))) parts.1)
+        (lemmas_meet (closed_by grown one.said) (at.Lemma grown one.said) ls (waits_in_lemma grown one.said)
+        (rw next at numbered.2) (λ kept. All-tail (λ l. IsWithin integer_limit l.scaled.scale) l ls (within kept)) (λ kept. omega (arith, few kept, length-append o.lemmas (one.said ∷ []))) parts.1)
         (λ q _ read. record {
-          lemmas = one.lemma ∷ read.lemmas;
-          are_lemmas = (one.is_lemma, read.are_lemmas);
-          place = read.place;
-          waits = rw (← with_rows-append size l.scaled.rows (flat_map (λ l. l.scaled.rows) ls), ← append_assoc front (one.lemma ∷ []) read.lemmas) read.waits;
-          is = read.is;
+          lemmas = one.said ∷ read.lemmas;
+          are_lemmas = (one.is_said, read.are_lemmas);
+          waits = rw (← with_rows-append o.size l.scaled.rows (flat_map (λ l. l.scaled.rows) ls), ← append_assoc o.lemmas (one.said ∷ []) read.lemmas) read.waits;
         }))))
-
-    goal_begins : (k : ℕ) (z : ℤ) (front : List Lemma) (size : Size) (place : Stage) (g : ScaledTokens) → Waits (opened_of k z front size) place → IsTrue (is_number g.scale) → (K bound.numbers → IsWithin integer_limit g.scale)
-        → Meets flaw_of K (Begins g.scale (λ scale. goal_place k z front scale size [])) (step ds place (codes "goal" ∷ codes "scale" ∷ g.scale ∷ []))
-    goal_begins k z front size place g waits number within =
-        rw (waits (codes "goal" ∷ codes "scale" ∷ g.scale ∷ []) refl, number)
-        (then_meets _ (integer_meets g.scale within) (λ scale _ scale_is. reads _ refl (scale, scale_is, refl)))
-
-    -- what is read of a goal
-    record GoalIsRead (k : ℕ) (z : ℤ) (front : List Lemma) (size : Size) (g : ScaledTokens) (q : Stage) : Type 0 where
-      goal : Lemma
-      is_goal : IsScaledOf ds g goal
-      is : q ≡ at.Goal (opened_of k z front (with_rows size g.rows)) goal
-
-    goal_meets : (k : ℕ) (z : ℤ) (front : List Lemma) (size : Size) (place : Stage) (g : ScaledTokens) → Waits (opened_of k z front size) place → IsScaled g → (K bound.numbers → IsWithin integer_limit g.scale) → RowsFit K ds size g.rows
-        → Meets flaw_of K (GoalIsRead k z front size g) (run (step ds) place (goal_lines g))
-    goal_meets k z front size place g waits is_scaled within keep =
-        then_meets _ (goal_begins k z front size place g waits is_scaled.scale within) (λ p _ begins.
-        rw begins.2 (meets-weaker (rows_meet (step ds) K ds (goal_place k z front begins.0) lemma_made size [] g.rows (All-weaker (λ r. IsTrue (is_row r)) _ (takes_in_goal k z front begins.0) g.rows is_scaled.rows) keep) (λ q _ read.
-        record { goal = lemma_of begins.0 read.rows; is_goal = record { scale = begins.1; rows = read.are_made }; is = read.is })))
 
     lemmas_meets : (b : LemmasTokens) → IsLemmasBlock b → (K bound.numbers → HasNumbersOutside (tokens.lemmas b)) → (K bound.rows → length b.lemmas ≤ row_limit) → RowsFit K ds no_rows (rows_in (tokens.lemmas b))
         → Meets flaw_of K (IsBlockRead (tokens.lemmas b)) (run (step ds) (at.Headed Lemmas) (claim_line b.claim ∷ denominator_line b.denominator ∷ (flat_map lemma_lines b.lemmas ++ goal_lines b.goal)))
     lemmas_meets b block numbers few_lemmas keep =
         let parts = rows_fit_parts K ds no_rows (flat_map (λ l. l.scaled.rows) b.lemmas) b.goal.rows keep in
+        let line : Line = codes "goal" ∷ codes "scale" ∷ b.goal.scale ∷ [] in
         behind_numbers Lemmas b.claim b.denominator (flat_map lemma_lines b.lemmas ++ goal_lines b.goal) (IsBlockRead (tokens.lemmas b)) block.claim block.denominator
         (λ kept. (numbers kept).0) (λ kept. (numbers kept).1) (λ k z k_is z_is.
         rw (run-append (step ds) (begun Lemmas k z) (flat_map lemma_lines b.lemmas) (goal_lines b.goal))
         (then_meets _
-        (lemmas_meet k z [] no_rows (begun Lemmas k z) b.lemmas (λ line no_row. refl) block.lemmas (λ kept. (numbers kept).2) (λ kept. omega (arith, few_lemmas kept)) parts.0)
-        (λ q _ lemmas_are.
-        rw lemmas_are.is (meets-weaker (goal_meets k z lemmas_are.lemmas (with_rows no_rows (flat_map (λ l. l.scaled.rows) b.lemmas)) lemmas_are.place b.goal lemmas_are.waits block.goal (λ kept. (numbers kept).3) parts.1)
+        (lemmas_meet (opened_of k z [] no_rows) (begun Lemmas k z) b.lemmas (λ line no_row. refl) block.lemmas (λ kept. (numbers kept).2) (λ kept. omega (arith, few_lemmas kept)) parts.0)
+        (λ q _ read. meets-weaker
+        (scaled_meets at.Goal (λ o l r. refl) (opened_of k z read.lemmas (with_rows no_rows (flat_map (λ l. l.scaled.rows) b.lemmas))) q b.goal line (goal_scale_of line) (read.waits line refl)
+        (rw block.goal.scale (integer_meets b.goal.scale (λ kept. (numbers kept).3))) block.goal.rows parts.1)
         (λ p _ goal_is. (
-          evidence.Lemmas (record { claim = k; denominator = z; lemmas = lemmas_are.lemmas; goal = goal_is.goal }),
+          evidence.Lemmas (record { claim = k; denominator = z; lemmas = read.lemmas; goal = goal_is.said }),
           rw goal_is.is refl,
-          record { claim = k_is; denominator = z_is; lemmas = lemmas_are.are_lemmas; goal = goal_is.is_goal },
-        ))))))
+          record { claim = k_is; denominator = z_is; lemmas = read.are_lemmas; goal = goal_is.is_said },
+        )))))
 
     -- either
     rows_fit : (b : BlockTokens) → ((bound : Bound) → K bound → KeepsOne ds bound b) → RowsFit K ds no_rows (rows_in b)

@@ -1,14 +1,12 @@
 -- The certificates that are read can be checked.
-use Rattle.std.proofs.Common.{◌≡◌, ◌≤◌, ◌+◌, ℕ, zero, suc, ℤ, pos, Bool, true, false, cond, List, [], ◌∷◌, Option, Some, None, Ok, arith, refl, sym, ap₂, ◌∙◌, subst, length, map, IfOk, Result, nat_le}
-use Rattle.std.specs.List.{All, flat_map}
-use Rattle.std.proofs.lemmas.Bool.{leb-true}
-use Rattle.std.proofs.lemmas.List.{length-append}
-use Rattle.std.proofs.lemmas.List.Elements.{All-nil, All-cons, All-head, All-tail, All-weaker}
+use Rattle.std.proofs.Common.{◌≡◌, ◌≤◌, ◌+◌, ℕ, zero, suc, ℤ, pos, Bool, true, false, List, [], ◌∷◌, Some, Ok, arith, refl, sym, ap₂, ◌∙◌, subst, length, map, IfOk, Result}
+use Rattle.std.specs.List.{All, flat_map, AllZip}
+use Rattle.std.proofs.lemmas.List.{length-append, length-map, get_or-map}
+use Rattle.std.proofs.lemmas.List.Elements.{All-nil, All-cons}
 use Rattle.coef_int.specs.Range.{IsCoefficient}
 use Rattle.quiver.specs.Declarations.{Declaration}
 use Rattle.traced_rows.specs.declared.certificate.CertRow.{CertRow}
 use Rattle.traced_rows.specs.declared.certificate.Certificate.{Certificate}
-use Rattle.traced_rows.specs.declared.evidence.LemmaRow.{LemmaRow}
 use Rattle.traced_rows.specs.declared.evidence.Lemma.{Lemma}
 use Rattle.traced_rows.specs.declared.evidence.LemmaCertificate.{LemmaCertificate}
 use Rattle.traced_rows.specs.declared.evidence.Evidence.{Evidence}
@@ -17,33 +15,27 @@ use Rattle.traced_rows.specs.declared.evidence.Format.{Format}
 use Rattle.traced_rows.specs.declared.evidence.Format.TheVariants as format
 use Rattle.cofactor_trace.specs.Limits.{row_limit}
 use Rattle.block_text.specs.declared.fault.Flaw.TheVariants.{UnknownName, NumberTooLarge}
-use Rattle.block_text.specs.Fault.{asked}
+use Rattle.block_text.specs.Fault.{asked, ReadsText}
 use Rattle.block_text.specs.Letters.{number_within, is_negative, digits_of, signed, integer_within, word_of}
 use Rattle.block_text.specs.Lines.{integer_of, integer_limit, number_limit}
 use Rattle.certificate_text.specs.Lines.{RowTokens, row_limit, row_values}
-use Rattle.certificate_text.specs.Evidence.{IsRowOver, IsLemmaRowOver, IsCheckable, IsCheckableLemma, IsCheckableByLemmas, IsCheckableEvidence}
+use Rattle.certificate_text.specs.Evidence.{IsRowOver, IsLemmaRowOver, IsCheckable, IsCheckableLemma, IsCheckableByLemmas, IsCheckableEvidence, certificate_kind, IsEvidence}
 use Rattle.block_text.proofs.Results.{bind_ok, asked_ok, ok_has, option_map_some}
 use Rattle.block_text.proofs.LetterRange.{word_is_over}
-use Rattle.std.specs.List.{AllZip}
+use Rattle.block_text.proofs.SaidLines.{within_limit}
 use Rattle.block_text.specs.declared.fault.CertFault.{CertFault}
-use Rattle.block_text.specs.Fault.{ReadsText}
 use Rattle.block_text.specs.Steps.{all_values}
 use Rattle.certificate_text.specs.Blocks as tokens
 use Rattle.certificate_text.specs.Blocks.{ScaledTokens, LemmaTokens, PlainTokens, LemmasTokens, BlockTokens, IsBlock}
 use Rattle.certificate_text.specs.Bounds.{Bound, rows, rows_in, KeepsOne, IsLemmaRowOf, IsScaledOf, IsPlainOf, IsLemmasOf, IsCertificateOf}
-use Rattle.certificate_text.specs.Evidence.{certificate_kind, IsEvidence}
 use Rattle.certificate_text.specs.Reading.{IsPlain, certificate_steps}
 use Rattle.block_text.proofs.EachText.{values_are, read_values_are}
 use Rattle.block_text.proofs.Zips.{zip_length}
 use Rattle.certificate_text.proofs.Reader.{reader}
 
 -- numbers
-within_by : (value most n : ℕ) (b : Bool) → nat_le value most ≡ b → ◌≡◌ {A = Option ℕ} (cond b (Some value) None) (Some n) → n ≤ most
-within_by value most n true small read = let same : value ≡ n = cc in subst (λ (k : ℕ). k ≤ most) same (leb-true value most small)
-within_by value most n false small read = absurd (cc)
-
-number_is_within : (most : ℕ) (digits : List ℕ) (n : ℕ) → number_within most digits ≡ Some n → n ≤ most
-number_is_within most digits n read = within_by _ most n _ refl read
+number_is_within : (digits : List ℕ) (n : ℕ) → number_within integer_limit digits ≡ Some n → n ≤ integer_limit
+number_is_within digits n read = let found = within_limit integer_limit digits n read in omega arith
 
 signed_in_range : (negative : Bool) (n : ℕ) → n ≤ integer_limit → IsCoefficient (signed negative n)
 signed_in_range true zero small = omega (arith, small)
@@ -53,12 +45,12 @@ signed_in_range false n small = omega (arith, small)
 integer_in_range : (token : List ℕ) (z : ℤ) → integer_within integer_limit token ≡ Some z → IsCoefficient z
 integer_in_range token z read =
     option_map_some (signed (is_negative token)) (number_within integer_limit (digits_of token)) z read
-    (λ n is same. subst IsCoefficient same (signed_in_range (is_negative token) n (number_is_within integer_limit (digits_of token) n is)))
+    (λ n is same. subst IsCoefficient same (signed_in_range (is_negative token) n (number_is_within (digits_of token) n is)))
 
 pub positive_in_range : (digits : List ℕ) (z : ℤ) → integer_of digits ≡ Ok z → IsCoefficient z
 positive_in_range digits z read =
     option_map_some pos (number_within integer_limit digits) z (asked_ok NumberTooLarge _ z read)
-    (λ n within same. subst IsCoefficient same (signed_in_range false n (number_is_within integer_limit digits n within)))
+    (λ n within same. subst IsCoefficient same (signed_in_range false n (number_is_within digits n within)))
 
 -- rows
 record IsGoodRow (ds : List Declaration) (row : CertRow) : Type 0 where
@@ -79,15 +71,6 @@ values_are_good ds r row read_left =
       };
     })))))
 
-record IsGoodLemmaRow (ds : List Declaration) (row : LemmaRow) : Type 0 where
-  coefficient : IsCoefficient row.coef
-  letters : IsLemmaRowOver ds row
-
-lemma_row_is_good : (ds : List Declaration) (r : RowTokens) (row : LemmaRow) → IsLemmaRowOf ds r row → IsGoodLemmaRow ds row
-lemma_row_is_good ds r row says =
-    let good = values_are_good ds r says.0 says.1 in
-    subst (IsGoodLemmaRow ds) (sym says.2) (record { coefficient = good.coefficient; letters = record { left = good.letters.left; right = good.letters.right } })
-
 -- what holds of what each says holds of all
 pub zip_all : {X Y : Type 0} (R : X → Y → Type 0) (P : Y → Type 0) → ((x : X) (y : Y) → R x y → P y) → (xs : List X) (ys : List Y) → AllZip R xs ys → All P ys
 zip_all R P each [] [] zipped = All-nil P
@@ -97,23 +80,19 @@ zip_all R P each (x ∷ xs) (y ∷ ys) zipped = All-cons P y ys (each x y zipped
 
 module _ (ds : List Declaration) where
   plain_checkable : (b : PlainTokens) (c : Certificate) → length b.rows ≤ row_limit → IsPlainOf ds b c → IsCheckable ds c
-  plain_checkable b c few says =
-      let good : All (IsGoodRow ds) c.rows = zip_all (λ r row. row_values ds r ≡ Ok row) (IsGoodRow ds) (values_are_good ds) b.rows c.rows says.rows in
-      record {
-        few = omega (arith, few, zip_length (λ r row. row_values ds r ≡ Ok row) b.rows c.rows says.rows);
-        denominator = positive_in_range b.denominator c.denominator says.denominator;
-        coefficients = All-weaker (IsGoodRow ds) (λ row. IsCoefficient row.coef) (λ row fits. fits.coefficient) c.rows good;
-        letters = All-weaker (IsGoodRow ds) (IsRowOver ds) (λ row fits. fits.letters) c.rows good;
-      }
+  plain_checkable b c few says = record {
+    few = omega (arith, few, zip_length (λ r row. row_values ds r ≡ Ok row) b.rows c.rows says.rows);
+    denominator = positive_in_range b.denominator c.denominator says.denominator;
+    coefficients = zip_all _ (λ row. IsCoefficient row.coef) (λ r row said. (values_are_good ds r row said).coefficient) b.rows c.rows says.rows;
+    letters = zip_all _ (IsRowOver ds) (λ r row said. (values_are_good ds r row said).letters) b.rows c.rows says.rows;
+  }
 
   pub scaled_checkable : (s : ScaledTokens) (l : Lemma) → IsScaledOf ds s l → IsCheckableLemma ds l
-  scaled_checkable s l says =
-      let good : All (IsGoodLemmaRow ds) l.rows = zip_all (IsLemmaRowOf ds) (IsGoodLemmaRow ds) (lemma_row_is_good ds) s.rows l.rows says.rows in
-      record {
-        scale = positive_in_range s.scale l.scale says.scale;
-        coefficients = All-weaker (IsGoodLemmaRow ds) (λ row. IsCoefficient row.coef) (λ row fits. fits.coefficient) l.rows good;
-        letters = All-weaker (IsGoodLemmaRow ds) (IsLemmaRowOver ds) (λ row fits. fits.letters) l.rows good;
-      }
+  scaled_checkable s l says = record {
+    scale = positive_in_range s.scale l.scale says.scale;
+    coefficients = zip_all (IsLemmaRowOf ds) (λ row. IsCoefficient row.coef) (λ r row said. rw said.2 (values_are_good ds r said.0 said.1).coefficient) s.rows l.rows says.rows;
+    letters = zip_all (IsLemmaRowOf ds) (IsLemmaRowOver ds) (λ r row said. let good = (values_are_good ds r said.0 said.1).letters in rw said.2 (record { left = good.left; right = good.right })) s.rows l.rows says.rows;
+  }
 
   abbrev Each : LemmaTokens → Lemma → Type 0
   Each l lemma = IsScaledOf ds l.scaled lemma
@@ -162,6 +141,4 @@ module _ (ds : List Declaration) where
 
 -- what holds of the blocks of format 1 holds of their certificates
 pub all_plain : (ds : List Declaration) (cs : List Certificate) → All (IsCheckableEvidence ds) (map block.Plain cs) → All (IsCheckable ds) cs
-all_plain ds [] each = All-nil (IsCheckable ds)
-all_plain ds (c ∷ cs) each =
-    All-cons (IsCheckable ds) c cs (All-head (IsCheckableEvidence ds) (block.Plain c) (map block.Plain cs) each) (all_plain ds cs (All-tail (IsCheckableEvidence ds) (block.Plain c) (map block.Plain cs) each))
+all_plain ds cs each k d below = subst (IsCheckableEvidence ds) (get_or-map block.Plain cs k d (block.Plain d) below) (each k (block.Plain d) (omega (arith, length-map cs block.Plain, below)))

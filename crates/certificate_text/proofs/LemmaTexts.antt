@@ -19,18 +19,14 @@ module _ {X : Type 0} (text_of : ℕ → X → List ℕ) where
   abbrev pub ArePut : List X → List ℕ → ℕ → ℕ → List ℕ → Type 0
   ArePut xs front place number out = (out ≡ front ++ numbered_texts text_of 1 (take place xs)) × (number ≡ place + 1)
 
-  numbered_put : (xs : List X) (place number : ℕ) (x : X) (front before after : List ℕ)
-      → before ≡ front ++ numbered_texts text_of 1 (take place xs) → after ≡ before ++ text_of number x
-      → place < length xs → number ≡ place + 1 → (d : X) → x ≡ get_or xs place d → after ≡ front ++ numbered_texts text_of 1 (take (place + 1) xs)
-  numbered_put xs place number x front before after before_is after_is within numbered d read =
-      let split : take (place + 1) xs ≡ take place xs ++ get_or xs place d ∷ [] = take_more xs place d within in
-      let count : length (take place xs) ≡ place = length-take-le place xs (omega (arith, within)) in
-      rw (after_is, before_is, split, ← read, numbered_behind 1 (take place xs) x, count, numbered) (append_assoc front (numbered_texts text_of 1 (take place xs)) (text_of (place + 1) x))
-
   pub next_put : (xs : List X) (front : List ℕ) (place number : ℕ) (x d : X) (before after : List ℕ) → ArePut xs front place number before
       → place < length xs → x ≡ get_or xs place d → after ≡ before ++ text_of number x → ArePut xs front (place + 1) (number + 1) after
   next_put xs front place number x d before after are within read put =
-      (numbered_put xs place number x front before after are.0 put within are.1 d read, omega (arith, are.1))
+      let split : take (place + 1) xs ≡ take place xs ++ get_or xs place d ∷ [] = take_more xs place d within in
+      let count : length (take place xs) ≡ place = length-take-le place xs (omega (arith, within)) in (
+        rw (put, are.0, split, ← read, numbered_behind 1 (take place xs) x, count, are.1) (append_assoc front (numbered_texts text_of 1 (take place xs)) (text_of (place + 1) x)),
+        omega (arith, are.1),
+      )
 
 -- what holds of all holds of the one at a place
 pub holds_there : {X : Type 0} (P : X → Type 0) (xs : List X) (place : ℕ) (x d : X) → All P xs → place < length xs → x ≡ get_or xs place d → P x

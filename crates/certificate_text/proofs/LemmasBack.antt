@@ -1,5 +1,5 @@
 -- A certificate of format 2 that is written is a block of evidence text.
-use Rattle.std.proofs.Common.{◌≡◌, ◌<◌, ◌+◌, ◌^◌, ℕ, suc, false, List, [], ◌∷◌, ◌++◌, Some, arith, refl, sym, ap, ◌∙◌, subst, length, map, codes, IsTrue}
+use Rattle.std.proofs.Common.{◌≡◌, ◌<◌, ◌+◌, ◌^◌, ℕ, suc, false, List, [], ◌∷◌, ◌++◌, None, arith, refl, sym, ap, ◌∙◌, subst, length, map, codes, IsTrue}
 use Rattle.std.specs.Prelude.{decimal}
 use Rattle.std.specs.Fmt.{signed_decimal}
 use Rattle.std.specs.List.{All, AllZip, list_all, flat_map, sum_by}
@@ -14,11 +14,10 @@ use Rattle.traced_rows.specs.declared.evidence.Evidence.TheVariants as evidence
 use Rattle.traced_rows.specs.declared.evidence.Format.TheVariants as format
 use Rattle.cofactor_trace.specs.Lemmas.{row_count, letter_count as letters_of_lemmas}
 use Rattle.block_text.specs.Tokens.{tokens_of, is_skipped}
-use Rattle.block_text.specs.Letters.{number_within}
-use Rattle.block_text.specs.Lines.{number_limit, integer_limit, Line, claim_line, end_line}
+use Rattle.block_text.specs.Lines.{integer_limit, Line, claim_line, end_line}
 use Rattle.certificate_text.specs.Lines.{RowTokens}
-use Rattle.certificate_text.specs.Blocks.{ScaledTokens, LemmaTokens, LemmasTokens, lemmas, row_line, lemma_lines, goal_lines, certificate_lines, head_line, denominator_line, IsScaled, AreLemmas, IsLemmasBlock}
-use Rattle.certificate_text.specs.Bounds.{Bound, names, numbers, words, rows, letters, letters_in, IsWithin, IsLemmaRowOf, IsScaledOf, IsLemmasOf, KeepsOne}
+use Rattle.certificate_text.specs.Blocks.{ScaledTokens, LemmaTokens, lemmas, row_line, lemma_lines, goal_lines, certificate_lines, head_line, denominator_line, IsScaled, AreLemmas}
+use Rattle.certificate_text.specs.Bounds.{names, numbers, words, rows, letters, letters_in, IsWithin, IsLemmaRowOf, IsScaledOf}
 use Rattle.certificate_text.specs.Evidence.{certificate_kind}
 use Rattle.certificate_text.specs.Written.{lemma_row_text, scaled_text, lemma_text, lemmas_text, goal_text, lemma_certificate_text}
 use Rattle.block_text.specs.Back.{is_named, IsLineText}
@@ -26,10 +25,11 @@ use Rattle.certificate_text.specs.Back.{IsWritableLemmaRow, IsWritableLemma, IsW
 use Rattle.certificate_text.proofs.BlocksBack.{lemma_row_written}
 use Rattle.block_text.proofs.ContentBack.{IsTextOf, no_text, text-append}
 use Rattle.block_text.proofs.PartsBack.{IsWritten}
-use Rattle.block_text.proofs.NumbersBack.{decimal_text, decimal_number, decimal_within}
-use Rattle.certificate_text.proofs.RowsBack.{row_tree, IsWrittenRow, lemma_row_says, AreRows, rows-append, letters_in-append, zip_by, trees, rows_are_text, rows_are_rows, letters_in-trees}
+use Rattle.block_text.proofs.NumbersBack.{decimal_text}
+use Rattle.certificate_text.proofs.RowsBack.{row_tree, IsWrittenRow, lemma_row_says, AreRows, rows-append, rows_within, letters_in-append, zip_by, trees, rows_are_text, rows_are_rows, letters_in-trees}
 use Rattle.block_text.proofs.NumberLines.{text_of_number, end_is_text}
-use Rattle.certificate_text.proofs.SizesBack.{IsSize, size_written, number_is_value, opening_is_text}
+use Rattle.certificate_text.proofs.SizesBack.{IsSize, size_written, head_written, number_is_value, opening_is_text}
+use Rattle.certificate_text.proofs.OpenBlocks.{RowPlace, IsLeading, lead_place, rows_of}
 use Rattle.block_text.proofs.TextsBack.{line_text-append, literal, plain_name}
 use Rattle.block_text.proofs.TokensBack.{token_read, name_token}
 
@@ -75,10 +75,6 @@ goal_is_text ds l written = text-append _ _ _ _ (scaled_is_text ds l written (co
 abbrev pub lemma_tree : List Declaration → ℕ → Lemma → LemmaTokens
 lemma_tree ds number l = record { number = decimal number; scaled = scaled_tree ds l }
 
-abbrev lemma_trees : List Declaration → ℕ → List Lemma → List LemmaTokens
-lemma_trees ds number [] = []
-lemma_trees ds number (l ∷ ls) = lemma_tree ds number l ∷ lemma_trees ds (suc number) ls
-
 pub lemma_is_text : (ds : List Declaration) (number : ℕ) (l : Lemma) → number < 10 ^ 64 → IsWrittenLemma ds l → IsTextOf (lemma_text ds number l) (lemma_lines (lemma_tree ds number l))
 lemma_is_text ds number l small written =
     let text = decimal_text number small in
@@ -88,55 +84,47 @@ lemma_is_text ds number l small written =
     ap tokens_of (append_assoc (decimal number) (codes " scale ") (signed_decimal l.scale)) ∙ token_read (decimal number) behind (name_token (decimal number) text) refl in
     scaled_is_text ds l written (codes "lemma " ++ decimal number) (codes "lemma" ∷ decimal number ∷ codes "scale" ∷ []) line (ap (λ ts. codes "lemma" ∷ ts) split) refl
 
-module _ (ds : List Declaration) where
-  lemmas_are_text : (number : ℕ) (ls : List Lemma) → number + length ls < 10 ^ 64 → All (IsWrittenLemma ds) ls → IsTextOf (lemmas_text ds number ls) (flat_map lemma_lines (lemma_trees ds number ls))
-  lemmas_are_text number [] small each = no_text
-  lemmas_are_text number (l ∷ ls) small each =
-      text-append _ _ _ _ (lemma_is_text ds number l (omega (arith, small)) (All-head (IsWrittenLemma ds) l ls each))
-      (lemmas_are_text (suc number) ls (omega (arith, small)) (All-tail (IsWrittenLemma ds) l ls each))
+-- what is read of lemmas with this number and the next ones, and how many they are
+record AreLemmasBack (ds : List Declaration) (number : ℕ) (ls : List Lemma) : Type 0 where
+  tokens : List LemmaTokens
+  text_is : IsTextOf (lemmas_text ds number ls) (flat_map lemma_lines tokens)
+  numbered : AreLemmas number tokens
+  rows : AreRows ds (rows_of tokens)
+  scales : All (λ l. IsWithin integer_limit l.scaled.scale) tokens
+  say : AllZip (λ l lemma. IsScaledOf ds l.scaled lemma) tokens ls
+  count : length tokens ≡ length ls
+  count_rows : length (rows_of tokens) ≡ row_count ls
+  count_letters : letters_in (rows_of tokens) ≡ letters_of_lemmas ls
 
-  are_lemmas : (number : ℕ) (ls : List Lemma) → number + length ls < 10 ^ 64 → All (IsWrittenLemma ds) ls → AreLemmas number (lemma_trees ds number ls)
-  are_lemmas number [] small each = tt
-  are_lemmas number (l ∷ ls) small each =
-      let next : suc number ≡ number + 1 = omega arith in (
-        number_is_value number (omega (arith, small)),
-        is_scaled ds l (All-head (IsWrittenLemma ds) l ls each),
-        subst (λ n. AreLemmas n (lemma_trees ds (suc number) ls)) next (are_lemmas (suc number) ls (omega (arith, small)) (All-tail (IsWrittenLemma ds) l ls each)),
-      )
-
-  -- the rows of all lemmas
-  abbrev rows_of : ℕ → List Lemma → List RowTokens
-  rows_of number ls = flat_map (λ l. l.scaled.rows) (lemma_trees ds number ls)
-
-  rows_of_lemmas : (number : ℕ) (ls : List Lemma) → All (IsWrittenLemma ds) ls → AreRows ds (rows_of number ls)
-  rows_of_lemmas number [] each = record { each = All-nil _; names = All-nil _; numbers = All-nil _; words = All-nil _ }
-  rows_of_lemmas number (l ∷ ls) each =
-      rows-append ds (scaled_tree ds l).rows (rows_of (suc number) ls) (of_rows ds l (All-head (IsWrittenLemma ds) l ls each)) (rows_of_lemmas (suc number) ls (All-tail (IsWrittenLemma ds) l ls each))
-
-  scales_within : (number : ℕ) (ls : List Lemma) → All (IsWrittenLemma ds) ls → All (λ l. IsWithin integer_limit l.scaled.scale) (lemma_trees ds number ls)
-  scales_within number [] each = All-nil _
-  scales_within number (l ∷ ls) each =
-      All-cons (λ l. IsWithin integer_limit l.scaled.scale) (lemma_tree ds number l) (lemma_trees ds (suc number) ls) (All-head (IsWrittenLemma ds) l ls each).size.within (scales_within (suc number) ls (All-tail (IsWrittenLemma ds) l ls each))
-
-  lemmas_say : (number : ℕ) (ls : List Lemma) → All (IsWrittenLemma ds) ls → AllZip (λ l lemma. IsScaledOf ds l.scaled lemma) (lemma_trees ds number ls) ls
-  lemmas_say number [] each = tt
-  lemmas_say number (l ∷ ls) each = (says ds l (All-head (IsWrittenLemma ds) l ls each), lemmas_say (suc number) ls (All-tail (IsWrittenLemma ds) l ls each))
-
-  -- how many
-  count_lemmas : (number : ℕ) (ls : List Lemma) → length (lemma_trees ds number ls) ≡ length ls
-  count_lemmas number [] = refl
-  count_lemmas number (l ∷ ls) = omega (arith, count_lemmas (suc number) ls)
-
-  count_rows : (number : ℕ) (ls : List Lemma) → length (rows_of number ls) ≡ row_count ls
-  count_rows number [] = refl
-  count_rows number (l ∷ ls) =
-      length-append (scaled_tree ds l).rows (rows_of (suc number) ls) ∙ rw (length-map, count_rows (suc number) ls, sum_by-cons (λ (l : Lemma). length l.rows) l ls) refl
-
-  count_letters : (number : ℕ) (ls : List Lemma) → letters_in (rows_of number ls) ≡ letters_of_lemmas ls
-  count_letters number [] = refl
-  count_letters number (l ∷ ls) =
-      letters_in-append (scaled_tree ds l).rows (rows_of (suc number) ls)
-      ∙ rw (letters_in-trees ds (λ (row : LemmaRow). row) l.rows, count_letters (suc number) ls, sum_by-cons (λ (l : Lemma). sum_by (λ (r : LemmaRow). length r.left + length r.right) l.rows) l ls) refl
+lemmas_back : (ds : List Declaration) (number : ℕ) (ls : List Lemma) → number + length ls < 10 ^ 64 → All (IsWrittenLemma ds) ls → AreLemmasBack ds number ls
+lemmas_back ds number [] small each = record {
+  tokens = [];
+  text_is = no_text;
+  numbered = tt;
+  rows = record { each = All-nil _; names = All-nil _; numbers = All-nil _; words = All-nil _ };
+  scales = All-nil _;
+  say = tt;
+  count = refl;
+  count_rows = refl;
+  count_letters = refl;
+}
+lemmas_back ds number (l ∷ ls) small each =
+    let one = All-head (IsWrittenLemma ds) l ls each in
+    let more = lemmas_back ds (suc number) ls (omega (arith, small)) (All-tail (IsWrittenLemma ds) l ls each) in
+    let next : suc number ≡ number + 1 = omega arith in
+    let listed = (scaled_tree ds l).rows in record {
+      tokens = lemma_tree ds number l ∷ more.tokens;
+      text_is = text-append _ _ _ _ (lemma_is_text ds number l (omega (arith, small)) one) more.text_is;
+      numbered = (number_is_value number (omega (arith, small)), is_scaled ds l one, subst (λ n. AreLemmas n more.tokens) next more.numbered);
+      rows = rows-append ds listed (rows_of more.tokens) (of_rows ds l one) more.rows;
+      scales = All-cons (λ l. IsWithin integer_limit l.scaled.scale) (lemma_tree ds number l) more.tokens one.size.within more.scales;
+      say = (says ds l one, more.say);
+      count = ap suc more.count;
+      count_rows = length-append listed (rows_of more.tokens) ∙ rw (length-map, more.count_rows, sum_by-cons (λ (l : Lemma). length l.rows) l ls) refl;
+      count_letters =
+          letters_in-append listed (rows_of more.tokens)
+          ∙ rw (letters_in-trees ds (λ (row : LemmaRow). row) l.rows, more.count_letters, sum_by-cons (λ (l : Lemma). sum_by (λ (r : LemmaRow). length r.left + length r.right) l.rows) l ls) refl;
+    }
 
 -- what is known of a certificate that is written
 pub record AreWritten (ds : List Declaration) (c : LemmaCertificate) : Type 0 where
@@ -155,68 +143,54 @@ lemmas_written ds c declared known writable = record {
   goal = lemma_written ds declared known c.goal writable.goal;
 }
 
-abbrev lemmas_tree : List Declaration → LemmaCertificate → LemmasTokens
-lemmas_tree ds c = record { claim = decimal c.claim; denominator = signed_decimal c.denominator; lemmas = lemma_trees ds 1 c.lemmas; goal = scaled_tree ds c.goal }
-
 module _ (ds : List Declaration) (c : LemmaCertificate) (writable : IsWritableByLemmas ds c) (written : AreWritten ds c) where
-  size : IsSize c.denominator
-  size = size_written c.denominator writable.denominator
+  back : AreLemmasBack ds 1 c.lemmas
+  back = lemmas_back ds 1 c.lemmas (omega (arith, writable.few_lemmas)) written.lemmas
 
-  small : c.claim < 10 ^ 64
-  small = omega (arith, writable.claim)
-
-  counted : 1 + length c.lemmas < 10 ^ 64
-  counted = omega (arith, writable.few_lemmas)
-
-  claim_value : number_within number_limit (decimal c.claim) ≡ Some c.claim
-  claim_value = decimal_within number_limit c.claim (omega (arith, writable.claim)) small
-
-  all_rows : AreRows ds (rows_of ds 1 c.lemmas ++ (scaled_tree ds c.goal).rows)
-  all_rows = rows-append ds (rows_of ds 1 c.lemmas) (scaled_tree ds c.goal).rows (rows_of_lemmas ds 1 c.lemmas written.lemmas) (of_rows ds c.goal written.goal)
-
-  block_is_text : IsTextOf (lemma_certificate_text ds c) (certificate_lines (lemmas (lemmas_tree ds c)) ++ end_line ∷ [])
-  block_is_text =
-      let tree : LemmasTokens = lemmas_tree ds c in
-      let whole = text-append _ _ _ _ (text-append _ _ _ _ (opening_is_text format.Lemmas c.claim c.denominator writable.claim size) (lemmas_are_text ds 1 c.lemmas counted written.lemmas)) (goal_is_text ds c.goal written.goal) in
-      subst (λ (ls : List Line). IsTextOf (lemma_certificate_text ds c) (head_line format.Lemmas ∷ claim_line tree.claim ∷ denominator_line tree.denominator ∷ ls))
-      (sym (append_assoc (flat_map lemma_lines tree.lemmas) (goal_lines tree.goal) (end_line ∷ []))) whole
-
-  is_block : IsLemmasBlock (lemmas_tree ds c)
-  is_block = record {
-    claim = decimal_number c.claim small;
-    denominator = size.number;
-    lemmas = are_lemmas ds 1 c.lemmas counted written.lemmas;
-    goal = is_scaled ds c.goal written.goal;
+  -- after the first line of the goal
+  abbrev leading : IsLeading format.Lemmas ds c.claim c.denominator c.lemmas c.goal.scale None
+  leading = record {
+    read = tt;
+    head = head_written c.claim c.denominator writable.claim (size_written c.denominator writable.denominator);
+    done = record { tokens = back.tokens; numbered = back.numbered; scales = back.scales; values = back.say };
+    next = tt;
+    few = rw back.count writable.few_lemmas;
+    digits = signed_decimal c.goal.scale;
+    number = written.goal.size.number;
+    value = written.goal.size.value;
   }
 
-  row_total : length (rows_of ds 1 c.lemmas ++ (scaled_tree ds c.goal).rows) ≡ row_count (c.lemmas ++ c.goal ∷ [])
-  row_total =
-      length-append (rows_of ds 1 c.lemmas) (scaled_tree ds c.goal).rows
-      ∙ rw (count_rows ds 1 c.lemmas, length-map, sum_by_push (λ (l : Lemma). length l.rows) c.lemmas c.goal) refl
+  abbrev place : RowPlace format.Lemmas ds format.Lemmas
+  place = lead_place format.Lemmas ds leading
 
-  letter_total : letters_in (rows_of ds 1 c.lemmas ++ (scaled_tree ds c.goal).rows) ≡ letters_of_lemmas (c.lemmas ++ c.goal ∷ [])
+  abbrev goal_rows : List RowTokens
+  goal_rows = (scaled_tree ds c.goal).rows
+
+  block_is_text : IsTextOf (lemma_certificate_text ds c) (certificate_lines (place.block goal_rows) ++ end_line ∷ [])
+  block_is_text =
+      let opening = opening_is_text format.Lemmas c.claim c.denominator writable.claim (size_written c.denominator writable.denominator) in
+      let whole = text-append _ _ _ _ (text-append _ _ _ _ opening back.text_is) (goal_is_text ds c.goal written.goal) in
+      subst (λ (ls : List Line). IsTextOf (lemma_certificate_text ds c) (head_line format.Lemmas ∷ claim_line leading.head.claim ∷ denominator_line leading.head.denominator ∷ ls))
+      (sym (append_assoc (flat_map lemma_lines back.tokens) (goal_lines (scaled_tree ds c.goal)) (end_line ∷ []))) whole
+
+  row_total : length (rows_of back.tokens ++ goal_rows) ≡ row_count (c.lemmas ++ c.goal ∷ [])
+  row_total = length-append (rows_of back.tokens) goal_rows ∙ rw (back.count_rows, length-map, sum_by_push (λ (l : Lemma). length l.rows) c.lemmas c.goal) refl
+
+  letter_total : letters_in (rows_of back.tokens ++ goal_rows) ≡ letters_of_lemmas (c.lemmas ++ c.goal ∷ [])
   letter_total =
-      letters_in-append (rows_of ds 1 c.lemmas) (scaled_tree ds c.goal).rows
+      letters_in-append (rows_of back.tokens) goal_rows
       ∙ rw (
-        count_letters ds 1 c.lemmas,
+        back.count_letters,
         letters_in-trees ds (λ (row : LemmaRow). row) c.goal.rows,
         sum_by_push (λ (l : Lemma). sum_by (λ (r : LemmaRow). length r.left + length r.right) l.rows) c.lemmas c.goal,
       ) refl
 
-  keeps : (bound : Bound) → KeepsOne ds bound (lemmas (lemmas_tree ds c))
-  keeps names = all_rows.names
-  keeps numbers = (((c.claim, claim_value), size.within, scales_within ds 1 c.lemmas written.lemmas, written.goal.size.within), all_rows.numbers)
-  keeps words = all_rows.words
-  keeps rows = (rw row_total writable.few_rows, rw (count_lemmas ds 1 c.lemmas) writable.few_lemmas)
-  keeps letters = rw letter_total writable.letters
-
-  meant : IsLemmasOf ds (lemmas_tree ds c) c
-  meant = record {
-    claim = claim_value;
-    denominator = size.value;
-    lemmas = lemmas_say ds 1 c.lemmas written.lemmas;
-    goal = says ds c.goal written.goal;
-  }
-
   pub certificate_written : IsWritten (certificate_kind format.Lemmas ds) (lemma_certificate_text ds c) (evidence.Lemmas c)
-  certificate_written = record { tree = lemmas (lemmas_tree ds c); text_is = block_is_text; is_tree = is_block; keeps = keeps; says = meant }
+  certificate_written =
+      let all = rows-append ds (rows_of back.tokens) goal_rows back.rows (of_rows ds c.goal written.goal) in record {
+        tree = place.block goal_rows;
+        text_is = block_is_text;
+        is_tree = place.is_block goal_rows (of_rows ds c.goal written.goal).each;
+        keeps = λ bound. place.keeps bound goal_rows (rows_within ds (rows_of back.tokens ++ goal_rows) all (rw row_total writable.few_rows) (rw letter_total writable.letters) bound);
+        says = record { claim = leading.head.claim_value; denominator = leading.head.denominator_value; lemmas = back.say; goal = says ds c.goal written.goal };
+      }

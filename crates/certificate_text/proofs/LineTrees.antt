@@ -3,11 +3,12 @@ use Rattle.std.proofs.Common.{◌≡◌, ℕ, Bool, true, false, not, cond, ◌&
 use Rattle.std.specs.Option.{option_and_then}
 use Rattle.std.proofs.lemmas.Bool.{and_parts}
 use Rattle.std.proofs.lemmas.Option.{option_and_then_some, cond_some}
+use Rattle.traced_rows.specs.declared.evidence.Format.{Format}
 use Rattle.traced_rows.specs.declared.evidence.Format.TheVariants.{Plain, Lemmas}
 use Rattle.block_text.specs.Letters.{is_number}
 use Rattle.block_text.specs.Lines.{is, bracketed, Line}
 use Rattle.certificate_text.specs.Lines.{RowTokens, is_plain_head, is_lemmas_head, is_value, scale_digits, lemma_digits, goal_digits, row_end, number_part, origin_part, row_parts, is_row, row_tokens}
-use Rattle.certificate_text.specs.Blocks.{origin_tokens, row_line, head_line}
+use Rattle.certificate_text.specs.Blocks.{origin_tokens, row_line, head_line, IsPlainRow}
 use Rattle.block_text.proofs.Results.{by_test, cond_option}
 use Rattle.block_text.proofs.LineTrees.{Parts, is_word, pair_is, number_is, bracketed_is}
 
@@ -47,32 +48,20 @@ row_end_is coefficient left lemma number right [] r read = (refl, cc)
 row_end_is coefficient left lemma number right (token ∷ behind) r read = absurd (cc)
 
 -- the tokens after the first bracket, without `lemma`, are those of a row
-record IsOrigin (coefficient : List ℕ) (left : Line) (lemma : Bool) (tokens : Line) (r : RowTokens) : Type 0 where
-  number : List ℕ
-  right : Line
-  same : made coefficient left lemma number right ≡ r
-  tokens_are : tokens ≡ number ∷ codes "(" ∷ (right ++ codes ")" ∷ [])
-
-number_part_is : (coefficient : List ℕ) (left : Line) (lemma : Bool) (tokens : Line) (r : RowTokens) → number_part coefficient left lemma tokens ≡ Some r → IsOrigin coefficient left lemma tokens r
+number_part_is : (coefficient : List ℕ) (left : Line) (lemma : Bool) (tokens : Line) (r : RowTokens) → number_part coefficient left lemma tokens ≡ Some r
+    → (number : List ℕ) × (right : Line) × (made coefficient left lemma number right ≡ r) × (tokens ≡ number ∷ codes "(" ∷ (right ++ codes ")" ∷ []))
 number_part_is coefficient left lemma [] r read = absurd (cc)
 number_part_is coefficient left lemma (number ∷ tokens) r read =
     option_and_then_some (λ (right : Parts). row_end coefficient left lemma number right.0 right.1) (bracketed tokens) r read (λ right found ended.
     let end = row_end_is coefficient left lemma number right.0 right.1 r ended in
-    record {
-      number = number;
-      right = right.0;
-      same = end.1;
-      tokens_are = ap (λ ts. number ∷ ts) (bracketed_is tokens right found ∙ ap (λ (behind : Line). codes "(" ∷ (right.0 ++ codes ")" ∷ behind)) end.0);
-    })
+    (number, right.0, end.1, ap (λ ts. number ∷ ts) (bracketed_is tokens right found ∙ ap (λ (behind : Line). codes "(" ∷ (right.0 ++ codes ")" ∷ behind)) end.0)))
 
 -- the line of the row after the first bracket
 abbrev origin_line : RowTokens → Line
 origin_line r = origin_tokens r ++ (codes "(" ∷ (r.right ++ codes ")" ∷ []))
 
-record IsBehind (coefficient : List ℕ) (left tokens : Line) (r : RowTokens) : Type 0 where
-  coefficient_is : r.coefficient ≡ coefficient
-  left_is : r.left ≡ left
-  tokens_are : tokens ≡ origin_line r
+abbrev IsBehind : List ℕ → Line → Line → RowTokens → Type 0
+IsBehind coefficient left tokens r = (r.coefficient ≡ coefficient) × (r.left ≡ left) × (tokens ≡ origin_line r)
 
 behind_is : (coefficient : List ℕ) (left tokens : Line) (r : RowTokens) → origin_part coefficient left tokens ≡ Some r → IsBehind coefficient left tokens r
 behind_is coefficient left [] r read = absurd (cc)
@@ -80,11 +69,9 @@ behind_is coefficient left (word ∷ tokens) r read =
     by_test (is (codes "lemma") word) _ _ (Some r) read
     (λ there read_on.
     let origin = number_part_is coefficient left true tokens r read_on in
-    subst (IsBehind coefficient left (word ∷ tokens)) origin.same
-    (record { coefficient_is = refl; left_is = refl; tokens_are = ap₂ (λ t ts. t ∷ ts) (is_word (codes "lemma") word there) origin.tokens_are }))
+    subst (IsBehind coefficient left (word ∷ tokens)) origin.2 (refl, refl, ap₂ (λ t ts. t ∷ ts) (is_word (codes "lemma") word there) origin.3))
     (λ absent read_on.
-    let origin = number_part_is coefficient left false (word ∷ tokens) r read_on in
-    subst (IsBehind coefficient left (word ∷ tokens)) origin.same (record { coefficient_is = refl; left_is = refl; tokens_are = origin.tokens_are }))
+    let origin = number_part_is coefficient left false (word ∷ tokens) r read_on in subst (IsBehind coefficient left (word ∷ tokens)) origin.2 (refl, refl, origin.3))
 
 parts_are : (line : Line) (r : RowTokens) → row_parts line ≡ Some r → line ≡ row_line r
 parts_are [] r read = absurd (cc)
@@ -93,25 +80,25 @@ parts_are (word ∷ coefficient ∷ tokens) r read =
     let found = cond_option (is (codes "row") word) (option_and_then (λ (left : Parts). origin_part coefficient left.0 left.1) (bracketed tokens)) r read in
     option_and_then_some (λ (left : Parts). origin_part coefficient left.0 left.1) (bracketed tokens) r found.1 (λ left there rest.
     let behind = behind_is coefficient left.0 left.1 r rest in
-    let bracket : tokens ≡ codes "(" ∷ (r.left ++ codes ")" ∷ origin_line r) =
-    bracketed_is tokens left there ∙ ap₂ (λ (l ts : Line). codes "(" ∷ (l ++ codes ")" ∷ ts)) (sym behind.left_is) behind.tokens_are in
-    ap₂ (λ w (ts : Line). w ∷ ts) (is_word (codes "row") word found.0) (ap₂ (λ (c : List ℕ) (ts : Line). c ∷ ts) (sym behind.coefficient_is) bracket))
+    let bracket : tokens ≡ codes "(" ∷ (r.left ++ codes ")" ∷ origin_line r) = bracketed_is tokens left there ∙ ap₂ (λ (l ts : Line). codes "(" ∷ (l ++ codes ")" ∷ ts)) (sym behind.1) behind.2 in
+    ap₂ (λ w (ts : Line). w ∷ ts) (is_word (codes "row") word found.0) (ap₂ (λ (c : List ℕ) (ts : Line). c ∷ ts) (sym behind.0) bracket))
 
--- the line of a row over generators
-pub plain_row_is : (line : Line) (r : RowTokens) → row_tokens Plain line ≡ Some r → (line ≡ row_line r) × IsTrue (is_row r) × (r.lemma ≡ false)
-plain_row_is line r read =
+-- a row of a certificate of this format
+abbrev pub IsRowOf : Format → RowTokens → Type 0
+IsRowOf Plain r = IsPlainRow r
+IsRowOf Lemmas r = IsTrue (is_row r)
+
+-- the line of a row
+pub row_is : (form : Format) (line : Line) (r : RowTokens) → row_tokens form line ≡ Some r → (line ≡ row_line r) × IsRowOf form r
+row_is Plain line r read =
     option_and_then_some (λ s. cond (not s.lemma && is_row s) (Some s) None) (row_parts line) r read (λ s found kept.
     let known = cond_some (not s.lemma && is_row s) s r kept in
     let parts = and_parts (not s.lemma) (is_row s) known.0 in
-    subst (λ (t : RowTokens). (line ≡ row_line t) × IsTrue (is_row t) × (t.lemma ≡ false)) known.1 (parts_are line s found, parts.1, not_true s.lemma parts.0))
+    subst (λ (t : RowTokens). (line ≡ row_line t) × IsPlainRow t) known.1 (parts_are line s found, record { row = parts.1; generator = not_true s.lemma parts.0 }))
   where
     not_true : (b : Bool) → not b ≡ true → b ≡ false
     not_true true same = absurd (cc)
     not_true false same = refl
-
--- the line of a row over generators and lemmas
-pub lemma_row_is : (line : Line) (r : RowTokens) → row_tokens Lemmas line ≡ Some r → (line ≡ row_line r) × IsTrue (is_row r)
-lemma_row_is line r read =
+row_is Lemmas line r read =
     option_and_then_some (λ s. cond (is_row s) (Some s) None) (row_parts line) r read (λ s found kept.
-    let known = cond_some (is_row s) s r kept in
-    subst (λ (t : RowTokens). (line ≡ row_line t) × IsTrue (is_row t)) known.1 (parts_are line s found, known.0))
+    let known = cond_some (is_row s) s r kept in subst (λ (t : RowTokens). (line ≡ row_line t) × IsTrue (is_row t)) known.1 (parts_are line s found, known.0))

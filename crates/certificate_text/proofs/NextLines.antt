@@ -1,5 +1,5 @@
 -- A line that is read at its place in a block.
-use Rattle.std.proofs.Common.{◌≡◌, ◌<◌, ◌+◌, ℕ, ℤ, pos, List, [], ◌∷◌, ◌++◌, Option, Some, None, Ok, IsTrue, arith, sym, ap, ap₂, ◌∙◌, subst, length, map, nat_le, leb-false, append_assoc, append-nil, codes}
+use Rattle.std.proofs.Common.{◌≡◌, ◌<◌, ◌+◌, ℕ, ℤ, pos, List, [], ◌∷◌, ◌++◌, Option, Some, None, Ok, IsTrue, arith, sym, ap, ap₂, refl, ◌∙◌, subst, length, map, Result, Err, nat_le, leb-false, append_assoc, append-nil, codes}
 use Rattle.std.specs.List.{flat_map}
 use Rattle.std.specs.Option.{option_map}
 use Rattle.std.proofs.lemmas.Grind.{flat_map-append}
@@ -7,7 +7,6 @@ use Rattle.std.proofs.lemmas.List.{length-append, map-append}
 use Rattle.std.proofs.lemmas.List.Elements.{All-nil, All-push}
 use Rattle.quiver.specs.Declarations.{Declaration}
 use Rattle.traced_rows.specs.declared.certificate.CertRow.{CertRow}
-use Rattle.traced_rows.specs.declared.certificate.Certificate.{Certificate}
 use Rattle.traced_rows.specs.declared.evidence.Lemma.{Lemma}
 use Rattle.traced_rows.specs.declared.evidence.LemmaRow.{LemmaRow}
 use Rattle.traced_rows.specs.declared.evidence.Format.{Format}
@@ -15,19 +14,20 @@ use Rattle.traced_rows.specs.declared.evidence.Format.TheVariants.{Plain, Lemmas
 use Rattle.block_text.specs.declared.fault.Flaw.TheVariants.{BadLine, NumberTooLarge}
 use Rattle.certificate_text.specs.declared.place.Size.{Size}
 use Rattle.certificate_text.specs.declared.place.Opened.{Opened}
-use Rattle.block_text.specs.Fault.{asked}
+use Rattle.block_text.specs.declared.fault.Flaw.{Flaw}
+use Rattle.block_text.specs.Fault.{◌>>=◌, asked}
 use Rattle.block_text.specs.Letters.{is_number, number_within}
 use Rattle.block_text.specs.Lines.{number_limit, integer_limit, integer_of, claim_of, Line, claim_line}
-use Rattle.certificate_text.specs.Lines.{RowTokens, row_limit, is_value, is_row, denominator_of, lemma_digits, lemma_scale_of, goal_digits, goal_scale_of, row_tokens, row_values, row_of, over_lemma, lemma_row_of, grown}
-use Rattle.certificate_text.specs.Blocks.{ScaledTokens, LemmaTokens, PlainTokens, row_line, head_line, denominator_line, lemma_lines, IsPlainRow, IsScaled}
+use Rattle.certificate_text.specs.Lines.{RowTokens, row_limit, is_value, is_row, denominator_of, lemma_digits, lemma_scale_of, goal_digits, goal_scale_of, row_tokens, row_values, lemma_row_of, grown}
+use Rattle.certificate_text.specs.Blocks.{ScaledTokens, LemmaTokens, row_line, head_line, denominator_line, lemma_lines, IsPlainRow, IsScaled}
 use Rattle.certificate_text.specs.Bounds.{IsWithin, IsScaledOf, IsLemmaRowOf}
-use Rattle.certificate_text.specs.Reading.{certificate_of, begun, lemma_of, closed_by, resized, lemma_row}
-use Rattle.block_text.proofs.Results.{by_test, bind_ok, asked_ok}
-use Rattle.block_text.proofs.SaidLines.{number_said}
-use Rattle.certificate_text.proofs.LineTrees.{lemma_is, goal_is, plain_row_is, lemma_row_is}
-use Rattle.certificate_text.proofs.RowTrees.{HaveSize, no_rows_size, size_push, integer_is_within}
+use Rattle.certificate_text.specs.Reading.{begun, lemma_of, closed_by, lemma_row}
+use Rattle.block_text.proofs.Results.{by_test, bind_ok, asked_ok, ok_has}
+use Rattle.block_text.proofs.SaidLines.{IsNumberLine, number_said}
+use Rattle.certificate_text.proofs.LineTrees.{lemma_is, goal_is, IsRowOf, row_is}
+use Rattle.certificate_text.proofs.RowTrees.{Pass, HaveSize, no_rows_size, IsAdded, added, unvalued, full, is_added, integer_is_within}
 use Rattle.block_text.proofs.Zips.{zip_push, zip_length}
-use Rattle.certificate_text.proofs.OpenBlocks.{IsHeaded, IsClaimed, IsInPlain, IsBegun, IsOpened, IsLed, IsInside, IsOpen, Lead, lemma_tokens, lead_lines, IsNext, IsFew, rows_of, lemmas_front, are_lemmas-push, plain_front}
+use Rattle.certificate_text.proofs.OpenBlocks.{IsMadeBy, IsHead, scaled_by, front_of, lemma_made, IsHeaded, IsClaimed, IsOpened, IsLed, IsInside, IsOpen, Lead, lemma_tokens, lead_lines, IsNext, IsFew, rows_of, are_lemmas-push}
 
 -- two lists of lines with one more line
 pub behind : (front other : List Line) (line last : Line) → front ≡ other → line ≡ last → front ++ line ∷ [] ≡ other ++ last ∷ []
@@ -81,81 +81,44 @@ next_headed most form front line n headed read =
       are = behind front (head_line form ∷ []) line (claim_line known.0.digits) headed.are known.0.is;
     }
 
+-- after the denominator
+module _ {most form : Format} {n : ℕ} {front : List Line} (here : IsClaimed most form n front) {line : Line} {d : ℤ} (known : (found : IsNumberLine (codes "denominator") line) × (integer_in found.digits ≡ Some d)) where
+  abbrev head_with : IsHead n d
+  head_with = record {
+    claim = here.claim;
+    denominator = known.0.digits;
+    claim_number = here.claim_number;
+    denominator_number = known.0.number;
+    claim_value = here.claim_value;
+    denominator_value = ap (asked NumberTooLarge) known.1;
+  }
+
+  front_with : front ++ line ∷ [] ≡ head_line form ∷ claim_line here.claim ∷ denominator_line known.0.digits ∷ []
+  front_with = behind front (head_line form ∷ claim_line here.claim ∷ []) line (denominator_line known.0.digits) here.are known.0.is
+
 pub next_claimed : (most : Format) (ds : List Declaration) (form : Format) (front : List Line) (line : Line) (n : ℕ) (d : ℤ) → IsClaimed most form n front → denominator_of line ≡ Ok d
     → IsOpen most ds (begun form n d) (front ++ line ∷ [])
-next_claimed most ds Plain front line n d claimed read =
+next_claimed most ds Plain front line n d here read =
     let known = number_said (codes "denominator") integer_in line d read in
-    let digits : List ℕ = known.0.digits in
-    record {
-      tokens = record { claim = claimed.claim; denominator = digits; rows = [] };
-      is_block = record { claim = claimed.claim_number; denominator = known.0.number; rows = All-nil IsPlainRow };
-      values = record { claim = claimed.claim_value; denominator = ap (asked NumberTooLarge) known.1; rows = tt };
-      have = no_rows_size ds;
-      are = behind front (head_line Plain ∷ claim_line claimed.claim ∷ []) line (denominator_line digits) claimed.are known.0.is;
-    }
-next_claimed most ds Lemmas front line n d claimed read =
+    (head_with here known, record { tokens = []; each = All-nil IsPlainRow; say = tt; have = no_rows_size ds; are = front_with here known })
+next_claimed most ds Lemmas front line n d here read =
     let known = number_said (codes "denominator") integer_in line d read in
-    let digits : List ℕ = known.0.digits in
-    let value : integer_of digits ≡ Ok d = ap (asked NumberTooLarge) known.1 in
     record {
-      read = claimed.read;
-      claim = claimed.claim;
-      denominator = digits;
-      finished = [];
-      begun = record {
-        head = record { claim_number = claimed.claim_number; denominator_number = known.0.number; numbered = tt };
-        within = record {
-          claim_within = (n, claimed.claim_value);
-          denominator_within = integer_is_within digits d value;
-          scales = All-nil (λ (l : LemmaTokens). IsWithin integer_limit l.scaled.scale);
-        };
-        claim_value = claimed.claim_value;
-        denominator_value = value;
-        values = tt;
-      };
+      read = here.read;
+      head = head_with here known;
+      done = record { tokens = []; numbered = tt; scales = All-nil (λ (l : LemmaTokens). IsWithin integer_limit l.scaled.scale); values = tt };
       few = omega arith;
       have = no_rows_size ds;
-      are = behind front (head_line Lemmas ∷ claim_line claimed.claim ∷ []) line (denominator_line digits) claimed.are known.0.is;
+      are = front_with here known;
     }
 
--- the lines of rows with one more row
-pub rows_push : (rs : List RowTokens) (r : RowTokens) → map row_line (rs ++ r ∷ []) ≡ map row_line rs ++ row_line r ∷ []
-rows_push rs r = map-append row_line rs (r ∷ [])
-
-abbrev pub plain_push : PlainTokens → RowTokens → PlainTokens
-plain_push b r = record { claim = b.claim; denominator = b.denominator; rows = b.rows ++ r ∷ [] }
-
-pub plain_front-push : (b : PlainTokens) (r : RowTokens) → plain_front b ++ row_line r ∷ [] ≡ plain_front (plain_push b r)
-plain_front-push b r = ap (λ ls. head_line Plain ∷ claim_line b.claim ∷ denominator_line b.denominator ∷ ls) (sym (rows_push b.rows r))
-
-pub next_plain : (ds : List Declaration) (c : Certificate) (size : Size) (front : List Line) (line : Line) (row : CertRow) (next : Size) → IsInPlain ds c size front → row_of ds line ≡ Ok row
-    → grown size row.left row.right ≡ Ok next → IsInPlain ds (certificate_of c.claim c.denominator (c.rows ++ row ∷ [])) next (front ++ line ∷ [])
-next_plain ds c size front line row next inside read fits =
-    bind_ok (asked BadLine (row_tokens Plain line)) (row_values ds) row read (λ r there read_values.
-    let known = plain_row_is line r (asked_ok BadLine (row_tokens Plain line) r there) in
-    let b : PlainTokens = inside.tokens in
-    record {
-      tokens = plain_push b r;
-      is_block = record {
-        claim = inside.is_block.claim;
-        denominator = inside.is_block.denominator;
-        rows = All-push IsPlainRow b.rows r inside.is_block.rows (record { row = known.1; generator = known.2 });
-      };
-      values = record {
-        claim = inside.values.claim;
-        denominator = inside.values.denominator;
-        rows = zip_push (λ s v. row_values ds s ≡ Ok v) b.rows c.rows r row inside.values.rows read_values;
-      };
-      have = size_push ds size b.rows inside.have r row read_values next fits;
-      are = behind front (plain_front b) line (row_line r) inside.are known.0 ∙ plain_front-push b r;
-    })
-
+-- rows behind a scale with one more row
 abbrev pub scaled_push : ScaledTokens → RowTokens → ScaledTokens
 scaled_push s r = record { scale = s.scale; rows = s.rows ++ r ∷ [] }
 
 pub lead_lines-push : (lead : Lead) (s : ScaledTokens) (r : RowTokens) → lead_lines lead s ++ row_line r ∷ [] ≡ lead_lines lead (scaled_push s r)
-lead_lines-push None s r = ap (λ (ls : List Line). (codes "goal" ∷ codes "scale" ∷ s.scale ∷ []) ∷ ls) (sym (rows_push s.rows r))
-lead_lines-push (Some number) s r = ap (λ (ls : List Line). (codes "lemma" ∷ number ∷ codes "scale" ∷ s.scale ∷ []) ∷ ls) (sym (rows_push s.rows r))
+lead_lines-push None s r = ap (λ (ls : List Line). (codes "goal" ∷ codes "scale" ∷ s.scale ∷ []) ∷ ls) (sym (map-append row_line s.rows (r ∷ [])))
+lead_lines-push (Some number) s r = ap (λ (ls : List Line). (codes "lemma" ∷ number ∷ codes "scale" ∷ s.scale ∷ []) ∷ ls) (sym (map-append row_line s.rows (r ∷ [])))
 
 -- the same after other lines
 pub lead_push : (front : List Line) (lead : Lead) (s : ScaledTokens) (r : RowTokens) → (front ++ lead_lines lead s) ++ row_line r ∷ [] ≡ front ++ lead_lines lead (scaled_push s r)
@@ -172,24 +135,52 @@ pub record IsRowMore (ds : List Declaration) (s : ScaledTokens) (before : List R
 pub scaled_more : (s : ScaledTokens) (r : RowTokens) → IsScaled s → IsTrue (is_row r) → IsScaled (scaled_push s r)
 scaled_more s r scaled row = record { scale = scaled.scale; rows = All-push (λ t. IsTrue (is_row t)) s.rows r scaled.rows row }
 
+-- what is read of the line of a row after others, and what is made of it and of the size with it
+module _ (ds : List Declaration) (form : Format) {C E : Type 0} (made : RowTokens → CertRow → C) (left right : C → List ℕ) (put : Size → C → E) (size : Size) (before : List RowTokens) (line : Line) where
+  pub data IsRowJudged (r : Result E Flaw) : Type 0 where
+    unfit : r ≡ Err BadLine → IsRowJudged r
+    halts : (flaw : Flaw) (row : RowTokens) → r ≡ Err flaw → line ≡ row_line row → IsRowOf form row → Pass ds flaw (before ++ row ∷ []) → IsRowJudged r
+    grows : (row : RowTokens) (next : Size) (c : C) → r ≡ Ok (put next c) → line ≡ row_line row → IsRowOf form row → IsMadeBy ds made row c → HaveSize ds next (before ++ row ∷ []) → IsRowJudged r
+
+  -- by the values of the tokens
+  module _ (values : RowTokens → Result C Flaw) (valued : (r : RowTokens) → values r ≡ (row_values ds r >>= λ row. Ok (made r row)))
+      (words : (r : RowTokens) (row : CertRow) → grown size (left (made r row)) (right (made r row)) ≡ grown size row.left row.right) (have : HaveSize ds size before) where
+    abbrev Behind : Result C Flaw → Result E Flaw
+    Behind r = r >>= λ c. (grown size (left c) (right c) >>= λ larger. Ok (put larger c))
+
+    by_row : (r : RowTokens) → line ≡ row_line r → IsRowOf form r → IsAdded ds size before have r (row_values ds r) (λ row. grown size row.left row.right) → IsRowJudged (Behind (values r))
+    by_row r line_is is (added row larger value fits grown_have) = grows r larger (made r row) (rw (valued r, value, words r row, fits) refl) line_is is (row, value, refl) grown_have
+    by_row r line_is is (unvalued flaw unread pass) = halts flaw r (rw (valued r, unread) refl) line_is is pass
+    by_row r line_is is (full row flaw value over pass) = halts flaw r (rw (valued r, value, words r row, over) refl) line_is is pass
+
+    pub row_judged : IsRowJudged (Behind (asked BadLine (row_tokens form line) >>= values))
+    row_judged = by_tokens (row_tokens form line) refl
+      where
+        by_tokens : (o : Option RowTokens) → row_tokens form line ≡ o → IsRowJudged (Behind (asked BadLine o >>= values))
+        by_tokens None none = unfit refl
+        by_tokens (Some r) there = let known = row_is form line r there in by_row r known.0 known.1 (is_added ds size before have r)
+
+-- a row of a lemma or of the goal
+pub lemma_row_judged : {E : Type 0} (ds : List Declaration) (size : Size) (put : Size → LemmaRow → E) (before : List RowTokens) (line : Line) → HaveSize ds size before
+    → IsRowJudged ds Lemmas lemma_made (λ row. row.left) (λ row. row.right) put size before line (lemma_row_of ds line >>= λ row. (grown size row.left row.right >>= λ larger. Ok (put larger row)))
+lemma_row_judged ds size put before line have =
+    row_judged ds Lemmas lemma_made (λ row. row.left) (λ row. row.right) put size before line (λ r. (row_values ds r >>= λ row. Ok (lemma_made r row))) (λ r. refl) (λ r row. refl) have
+
 pub row_more : (ds : List Declaration) (size : Size) (l : Lemma) (s : ScaledTokens) (before : List RowTokens) (line : Line) (next : Size × Lemma) → IsScaled s → IsScaledOf ds s l → HaveSize ds size (before ++ s.rows)
     → lemma_row ds size l line ≡ Ok next → IsRowMore ds s before line next
-row_more ds size l s before line next scaled values have read =
-    bind_ok (lemma_row_of ds line) _ next read (λ lemma_row row_is read_size.
-    bind_ok (grown size lemma_row.left lemma_row.right) _ next read_size (λ larger fits made.
-    bind_ok (asked BadLine (row_tokens Lemmas line)) _ lemma_row row_is (λ r there read_row.
-    bind_ok (row_values ds r) _ lemma_row read_row (λ row read_values over.
-    let known = lemma_row_is line r (asked_ok BadLine (row_tokens Lemmas line) r there) in
-    let row_same : over_lemma r.lemma row ≡ lemma_row = cc in
-    let same : (larger, lemma_of l.scale (l.rows ++ lemma_row ∷ [])) ≡ next = cc in
-    subst (IsRowMore ds s before line) same (record {
-      row = r;
-      line_is = known.0;
-      scaled = scaled_more s r scaled known.1;
-      values = record { scale = values.scale; rows = zip_push (IsLemmaRowOf ds) s.rows l.rows r lemma_row values.rows (row, read_values, sym row_same) };
-      have = subst (HaveSize ds larger) (append_assoc before s.rows (r ∷ []))
-          (size_push ds size (before ++ s.rows) have r row read_values larger (ap (λ (w : LemmaRow). grown size w.left w.right) row_same ∙ fits));
-    })))))
+row_more ds size l s before line next scaled values have made = by_row (lemma_row_judged ds size (λ larger row. (larger, lemma_of l.scale (l.rows ++ row ∷ []))) (before ++ s.rows) line have)
+  where
+    by_row : IsRowJudged ds Lemmas lemma_made (λ row. row.left) (λ row. row.right) (λ larger row. (larger, lemma_of l.scale (l.rows ++ row ∷ []))) size (before ++ s.rows) line (lemma_row ds size l line) → IsRowMore ds s before line next
+    by_row (unfit e) = absurd (cc)
+    by_row (halts flaw row e line_is is pass) = absurd (cc)
+    by_row (grows row larger c e line_is is said grown_have) =
+        ok_has (IsRowMore ds s before line) (larger, lemma_of l.scale (l.rows ++ c ∷ [])) next (sym e ∙ made) (record {
+          row = row;
+          line_is = line_is;
+          scaled = scaled_more s row scaled is;
+          values = record { scale = values.scale; rows = zip_push (IsLemmaRowOf ds) s.rows l.rows row c values.rows said };
+          have = subst (HaveSize ds larger) (append_assoc before s.rows (row ∷ [])) grown_have;
+        })
 
 -- the lemma or the goal with the row
 abbrev pub led_more : (ds : List Declaration) (s : ScaledTokens) (before : List RowTokens) (line : Line) (next : Size × Lemma) → IsRowMore ds s before line next → IsLed ds next.0 next.1 before
@@ -207,77 +198,41 @@ led_first ds size digits scale before number value have = record {
 
 -- lemmas and the goal
 module _ (most : Format) (ds : List Declaration) where
-  -- another size
-  begun_resized : (claim denominator : List ℕ) (finished : List LemmaTokens) (o : Opened) (size : Size) → IsBegun ds claim denominator finished o → IsBegun ds claim denominator finished (resized o size)
-  begun_resized claim denominator finished o size begun =
-      record { head = begun.head; within = begun.within; claim_value = begun.claim_value; denominator_value = begun.denominator_value; values = begun.values }
-
-  pub next_row : (o : Opened) (l : Lemma) (lead : Lead) (front : List Line) (line : Line) (next : Size × Lemma) → IsInside most ds o l lead front → lemma_row ds o.size l line ≡ Ok next
-      → IsInside most ds (resized o next.0) next.1 lead (front ++ line ∷ [])
-  next_row o l lead front line next inside read =
-      let s : ScaledTokens = inside.so_far.tokens in
-      let more = row_more ds o.size l s (rows_of inside.finished) line next inside.so_far.scaled inside.so_far.values inside.so_far.have read in
-      record {
-        read = inside.read;
-        claim = inside.claim;
-        denominator = inside.denominator;
-        finished = inside.finished;
-        begun = begun_resized inside.claim inside.denominator inside.finished o next.0 inside.begun;
-        next = inside.next;
-        few = inside.few;
-        so_far = led_more ds s (rows_of inside.finished) line next more;
-        are =
-            behind front (lemmas_front inside.claim inside.denominator inside.finished ++ lead_lines lead s) line (row_line more.row) inside.are more.line_is
-            ∙ lead_push (lemmas_front inside.claim inside.denominator inside.finished) lead s more.row;
-      }
-
   -- after the last row of a lemma
   pub lemma_finished : (o : Opened) (l : Lemma) (number : List ℕ) (front : List Line) → IsInside most ds o l (Some number) front → IsOpened most ds (closed_by o l) front
-  lemma_finished o l number front inside =
-      let last : LemmaTokens = lemma_tokens number inside.so_far.tokens in
-      let finished : List LemmaTokens = inside.finished in
-      let head = inside.begun.head in
-      let within = inside.begun.within in
+  lemma_finished o l number front (leading, here) =
+      let done = leading.done in
+      let last : LemmaTokens = lemma_tokens number (scaled_by leading.digits here.tokens) in
       record {
-        read = inside.read;
-        claim = inside.claim;
-        denominator = inside.denominator;
-        finished = finished ++ last ∷ [];
-        begun = record {
-          head = record {
-            claim_number = head.claim_number;
-            denominator_number = head.denominator_number;
-            numbered = are_lemmas-push 1 (length finished + 1) finished last (omega arith) head.numbered inside.next inside.so_far.scaled;
-          };
-          within = record {
-            claim_within = within.claim_within;
-            denominator_within = within.denominator_within;
-            scales = All-push (λ (k : LemmaTokens). IsWithin integer_limit k.scaled.scale) finished last within.scales (integer_is_within inside.so_far.tokens.scale l.scale inside.so_far.values.scale);
-          };
-          claim_value = inside.begun.claim_value;
-          denominator_value = inside.begun.denominator_value;
-          values = zip_push (λ k lemma. IsScaledOf ds k.scaled lemma) finished o.lemmas last l inside.begun.values inside.so_far.values;
+        read = leading.read;
+        head = leading.head;
+        done = record {
+          tokens = done.tokens ++ last ∷ [];
+          numbered = are_lemmas-push 1 (length done.tokens + 1) done.tokens last (omega arith) done.numbered leading.next (record { scale = leading.number; rows = here.each });
+          scales = All-push (λ (k : LemmaTokens). IsWithin integer_limit k.scaled.scale) done.tokens last done.scales (integer_is_within leading.digits l.scale leading.value);
+          values = zip_push (λ k lemma. IsScaledOf ds k.scaled lemma) done.tokens o.lemmas last l done.values (record { scale = leading.value; rows = here.say });
         };
-        few = omega (arith, inside.few, length-append finished (last ∷ []));
-        have = subst (HaveSize ds o.size) (ap (λ rs. rows_of finished ++ rs) (sym (append-nil inside.so_far.tokens.rows)) ∙ sym (flat_map-append (λ (k : LemmaTokens). k.scaled.rows) finished (last ∷ []))) inside.so_far.have;
-        are = inside.are ∙ ap (λ ls. head_line Lemmas ∷ claim_line inside.claim ∷ denominator_line inside.denominator ∷ ls)
-            (ap (λ ls. flat_map lemma_lines finished ++ ls) (sym (append-nil (lemma_lines last))) ∙ sym (flat_map-append lemma_lines finished (last ∷ [])));
+        few = omega (arith, leading.few, length-append done.tokens (last ∷ []));
+        have = subst (HaveSize ds o.size) (ap (λ rs. rows_of done.tokens ++ rs) (sym (append-nil here.tokens)) ∙ sym (flat_map-append (λ (k : LemmaTokens). k.scaled.rows) done.tokens (last ∷ []))) here.have;
+        are =
+            here.are ∙ append_assoc (front_of most ds leading.head done) ((codes "lemma" ∷ number ∷ codes "scale" ∷ leading.digits ∷ []) ∷ []) (map row_line here.tokens)
+            ∙ ap (λ ls. head_line Lemmas ∷ claim_line leading.head.claim ∷ denominator_line leading.head.denominator ∷ ls)
+            (ap (λ ls. flat_map lemma_lines done.tokens ++ ls) (sym (append-nil (lemma_lines last))) ∙ sym (flat_map-append lemma_lines done.tokens (last ∷ [])));
       }
 
   -- the first line of a lemma or of the goal
-  next_lead : (o : Opened) (front : List Line) (line : Line) (lead : Lead) (digits : List ℕ) (scale : ℤ) (opened : IsOpened most ds o front) → IsNext lead opened.finished → IsFew lead opened.finished
-      → IsTrue (is_number digits) → integer_of digits ≡ Ok scale → line ∷ [] ≡ lead_lines lead (record { scale = digits; rows = [] }) → IsInside most ds o (lemma_of scale []) lead (front ++ line ∷ [])
-  next_lead o front line lead digits scale opened next few number value line_is = record {
-    read = opened.read;
-    claim = opened.claim;
-    denominator = opened.denominator;
-    finished = opened.finished;
-    begun = opened.begun;
-    next = next;
-    few = few;
-    so_far = led_first ds o.size digits scale (rows_of opened.finished) number value opened.have;
-    are = ap₂ (λ (ls ms : List Line). ls ++ ms) opened.are line_is;
-  }
+  next_lead : (o : Opened) (front : List Line) (line : Line) (lead : Lead) (digits : List ℕ) (scale : ℤ) (opened : IsOpened most ds o front) → IsNext lead opened.done.tokens → IsFew lead opened.done.tokens
+      → IsTrue (is_number digits) → integer_of digits ≡ Ok scale → line ∷ [] ≡ lead_lines lead (scaled_by digits []) → IsInside most ds o (lemma_of scale []) lead (front ++ line ∷ [])
+  next_lead o front line lead digits scale opened next few number value line_is = (
+    record { read = opened.read; head = opened.head; done = opened.done; next = next; few = few; digits = digits; number = number; value = value },
+    record {
+      tokens = [];
+      each = All-nil (λ r. IsTrue (is_row r));
+      say = tt;
+      have = subst (HaveSize ds o.size) (sym (append-nil (rows_of opened.done.tokens))) opened.have;
+      are = ap₂ (λ (ls ms : List Line). ls ++ ms) opened.are line_is ∙ sym (append-nil _);
+    },
+  )
 
   pub next_goal : (o : Opened) (front : List Line) (line : Line) (scale : ℤ) → IsOpened most ds o front → goal_scale_of line ≡ Ok scale → IsInside most ds o (lemma_of scale []) None (front ++ line ∷ [])
   next_goal o front line scale opened read =
@@ -288,7 +243,7 @@ module _ (most : Format) (ds : List Declaration) where
       → (number : List ℕ) × IsInside most ds o (lemma_of scale []) (Some number) (front ++ line ∷ [])
   next_lemma o front line scale opened read =
       let known = lemma_read (length o.lemmas) line scale read in
-      let count : length opened.finished ≡ length o.lemmas = zip_length (λ k lemma. IsScaledOf ds k.scaled lemma) opened.finished o.lemmas opened.begun.values in (
+      let count : length opened.done.tokens ≡ length o.lemmas = zip_length (λ k lemma. IsScaledOf ds k.scaled lemma) opened.done.tokens o.lemmas opened.done.values in (
         known.number,
         next_lead o front line (Some known.number) known.digits scale opened
             (subst (λ n. IsTrue (is_value (n + 1) known.number)) (sym count) known.next) (omega (arith, count, known.few)) known.scale_number known.scale_value (ap (λ l. l ∷ []) known.line_is),

@@ -1,5 +1,5 @@
 -- A block says one certificate.
-use Rattle.std.proofs.Common.{◌≡◌, List, Option, Some, Result, Ok, refl, sym, ap, ◌∙◌}
+use Rattle.std.proofs.Common.{◌≡◌, List, Option, Some, Result, Ok, sym, ap, ◌∙◌}
 use Rattle.quiver.specs.Declarations.{Declaration}
 use Rattle.traced_rows.specs.declared.certificate.Certificate.{Certificate}
 use Rattle.traced_rows.specs.declared.evidence.LemmaRow.{LemmaRow}
@@ -27,25 +27,22 @@ module _ (ds : List Declaration) where
 
   pub same_scaled : (s : ScaledTokens) (x y : Lemma) → IsScaledOf ds s x → IsScaledOf ds s y → x ≡ y
   same_scaled s x y left right =
-      let scale : x.scale ≡ y.scale = same_result (integer_of s.scale) x.scale y.scale left.scale right.scale in
-      let rows : x.rows ≡ y.rows = AllZip-unique (IsLemmaRowOf ds) same_lemma_row s.rows x.rows y.rows left.rows right.rows in
-      let same : ◌≡◌ {A = Lemma} (record { scale = x.scale; rows = x.rows }) (record { scale = y.scale; rows = y.rows }) = rw (scale, rows) refl in same
+      let scale = same_result (integer_of s.scale) x.scale y.scale left.scale right.scale in
+      let rows = AllZip-unique (IsLemmaRowOf ds) same_lemma_row s.rows x.rows y.rows left.rows right.rows in λ j. record { scale = scale j; rows = rows j }
 
   same_plain : (b : PlainTokens) (x y : Certificate) → IsPlainOf ds b x → IsPlainOf ds b y → x ≡ y
   same_plain b x y left right =
-      let claim : x.claim ≡ y.claim = same_value (number_within number_limit b.claim) x.claim y.claim left.claim right.claim in
-      let denominator : x.denominator ≡ y.denominator = same_result (integer_of b.denominator) x.denominator y.denominator left.denominator right.denominator in
-      let rows : x.rows ≡ y.rows = AllZip-unique (λ r row. row_values ds r ≡ Ok row) (λ r. same_result (row_values ds r)) b.rows x.rows y.rows left.rows right.rows in
-      let same : ◌≡◌ {A = Certificate} (record { claim = x.claim; denominator = x.denominator; rows = x.rows }) (record { claim = y.claim; denominator = y.denominator; rows = y.rows }) = rw (claim, denominator, rows) refl in same
+      let claim = same_value (number_within number_limit b.claim) x.claim y.claim left.claim right.claim in
+      let denominator = same_result (integer_of b.denominator) x.denominator y.denominator left.denominator right.denominator in
+      let rows = AllZip-unique (λ r row. row_values ds r ≡ Ok row) (λ r. same_result (row_values ds r)) b.rows x.rows y.rows left.rows right.rows in
+      λ j. record { claim = claim j; denominator = denominator j; rows = rows j }
 
   same_lemmas : (b : LemmasTokens) (x y : LemmaCertificate) → IsLemmasOf ds b x → IsLemmasOf ds b y → x ≡ y
   same_lemmas b x y left right =
-      let claim : x.claim ≡ y.claim = same_value (number_within number_limit b.claim) x.claim y.claim left.claim right.claim in
-      let denominator : x.denominator ≡ y.denominator = same_result (integer_of b.denominator) x.denominator y.denominator left.denominator right.denominator in
-      let each : x.lemmas ≡ y.lemmas = AllZip-unique (λ l lemma. IsScaledOf ds l.scaled lemma) (λ l. same_scaled l.scaled) b.lemmas x.lemmas y.lemmas left.lemmas right.lemmas in
-      let goal : x.goal ≡ y.goal = same_scaled b.goal x.goal y.goal left.goal right.goal in
-      let same : ◌≡◌ {A = LemmaCertificate} (record { claim = x.claim; denominator = x.denominator; lemmas = x.lemmas; goal = x.goal }) (record { claim = y.claim; denominator = y.denominator; lemmas = y.lemmas; goal = y.goal }) =
-      rw (claim, denominator, each, goal) refl in same
+      let claim = same_value (number_within number_limit b.claim) x.claim y.claim left.claim right.claim in
+      let denominator = same_result (integer_of b.denominator) x.denominator y.denominator left.denominator right.denominator in
+      let each = AllZip-unique (λ l lemma. IsScaledOf ds l.scaled lemma) (λ l. same_scaled l.scaled) b.lemmas x.lemmas y.lemmas left.lemmas right.lemmas in
+      let goal = same_scaled b.goal x.goal y.goal left.goal right.goal in λ j. record { claim = claim j; denominator = denominator j; lemmas = each j; goal = goal j }
 
   pub same_certificate : (b : BlockTokens) (x y : Evidence) → IsCertificateOf ds b x → IsCertificateOf ds b y → x ≡ y
   same_certificate (plain b) (evidence.Plain x) (evidence.Plain y) left right = ap evidence.Plain (same_plain b x y left right)

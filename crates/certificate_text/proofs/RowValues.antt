@@ -1,7 +1,6 @@
 -- Rows that keep bounds are read, one after another.
-use Rattle.std.proofs.Common.{◌≡◌, ◌<◌, ◌≤◌, ◌+◌, ℕ, suc, List, [], ◌∷◌, ◌++◌, Result, Ok, arith, refl, sym, ◌∙◌, length, map, add-zero, zero-add, length-append}
+use Rattle.std.proofs.Common.{◌≡◌, ◌<◌, ◌≤◌, ◌+◌, ℕ, suc, List, [], ◌∷◌, ◌++◌, Result, Ok, arith, refl, ◌∙◌, length, map, add-zero, length-append}
 use Rattle.std.specs.List.{All, AllZip}
-use Rattle.std.proofs.lemmas.Bool.{le-ltb, lt-leb, or_from}
 use Rattle.std.proofs.lemmas.List.{append_assoc, append-nil}
 use Rattle.std.proofs.lemmas.List.Elements.{All-nil, All-cons, All-head, All-tail}
 use Rattle.quiver.specs.Declarations.{Declaration}
@@ -9,40 +8,19 @@ use Rattle.traced_rows.specs.declared.certificate.CertRow.{CertRow}
 use Rattle.certificate_text.specs.declared.place.Size.{Size}
 use Rattle.block_text.specs.declared.fault.Flaw.{Flaw}
 use Rattle.block_text.specs.Fault.{◌>>=◌}
-use Rattle.block_text.specs.Letters.{number_within, integer_within, word_of}
-use Rattle.block_text.specs.Lines.{number_limit, integer_limit, Line}
-use Rattle.certificate_text.specs.Lines.{RowTokens, word_limit, row_limit, letter_limit, row_values, grown}
+use Rattle.block_text.specs.Lines.{Line}
+use Rattle.certificate_text.specs.Lines.{RowTokens, row_limit, letter_limit, row_values, grown}
 use Rattle.certificate_text.specs.Blocks.{row_line}
 use Rattle.certificate_text.specs.Bounds as bound
 use Rattle.certificate_text.specs.Bounds.{Bound, flaw_of, HasNames, HasNumbers, HasShortWords, letters_in}
-use Rattle.certificate_text.proofs.RowTrees.{word_of-length}
+use Rattle.certificate_text.proofs.OpenBlocks.{IsMadeBy}
+use Rattle.certificate_text.proofs.RowTrees.{IsValued, valued, unknown, large, is_valued, IsSized, fits, long, many, crowded, is_sized, letters_in-append}
 use Rattle.block_text.proofs.NumberedLines.{run}
-use Rattle.block_text.proofs.Meets.{Meets, reads, then_meets, meets-weaker, asked_meets, unless_meets}
-
--- the words are as long as the tokens
-record HasLengths (r : RowTokens) (row : CertRow) : Type 0 where
-  left : length row.left ≡ length r.left
-  right : length row.right ≡ length r.right
-
-values_meet : (K : Bound → Type 0) (ds : List Declaration) (r : RowTokens) → (K bound.names → HasNames ds r) → (K bound.numbers → HasNumbers r) → Meets flaw_of K (HasLengths r) (row_values ds r)
-values_meet K ds r names numbers =
-    then_meets _ (asked_meets K bound.names (word_of ds r.left) (λ kept. (names kept).left)) (λ left _ left_is.
-    then_meets _ (asked_meets K bound.names (word_of ds r.right) (λ kept. (names kept).right)) (λ right _ right_is.
-    then_meets _ (asked_meets K bound.numbers (integer_within integer_limit r.coefficient) (λ kept. (numbers kept).coefficient)) (λ coefficient _ coefficient_is.
-    then_meets _ (asked_meets K bound.numbers (number_within number_limit r.number) (λ kept. (numbers kept).number)) (λ number _ number_is.
-    reads _ refl (record { left = word_of-length ds r.left left left_is; right = word_of-length ds r.right right right_is })))))
+use Rattle.block_text.proofs.Meets.{Meets, reads, passes, then_meets, meets-weaker}
 
 -- after a row of so many letters
 abbrev pub with_letters : Size → ℕ → Size
 with_letters size n = record { rows = size.rows + 1; letters = size.letters + n }
-
-grown_meets : (K : Bound → Type 0) (size : Size) (left right : List ℕ) (n : ℕ) → n ≡ length left + length right → (K bound.words → (length left ≤ word_limit) × (length right ≤ word_limit)) → (K bound.rows → size.rows < row_limit)
-    → (K bound.letters → size.letters + n ≤ letter_limit) → Meets flaw_of K (λ next. next ≡ with_letters size n) (grown size left right)
-grown_meets K size left right n count words rows letters =
-    unless_meets bound.words _ _ (λ kept. or_from _ _ (le-ltb word_limit (length left) (words kept).0) (le-ltb word_limit (length right) (words kept).1))
-    (unless_meets bound.rows _ _ (λ kept. lt-leb row_limit size.rows (rows kept))
-    (unless_meets bound.letters _ _ (λ kept. le-ltb letter_limit _ (rw (← count) (letters kept)))
-    (reads _ refl (rw count refl))))
 
 -- where K says that a bound is met, these rows are within it after rows of this size
 pub record RowsFit (K : Bound → Type 0) (ds : List Declaration) (size : Size) (rs : List RowTokens) : Type 0 where
@@ -75,10 +53,6 @@ All-parts P (x ∷ xs) ys all =
     let rest = All-parts P xs ys (All-tail P x (xs ++ ys) all) in
     (All-cons P x xs (All-head P x (xs ++ ys) all) rest.0, rest.1)
 
-pub letters_in-append : (rs more : List RowTokens) → letters_in (rs ++ more) ≡ letters_in rs + letters_in more
-letters_in-append [] more = sym (zero-add (letters_in more))
-letters_in-append (r ∷ rs) more = let rest = letters_in-append rs more in omega (arith, rest)
-
 pub with_rows-append : (size : Size) (rs more : List RowTokens) → with_rows (with_rows size rs) more ≡ with_rows size (rs ++ more)
 with_rows-append size rs more =
     let rows : size.rows + length rs + length more ≡ size.rows + length (rs ++ more) = omega (arith, length-append rs more) in
@@ -110,29 +84,31 @@ module _ {Stage : Type 0} (step : Stage → Line → Result Stage Flaw) (K : Bou
   TakesRow r = (size : Size) (front : List C) → step (here size front) (row_line r)
       ≡ (row_values ds r >>= λ row. (grown size row.left row.right >>= λ next. Ok (here next (front ++ made r row ∷ []))))
 
-  -- the row that the tokens say
-  abbrev pub IsMadeOf : RowTokens → C → Type 0
-  IsMadeOf r c = (row : CertRow) × (row_values ds r ≡ Ok row) × (c ≡ made r row)
-
   record RowIsRead (size : Size) (front : List C) (r : RowTokens) (q : Stage) : Type 0 where
     row : C
-    is_made : IsMadeOf r row
+    is_made : IsMadeBy ds made r row
     is : q ≡ here (with_letters size (letters_of r)) (front ++ row ∷ [])
 
   -- what is read of rows
   pub record RowsAreRead (size : Size) (front : List C) (rs : List RowTokens) (q : Stage) : Type 0 where
     pub rows : List C
-    pub are_made : AllZip IsMadeOf rs rows
+    pub are_made : AllZip (IsMadeBy ds made) rs rows
     pub is : q ≡ here (with_rows size rs) (front ++ rows)
 
   row_meets : (size : Size) (front : List C) (r : RowTokens) → TakesRow r → (K bound.names → HasNames ds r) → (K bound.numbers → HasNumbers r) → (K bound.words → HasShortWords r) → (K bound.rows → size.rows < row_limit)
       → (K bound.letters → size.letters + letters_of r ≤ letter_limit) → Meets flaw_of K (RowIsRead size front r) (step (here size front) (row_line r))
-  row_meets size front r takes names numbers words rows letters =
-      rw (takes size front) (then_meets _ (values_meet K ds r names numbers) (λ row row_is lengths.
-      let count : letters_of r ≡ length row.left + length row.right = rw (lengths.left, lengths.right) refl in
-      then_meets _
-      (grown_meets K size row.left row.right (letters_of r) count (λ kept. let short = words kept in (rw lengths.left short.left, rw lengths.right short.right)) rows letters)
-      (λ next _ next_is. reads _ refl (record { row = made r row; is_made = (row, row_is, refl); is = rw next_is refl }))))
+  row_meets size front r takes names numbers words rows letters = rw (takes size front) (by_values (is_valued ds r))
+    where
+      by_values : IsValued ds r (row_values ds r) → Meets flaw_of K (RowIsRead size front r) (row_values ds r >>= λ row. (grown size row.left row.right >>= λ next. Ok (here next (front ++ made r row ∷ []))))
+      by_values (unknown is none) = passes bound.names (rw is refl) (λ kept. none (names kept))
+      by_values (large is known none) = passes bound.numbers (rw is refl) (λ kept. none (numbers kept))
+      by_values (valued row is known within left right) = rw is (by_size (is_sized size row.left row.right))
+        where
+          by_size : IsSized size (length row.left) (length row.right) (grown size row.left row.right) → Meets flaw_of K (RowIsRead size front r) (grown size row.left row.right >>= λ next. Ok (here next (front ++ made r row ∷ [])))
+          by_size (long e none) = passes bound.words (rw e refl) (λ kept. let short = words kept in none (record { short_left = rw left short.left; short_right = rw right short.right }))
+          by_size (many e short none) = passes bound.rows (rw e refl) (λ kept. none (rows kept))
+          by_size (crowded e short few none) = passes bound.letters (rw e refl) (λ kept. none (rw (left, right) (letters kept)))
+          by_size (fits e short few fit) = reads (here (with_letters size (length row.left + length row.right)) (front ++ made r row ∷ [])) (rw e refl) (record { row = made r row; is_made = (row, is, refl); is = rw (left, right) refl })
 
   pub rows_meet : (size : Size) (front : List C) (rs : List RowTokens) → All TakesRow rs → RowsFit K ds size rs → Meets flaw_of K (RowsAreRead size front rs) (run step (here size front) (map row_line rs))
   rows_meet size front [] takes keep = reads _ refl (record { rows = []; are_made = tt; is = rw (append-nil front, add-zero size.rows, add-zero size.letters) refl })

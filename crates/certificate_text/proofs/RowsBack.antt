@@ -14,13 +14,16 @@ use Rattle.traced_rows.specs.declared.evidence.LemmaRow.{LemmaRow}
 use Rattle.nc_polynomial.specs.Limits.{word_limit}
 use Rattle.block_text.specs.Tokens.{goes_on, tokens_of}
 use Rattle.block_text.specs.Lines.{number_limit}
-use Rattle.certificate_text.specs.Lines.{RowTokens, is_row, row_values, from}
+use Rattle.certificate_text.specs.Lines.{RowTokens, row_limit, letter_limit, is_row, row_values, from}
 use Rattle.certificate_text.specs.Blocks.{origin_tokens, row_line}
-use Rattle.certificate_text.specs.Bounds.{letters_in, HasNames, HasNumbers, HasShortWords, IsLemmaRowOf}
+use Rattle.certificate_text.specs.Bounds as bounds
+use Rattle.certificate_text.specs.Bounds.{Bound, letters_in, HasNames, HasNumbers, HasShortWords, IsLemmaRowOf}
 use Rattle.block_text.specs.Written.{letter_text, word_text}
 use Rattle.certificate_text.specs.Written.{origin_text, lemma_row_text}
 use Rattle.block_text.specs.Back.{IsLineText}
 use Rattle.certificate_text.specs.Back.{number_of}
+use Rattle.certificate_text.proofs.RowTrees.{RowsWithin}
+pub use Rattle.certificate_text.proofs.RowTrees.{letters_in-append}
 use Rattle.block_text.proofs.ContentBack.{IsTextOf, no_text, text-append, text_of_tokens}
 use Rattle.block_text.proofs.NumbersBack.{IsInteger, decimal_text, decimal_number, decimal_within}
 use Rattle.block_text.proofs.TextsBack.{line_text-append, literal, IsWrittenWord, plain_name}
@@ -165,9 +168,13 @@ rows-append ds xs ys left right = record {
   words = All-append HasShortWords xs ys left.words right.words;
 }
 
-pub letters_in-append : (xs ys : List RowTokens) → letters_in (xs ++ ys) ≡ letters_in xs + letters_in ys
-letters_in-append [] ys = omega arith
-letters_in-append (r ∷ xs) ys = omega (arith, letters_in-append xs ys)
+-- within all bounds, where they are few and have few letters
+pub rows_within : (ds : List Declaration) (rs : List RowTokens) → AreRows ds rs → length rs ≤ row_limit → letters_in rs ≤ letter_limit → (bound : Bound) → RowsWithin ds rs bound
+rows_within ds rs are few crowd bounds.names = are.names
+rows_within ds rs are few crowd bounds.numbers = are.numbers
+rows_within ds rs are few crowd bounds.words = are.words
+rows_within ds rs are few crowd bounds.rows = few
+rows_within ds rs are few crowd bounds.letters = crowd
 
 pub zip_by : {A B : Type 0} (R : A → B → Type 0) (f : B → A) (ys : List B) → All (λ y. R (f y) y) ys → AllZip R (map f ys) ys
 zip_by R f [] each = tt

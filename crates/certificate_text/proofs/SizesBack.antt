@@ -8,12 +8,13 @@ use Rattle.std.proofs.lemmas.List.{append_assoc}
 use Rattle.traced_rows.specs.declared.evidence.Format.{Format}
 use Rattle.traced_rows.specs.declared.evidence.Format.TheVariants.{Plain, Lemmas}
 use Rattle.block_text.specs.Letters.{is_number}
-use Rattle.block_text.specs.Lines.{Line, integer_limit, integer_of, claim_line}
+use Rattle.block_text.specs.Lines.{Line, number_limit, integer_limit, integer_of, claim_line}
 use Rattle.certificate_text.specs.Lines.{is_value}
 use Rattle.certificate_text.specs.Blocks.{head_line, denominator_line}
 use Rattle.certificate_text.specs.Bounds.{IsWithin}
 use Rattle.certificate_text.specs.Back.{IsWritableInteger}
 use Rattle.certificate_text.specs.Written.{opening_text}
+use Rattle.certificate_text.proofs.OpenBlocks.{IsHead}
 use Rattle.block_text.proofs.ContentBack.{IsTextOf, text-append, text_of_tokens}
 use Rattle.block_text.proofs.NameBytes.{IsNameText}
 use Rattle.block_text.proofs.NumbersBack.{decimal_text, decimal_number, decimal_within}
@@ -35,6 +36,17 @@ size_read n small =
 
 pub size_written : (z : ℤ) → IsWritableInteger z → IsSize z
 size_written z fits = subst IsSize (sym fits.is) (size_read fits.size fits.in_range)
+
+-- the claim and the denominator
+abbrev pub head_written : (n : ℕ) (z : ℤ) → n < 2 ^ 32 → IsSize z → IsHead n z
+head_written n z small size = record {
+  claim = decimal n;
+  denominator = signed_decimal z;
+  claim_number = decimal_number n (omega (arith, small));
+  denominator_number = size.number;
+  claim_value = decimal_within number_limit n (omega (arith, small)) (omega (arith, small));
+  denominator_value = size.value;
+}
 
 pub number_is_value : (n : ℕ) → n < 10 ^ 64 → is_value n (decimal n) ≡ true
 number_is_value n below =
