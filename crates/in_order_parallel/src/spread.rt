@@ -12,6 +12,13 @@ use std::thread::{Threads, join};
 /// The greatest number of workers.
 pub const WORKER_LIMIT: u32 = 64;
 
+// The gate of a part of the items, of which the first has the place `first`.
+#[derive(Drop)]
+struct Door<'a, G> {
+    gate: &'a G,
+    first: usize,
+}
+
 // The results of a part of the items, of which the first has the place `first`, on this thread.
 fn in_turn<J: Job, G: Gate>(
     alloc: Global,
@@ -46,26 +53,26 @@ fn share_of(front: usize, workers: usize, items: usize) -> usize
     items / workers * front + (items % workers).min(front)
 }
 
-// The results of a part of the items, of which the first has the place `first`, on as many threads as there
-// are workers. Each worker has at least one item.
+// The results of a part of the items, which go through the door, on as many threads as there are workers. Each
+// worker has at least one item.
 #[cycle(spread)]
 fn spread<R: Threads + Sync, J: Job + Sync, G: Gate + Sync>(
     rt: &R,
     alloc: Global,
     items: &[J::In],
-    first: usize,
     job: &J,
     workers: usize,
-    gate: &G,
+    door: Door<'_, G>,
 ) -> Result<Vec<J::Out>, AllocError>
 where
     J::In: Sync,
     J::Out: Drop + Send,
     requires busy { workers ≤ length items.now }
-    requires fits { first + length items.now < 2 ^ 64 }
+    requires fits { door.first + length items.now < 2 ^ 64 }
     requires can_go { All (J.can_go job.now) items.now }
     ensures { IfOk result (λ answers. AllZip (J.gives job.now) items.now answers.items) }
 {
+    let Door { gate, first } = door;
     if workers < 2 {
         return in_turn(alloc, items, first, job, gate);
     }
@@ -79,12 +86,24 @@ where
             requires { IsSync R.row × IsSync J.row × IsSync G.row × (ahead ≤ length front.now)
                 × (first + length front.now < 2 ^ 64) × All (J.can_go job.now) front.now }
             ensures { IfOk result (λ v. AllZip (J.gives job.entry.now) front.entry.now v.items) }
-        { spread(rt, alloc, front, first, job, ahead, gate) },
+        { spread(rt, alloc, front, job, ahead, Door { gate, first }) },
         || -> Result<Vec<J::Out>, AllocError>
             requires { IsSync R.row × IsSync J.row × IsSync G.row × (behind ≤ length back.now)
                 × (middle + length back.now < 2 ^ 64) × All (J.can_go job.now) back.now }
             ensures { IfOk result (λ v. AllZip (J.gives job.entry.now) back.entry.now v.items) }
-        { spread(rt, alloc, back, middle, job, behind, gate) },
+        {
+            spread(
+                rt,
+                alloc,
+                back,
+                job,
+                behind,
+                Door {
+                    gate,
+                    first: middle,
+                },
+            )
+        },
     );
     let mut answers = left?;
     let mut more = right?;
@@ -112,5 +131,5 @@ where
     ensures answers { IfOk result (λ answers. AllZip (J.gives job.now) items.now answers.items) }
 {
     let busy = items.len().min(workers as usize);
-    spread(rt, alloc, items, 0, job, busy, gate)
+    spread(rt, alloc, items, job, busy, Door { gate, first: 0 })
 }
