@@ -34,7 +34,7 @@ use Rattle.cancellation_text.specs.Blocks.{CalledTokens, CancelTokens, ItemToken
 use Rattle.cancellation_text.specs.Bounds as bound
 use Rattle.cancellation_text.specs.Bounds.{Bound, flaw_of, item_rows, rows_in, IsKnown, HasItemName, HasItemNumber, KeepsOne, IsItemOf, IsCancelOf, IsCancellationOf}
 use Rattle.cancellation_text.specs.Reading.{called_tokens, letters_on, with_letters, on_left, on_right, begun, with_item, cancel_of, item_or_goal, next, finish, cancellation_steps}
-use Rattle.cancellation_text.proofs.Letters.{AreCalled, AreOnce, called_more, letter_is_new}
+use Rattle.cancellation_text.proofs.Letters.{AreCalled, AreApart, AreOnce, none_called, called_more, letter_is_new}
 use Rattle.cancellation_text.proofs.Lines.{called_read, cancel_read}
 use Rattle.cancellation_text.proofs.Parts.{rows_of}
 
@@ -68,21 +68,21 @@ module _ (K : Bound → Type 0) (ds : List Declaration) where
     record CalledAreRead (called : List CalledTokens) (q : Stage) : Type 0 where
       monic : List Letter
       epic : List Letter
-      letters : AreCalled ds called (called_place monic epic)
+      letters : AreCalled ds called monic epic
       is : q ≡ at.Called (called_place monic epic)
 
-    one_meets : (monic epic : List Letter) (before later : List CalledTokens) (c : CalledTokens) → AreCalled ds before (called_place monic epic) → IsTrue (is_map_letter c.letter) → AreOnce ds (before ++ c ∷ later)
+    one_meets : (monic epic : List Letter) (before later : List CalledTokens) (c : CalledTokens) → AreCalled ds before monic epic → IsTrue (is_map_letter c.letter) → AreOnce ds (before ++ c ∷ later)
         → (K bound.names → IsKnown ds c.letter) → Meets flaw_of K (CalledAreRead (before ++ c ∷ [])) (next ds (at.Called (called_place monic epic)) (called_line c))
     one_meets monic epic before later c are letter once known =
         rw (called_read c letter) (then_meets _ (asked_meets K bound.names (known_letter ds c.letter) known) (λ a _ a_is.
-        rw (letter_is_new ds before later (called_place monic epic) c a are a_is once) (reads _ refl (record {
+        rw (letter_is_new ds before monic epic are c.letter c.side a later a_is (once c.side)) (reads _ refl (record {
           monic = on_left c.side (letters_on (called_place monic epic) c.side ++ a ∷ []) monic;
           epic = on_right c.side (letters_on (called_place monic epic) c.side ++ a ∷ []) epic;
-          letters = called_more ds before (called_place monic epic) c a are a_is;
+          letters = called_more ds before monic epic are c.letter c.side a a_is;
           is = refl;
         }))))
 
-    called_meet : (monic epic : List Letter) (before later : List CalledTokens) → AreCalled ds before (called_place monic epic) → All (λ c. IsTrue (is_map_letter c.letter)) later → AreOnce ds (before ++ later)
+    called_meet : (monic epic : List Letter) (before later : List CalledTokens) → AreCalled ds before monic epic → All (λ c. IsTrue (is_map_letter c.letter)) later → AreOnce ds (before ++ later)
         → (K bound.names → All (λ c. IsKnown ds c.letter) later) → Meets flaw_of K (CalledAreRead (before ++ later)) (run (next ds) (at.Called (called_place monic epic)) (map called_line later))
     called_meet monic epic before [] are maps once known = reads _ refl (record { monic = monic; epic = epic; letters = rw (append-nil before) are; is = refl })
     called_meet monic epic before (c ∷ later) are maps once known =
@@ -251,10 +251,6 @@ module _ (K : Bound → Type 0) (ds : List Declaration) where
   IsBlockRead b q = (proof : Cancellation) × (finish q ≡ Some proof) × IsCancellationOf ds b proof
 
   module _ (b : CancellationTokens) (block : IsCancellationBlock ds b) (keeps : (bound : Bound) → K bound → KeepsOne ds bound b) where
-    none_called : (k : ℕ) (z : ℤ) → AreCalled ds [] (begun k z)
-    none_called k z Left = refl
-    none_called k z Right = refl
-
     -- after the letters that are called monic and epic
     behind_called : (k : ℕ) (z : ℤ) → number_within number_limit b.claim ≡ Some k → integer_of b.denominator ≡ Ok z → (q : Stage) → CalledAreRead k z b.called q
         → Meets flaw_of K (IsBlockRead b) (run (next ds) q (flat_map item_lines b.items ++ goal_lines b.goal))
@@ -278,7 +274,7 @@ module _ (K : Bound → Type 0) (ds : List Declaration) where
         then_meets _ (claim_meets b.claim block.claim (λ kept. (keeps bound.numbers kept).0.claim)) (λ p _ k.
         rw k.2 (then_meets _ (denominator_meets k.0 b.denominator block.denominator (λ kept. (keeps bound.numbers kept).0.denominator)) (λ q _ z.
         rw (z.2, run-append (next ds) (at.Called (begun k.0 z.0)) (map called_line b.called) (flat_map item_lines b.items ++ goal_lines b.goal))
-        (then_meets _ (called_meet k.0 z.0 [] [] [] b.called (none_called k.0 z.0) block.called block.once (λ kept. (keeps bound.names kept).0.called)) (λ r _ called. behind_called k.0 z.0 k.1 z.1 r called)))))
+        (then_meets _ (called_meet k.0 z.0 [] [] [] b.called (none_called ds) block.called block.once (λ kept. (keeps bound.names kept).0.called)) (λ r _ called. behind_called k.0 z.0 k.1 z.1 r called)))))
 
     pub block_meets : Meets flaw_of K (IsCancellationOf ds b) (read_block (cancellation_steps ds) (cancellation_lines b))
     block_meets =

@@ -1,8 +1,8 @@
 mod Lines
 mod Letters
 mod Parts
+mod Outcomes
 mod NextLines
-mod FlawedLines
 mod ItemLines
 pub mod Reader
 pub mod EachText

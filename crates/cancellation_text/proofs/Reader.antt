@@ -23,11 +23,10 @@ use Rattle.cancellation_text.specs.Bounds.{Bound, names, bounds, flaw_of, IsItem
 use Rattle.cancellation_text.specs.Cancellations.{cancellation_kind}
 use Rattle.cancellation_text.specs.Reading.{called_tokens, begun, with_item, resized, proof_of, calling, in_lemma, next, finish, cancellation_steps}
 use Rattle.cancel_rules.specs.declared.cancellation.Side.TheVariants.{Left, Right}
-use Rattle.cancellation_text.proofs.FlawedLines.{stops_at}
 use Rattle.cancellation_text.proofs.ItemLines.{block_meets}
-use Rattle.cancellation_text.proofs.NextLines.{next_headed, next_claimed, next_called, item_next, next_row, lemma_finished}
-use Rattle.cancellation_text.proofs.Parts as parts
-use Rattle.cancellation_text.proofs.Parts.{with_goal, more_item, lemma_item, IsCalling, IsInside, IsOpen, begin_headed, begin_claimed, claimed_keeps, begin_opened, begin_inside, inside_keeps, is_block, goal_front}
+use Rattle.cancellation_text.proofs.NextLines.{outcome}
+use Rattle.cancellation_text.proofs.Outcomes.{told_good, told_bad}
+use Rattle.cancellation_text.proofs.Parts.{with_goal, lines_of_parts, led_is, IsInside, IsOpen, inside_keeps, goes_on}
 
 -- each has a bound of its own
 told : (b : Bound) → bound_of flaw_of bounds (flaw_of b) ≡ Some b
@@ -58,55 +57,18 @@ module _ (ds : List Declaration) where
       let goal : v.goal ≡ w.goal = same_scaled ds b.goal v.goal w.goal one.goal two.goal in
       λ j. record { claim = claim j; denominator = denominator j; monic = monic j; epic = epic j; items = items j; goal = goal j }
 
-  -- lines
-  module _ (front : List Line) (line : Line) (t : Stage) where
-    abbrev OpenNext : Type 0
-    OpenNext = IsOpen ds t (front ++ line ∷ [])
-
-    found : (s : Stage) → ◌≡◌ {A = Result Stage Flaw} (Ok s) (Ok t) → IsOpen ds s (front ++ line ∷ []) → OpenNext
-    found s made is_open = let same : s ≡ t = cc in subst (λ (u : Stage). IsOpen ds u (front ++ line ∷ [])) same is_open
-
-    goes_calling : (o : Opened) (here : IsCalling ds o front) (tokens : Option CalledTokens) → called_tokens line ≡ tokens → calling ds o line tokens ≡ Ok t → OpenNext
-    goes_calling o here (Some c) there read = next_called ds o front line c t here there read
-    goes_calling o here None there read = item_next ds (parts.calling here.claim here.denominator here.called) o front line t here.opened read
-
-    goes_lemma : (o : Opened) (l : Lemma) (number : List ℕ) (inside : IsInside ds o l (Some number) front) → in_lemma ds o l line ≡ Ok t → OpenNext
-    goes_lemma o l number inside read =
-        by_test (begins (codes "row") line) _ _ (Ok t) read
-        (λ is read_row. bind_ok (lemma_row ds o.size l line) _ t read_row (λ pair row_is made. found (at.Lemma (resized o pair.0) pair.1) made (number, next_row ds o l (Some number) front line pair inside row_is)))
-        (λ more. item_next ds (more_item inside.parts (lemma_item number inside.so_far.tokens)) (with_item o (item.Lemma l)) front line t (lemma_finished ds o l number front inside))
-
-    goes_goal : (o : Opened) (goal : Lemma) → IsInside ds o goal None front → next ds (at.Goal o goal) line ≡ Ok t → OpenNext
-    goes_goal o goal inside read = bind_ok (lemma_row ds o.size goal line) _ t read (λ pair row_is made. found (at.Goal (resized o pair.0) pair.1) made (next_row ds o goal None front line pair inside row_is))
-
-  goes : (s t : Stage) (front : List Line) (line : Line) → IsOpen ds s front → is_end line ≡ false → next ds s line ≡ Ok t → IsOpen ds t (front ++ line ∷ [])
-  goes at.Headed t front line here more read = bind_ok (claim_of line) _ t read (λ n n_is made. found front line t (at.Claimed n) made (next_headed front line n here n_is))
-  goes (at.Claimed n) t front line here more read = bind_ok (denominator_of line) _ t read (λ d d_is made. found front line t (at.Called (begun n d)) made (next_claimed ds front line n d here d_is))
-  goes (at.Called o) t front line here more read = goes_calling front line t o here (called_tokens line) refl read
-  goes (at.Lemma o l) t front line here more read = goes_lemma front line t o l here.0 here.1 read
-  goes (at.Cancelled o) t front line here more read = item_next ds here.0 o front line t here.1 read
-  goes (at.Goal o goal) t front line here more read = goes_goal front line t o goal here read
-
-  goes_on : (s : Stage) (front : List Line) → IsOpen ds s front → Begins (cancellation_kind ds) bounds front
-  goes_on at.Headed front here = subst (Begins (cancellation_kind ds) bounds) (sym here) (begin_headed ds bounds)
-  goes_on (at.Claimed n) front here = subst (Begins (cancellation_kind ds) bounds) (sym here.are) (begin_claimed ds here.claim bounds here.number (claimed_keeps ds here.claim (n, here.value) bounds))
-  goes_on (at.Called o) front here = begin_opened ds (parts.calling here.claim here.denominator here.called) o front bounds here.opened
-  goes_on (at.Lemma o l) front here = begin_inside ds o l (Some here.0) front bounds here.1
-  goes_on (at.Cancelled o) front here = begin_opened ds here.0 o front bounds here.1
-  goes_on (at.Goal o goal) front here = begin_inside ds o goal None front bounds here
-
   goal_ends : (o : Opened) (goal : Lemma) (front : List Line) → IsInside ds o goal None front → IsWhole (cancellation_kind ds) front (proof_of o goal)
   goal_ends o goal front here = record {
     tree = with_goal here.parts here.so_far.tokens;
-    are = here.are ∙ goal_front ds here.parts here.so_far.tokens;
-    is_tree = is_block ds here.parts here.so_far.tokens here.known.is here.so_far.scaled;
+    are = here.are ∙ sym (lines_of_parts here.parts here.so_far.tokens);
+    is_tree = led_is here.known None here.so_far.tokens tt here.so_far.scaled;
     keeps = inside_keeps ds o goal None front here;
     says = record {
-      claim = here.known.values.claim;
-      denominator = here.known.values.denominator;
-      monic = here.known.values.called Left;
-      epic = here.known.values.called Right;
-      items = here.known.values.items;
+      claim = here.known.head.claim_value;
+      denominator = here.known.head.denominator_value;
+      monic = here.known.called.say Left;
+      epic = here.known.called.say Right;
+      items = here.known.items.say;
       goal = here.so_far.values;
     };
   }
@@ -122,5 +84,5 @@ module _ (ds : List Declaration) where
   pub reader : IsReader (cancellation_kind ds) (cancellation_steps ds)
   reader =
       reader_by_head (cancellation_kind ds) (cancellation_steps ds) (IsOpen ds) told (refl, refl) refl refl
-      (codes "cancellation") (codes "1") at.Headed (λ line. refl) refl refl goes goes_on ends
-      (λ s front line flaw here more read. stops_at ds flaw front line s here read) (λ K t is keeps. block_meets K ds t is keeps) same_proof
+      (codes "cancellation") (codes "1") at.Headed (λ line. refl) refl refl (λ s t front line here more. told_good (outcome ds front line s here) t) (goes_on ds) ends
+      (λ s front line flaw here more. told_bad (outcome ds front line s here) flaw) (λ K t is keeps. block_meets K ds t is keeps) same_proof
