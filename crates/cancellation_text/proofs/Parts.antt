@@ -19,16 +19,16 @@ use Rattle.block_text.proofs.Standing.{everywhere}
 use Rattle.block_text.proofs.Zips.{zip_push}
 use Rattle.certificate_text.specs.Lines.{RowTokens, row_limit, is_value}
 use Rattle.certificate_text.specs.Blocks.{ScaledTokens, denominator_line, goal_lines, IsScaled}
-use Rattle.certificate_text.specs.Bounds.{IsWithin}
+use Rattle.certificate_text.specs.Bounds.{IsWithin, IsScaledOf}
 use Rattle.certificate_text.proofs.OpenBlocks.{Lead, IsLed, lemma_tokens, lead_lines, unit_goal, unit_scaled, unit_within}
 use Rattle.certificate_text.proofs.RowTrees.{RowsWithin, HaveSize, no_rows_size, integer_is_within}
 use Rattle.cancellation_text.specs.declared.place.Opened.{Opened}
 use Rattle.cancellation_text.specs.declared.place.Stage.{Stage}
 use Rattle.cancellation_text.specs.declared.place.Stage.TheVariants as at
 use Rattle.cancellation_text.specs.Blocks.{CalledTokens, ItemTokens, lemma, cancel, CancellationTokens, head_line, called_line, item_lines, cancellation_lines, is_map_letter, AreItems, IsItem, IsCancellationBlock}
-use Rattle.cancellation_text.specs.Bounds.{Bound, names, numbers, words, rows, letters, bounds, item_rows, IsKnown, HasItemName, HasItemNumber, KeepsOne, IsItemOf}
+use Rattle.cancellation_text.specs.Bounds.{Bound, names, numbers, words, rows, letters, bounds, item_rows, IsKnown, HasItemName, HasItemNumber, KeepsOne, IsItemOf, IsCancellationOf}
 use Rattle.cancellation_text.specs.Cancellations.{cancellation_kind}
-use Rattle.cancellation_text.specs.Reading.{begun, with_item}
+use Rattle.cancellation_text.specs.Reading.{begun, with_item, proof_of}
 use Rattle.cancellation_text.proofs.Letters.{letters_by, AreCalled, AreApart, none_called, none_once}
 
 -- what is before the goal
@@ -205,6 +205,10 @@ module _ {ds : List Declaration} {p : Parts} {o : Opened} (are : AreParts ds p o
       say = zip_push (IsItemOf ds) p.items o.items i v are.items.say says;
     };
   }
+
+  pub parts_say : (goal : ScaledTokens) (l : Lemma) → IsScaledOf ds goal l → IsCancellationOf ds (with_goal p goal) (proof_of o l)
+  parts_say goal l says =
+      record { claim = are.head.claim_value; denominator = are.head.denominator_value; monic = are.called.say Left; epic = are.called.say Right; items = are.items.say; goal = says }
 
   -- with a lemma or the goal
   pub led_is : (lead : Lead) (s : ScaledTokens) → IsNext lead p → IsScaled s → IsCancellationBlock ds (led p lead s)

@@ -26,7 +26,7 @@ use Rattle.cancel_rules.specs.declared.cancellation.Side.TheVariants.{Left, Righ
 use Rattle.cancellation_text.proofs.ItemLines.{block_meets}
 use Rattle.cancellation_text.proofs.NextLines.{outcome}
 use Rattle.cancellation_text.proofs.Outcomes.{told_good, told_bad}
-use Rattle.cancellation_text.proofs.Parts.{with_goal, lines_of_parts, led_is, IsInside, IsOpen, inside_keeps, goes_on}
+use Rattle.cancellation_text.proofs.Parts.{with_goal, lines_of_parts, led_is, parts_say, IsInside, IsOpen, inside_keeps, goes_on}
 
 -- each has a bound of its own
 told : (b : Bound) → bound_of flaw_of bounds (flaw_of b) ≡ Some b
@@ -63,23 +63,12 @@ module _ (ds : List Declaration) where
     are = here.are ∙ sym (lines_of_parts here.parts here.so_far.tokens);
     is_tree = led_is here.known None here.so_far.tokens tt here.so_far.scaled;
     keeps = inside_keeps ds o goal None front here;
-    says = record {
-      claim = here.known.head.claim_value;
-      denominator = here.known.head.denominator_value;
-      monic = here.known.called.say Left;
-      epic = here.known.called.say Right;
-      items = here.known.items.say;
-      goal = here.so_far.values;
-    };
+    says = parts_say here.known here.so_far.tokens goal here.so_far.values;
   }
 
   ends : (s : Stage) (front : List Line) (proof : Cancellation) → IsOpen ds s front → finish s ≡ Some proof → IsWhole (cancellation_kind ds) front proof
-  ends at.Headed front proof here read = absurd (cc)
-  ends (at.Claimed n) front proof here read = absurd (cc)
-  ends (at.Called o) front proof here read = absurd (cc)
-  ends (at.Lemma o l) front proof here read = absurd (cc)
-  ends (at.Cancelled o) front proof here read = absurd (cc)
   ends (at.Goal o goal) front proof here read = let same : proof_of o goal ≡ proof = cc in subst (IsWhole (cancellation_kind ds) front) same (goal_ends o goal front here)
+  ends s front proof here read = absurd (cc)
 
   pub reader : IsReader (cancellation_kind ds) (cancellation_steps ds)
   reader =
