@@ -1,3 +1,4 @@
+pub mod Outcomes
 pub mod SectionReaders
 pub mod SectionBlocks
 mod Names

@@ -1,7 +1,6 @@
 mod Lines
 mod Letters
 mod Parts
-mod Outcomes
 mod NextLines
 mod ItemLines
 pub mod Reader

@@ -32,7 +32,7 @@ use Rattle.cancellation_text.specs.Cancellations.{cancellation_kind}
 use Rattle.cancellation_text.specs.Reading.{called_tokens, cancel_tokens, is_called, letters_on, with_letters, called, begun, with_item, resized, lemma_begun, goal_begun, cancelled, item_or_goal, calling, next}
 use Rattle.cancellation_text.proofs.Letters.{AreApart, none_once, called_more, called_unknown, once_more}
 use Rattle.cancellation_text.proofs.Lines.{called_is, cancel_is}
-use Rattle.cancellation_text.proofs.Outcomes.{Told, good, bad, then_told, result_told, asked_told, test_told}
+use Rattle.block_lines.proofs.Outcomes.{Told, gives, refuses, then_told, result_told, asked_told, test_told}
 use Rattle.cancellation_text.proofs.Parts as parts
 use Rattle.cancellation_text.proofs.Parts.{Parts, parts_front, with_goal, more_item, lines_of_parts, front-item, front-called, rows_of, rows-item, begun_parts, lemma_item, led, led_behind, led_lines, IsNext, HasRoom, item_is, item_keeps, parts-more, led_is, led_keeps, IsClaimed, IsOpenedBy, IsCalling, IsInside, IsOpen}
 
@@ -70,7 +70,7 @@ module _ (ds : List Declaration) (front : List Line) (line : Line) where
   headed : front ≡ head_line ∷ [] → Outcome (next ds at.Headed line)
   headed are =
       number_told (codes "claim") (number_within number_limit) _ (λ there. bare_stops there.digits (codes "1") (denominator_line (codes "1") ∷ []) are there.is refl there.number refl)
-      (λ there n n_is. good (at.Claimed n) refl (record {
+      (λ there n n_is. gives (at.Claimed n) refl (record {
         claim = there.digits;
         head = record { claim_is = there.number; denominator_is = refl; claim_value = n_is; denominator_value = refl };
         are = behind front (head_line ∷ []) line (claim_line there.digits) are there.is;
@@ -79,7 +79,7 @@ module _ (ds : List Declaration) (front : List Line) (line : Line) where
   claimed : (n : ℕ) → IsClaimed n front → Outcome (next ds (at.Claimed n) line)
   claimed n here =
       number_told (codes "denominator") integer_in _ (λ there. bare_stops here.claim there.digits [] here.are there.is refl here.head.claim_is there.number)
-      (λ there d d_is. good (at.Called (begun n d)) refl (record {
+      (λ there d d_is. gives (at.Called (begun n d)) refl (record {
         claim = here.claim;
         denominator = there.digits;
         called = [];
@@ -95,8 +95,8 @@ module _ (ds : List Declaration) (front : List Line) (line : Line) where
   letter_told o here c there =
       then_told _ (asked_told UnknownName (known_letter ds c.letter) unknown) (λ a known.
       then_told {P = λ ls. (is_called a (letters_on o c.side) ≡ false) × (ls ≡ letters_on o c.side ++ a ∷ [])} _
-      (test_told (is_called a (letters_on o c.side)) _ _ (λ twice. bad BadLine refl (misfit refl)) (λ none. good _ refl (none, refl)))
-      (λ ls found. good (at.Called (with_letters o c.side ls)) refl (record {
+      (test_told (is_called a (letters_on o c.side)) _ _ (λ twice. refuses BadLine refl (misfit refl)) (λ none. gives _ refl (none, refl)))
+      (λ ls found. gives (at.Called (with_letters o c.side ls)) refl (record {
         claim = here.claim;
         denominator = here.denominator;
         called = here.called ++ c ∷ [];
@@ -171,7 +171,7 @@ module _ (ds : List Declaration) (front : List Line) (line : Line) where
         (stopped numbers (with_goal p (without_rows found.digits)) [] opened.are found.line_is (led_lines p None (without_rows found.digits))
         (led_is opened.known None (without_rows found.digits) tt (record { scale = found.number; rows = All-nil _ }))
         (All-replicate (λ k. KeepsOne ds k (with_goal p (without_rows found.digits))) 1 names (led_keeps opened.known None (without_rows found.digits) names (λ s. absurd (cc)) (λ s. tt) (rows_with_none names)))))))
-        (λ scale read. let known = goal_read line scale read in good (at.Goal o (lemma_of scale [])) refl (lead_goes None known.0 scale tt tt known.2 known.3 (ap (λ l. l ∷ []) known.1)))
+        (λ scale read. let known = goal_read line scale read in gives (at.Goal o (lemma_of scale [])) refl (lead_goes None known.0 scale tt tt known.2 known.3 (ap (λ l. l ∷ []) known.1)))
 
     -- an item of one line
     module _ (i : ItemTokens) (last : Line) (line_of : line ≡ last) (lines : item_lines i ≡ last ∷ []) (none : item_rows i ≡ []) (is : IsItem (length o.items + 1) i) where
@@ -217,7 +217,7 @@ module _ (ds : List Declaration) (front : List Line) (line : Line) where
     lemma_told =
         then_told _ (result_told (lemma_scale_of (length o.items) line) (λ f read. stopped_by (cancellation_kind ds) f _ (lemma_unread (length o.items) line f read) (lemma_past f))) (λ scale read.
         let known = lemma_read (length o.items) line scale read in
-        good (at.Lemma o (lemma_of scale [])) refl (
+        gives (at.Lemma o (lemma_of scale [])) refl (
           known.number,
           lead_goes (Some known.number) known.digits scale (subst (λ n. IsTrue (is_value (n + 1) known.number)) (sym count) known.next) (omega (arith, count, known.few)) known.scale_number known.scale_value (ap (λ l. l ∷ []) known.line_is),
         ))
@@ -229,9 +229,9 @@ module _ (ds : List Declaration) (front : List Line) (line : Line) where
         then_told {P = λ i. IsCancelOf ds c i × (length o.items < row_limit)} _
         (then_told _ (asked_told UnknownName (known_letter ds c.letter) (λ none. item_stops (cancel c) _ line_of.line_is refl refl line_of.is_item names (All-nil _))) (λ a known.
         then_told _ (asked_told NumberTooLarge (number_within number_limit c.item) (λ none. unnumbered (cancel c) _ line_of.line_is refl refl line_of.is_item (a, known))) (λ n value.
-        test_told (nat_le row_limit (length o.items)) _ _ (λ full. bad (TooMany row_limit) refl (crowded (cancel c) _ line_of.line_is refl refl line_of.is_item (a, known) (n, value)))
-        (λ room. good (item.Cancel a c.side n) refl (record { letter = a; number = n; letter_is = known; number_is = value; is = refl }, leb-false row_limit (length o.items) room)))))
-        (λ i found. good (at.Cancelled (with_item o i)) refl (
+        test_told (nat_le row_limit (length o.items)) _ _ (λ full. refuses (TooMany row_limit) refl (crowded (cancel c) _ line_of.line_is refl refl line_of.is_item (a, known) (n, value)))
+        (λ room. gives (item.Cancel a c.side n) refl (record { letter = a; number = n; letter_is = known; number_is = value; is = refl }, leb-false row_limit (length o.items) room)))))
+        (λ i found. gives (at.Cancelled (with_item o i)) refl (
           more_item p (cancel c),
           record {
             known = parts-more opened.known (cancel c) i (is_next (cancel c) _ line_of.line_is refl refl line_of.is_item) (omega (arith, count, found.1)) found.0;
@@ -282,7 +282,7 @@ module _ (ds : List Declaration) (front : List Line) (line : Line) where
         → Outcome (lemma_row ds o.size l line >>= λ more. Ok (place more))
     row_told place put =
         then_told _ (result_told (lemma_row ds o.size l line) (λ f read. stopped_by (cancellation_kind ds) f _ (row_passes ds o.size l (rows_before ++ tokens.rows) line f inside.so_far.have read) (row_stops f)))
-        (λ more read. good (place more) refl (put more (row_goes more read)))
+        (λ more read. gives (place more) refl (put more (row_goes more read)))
 
   -- after the last row of a lemma
   lemma_whole : (o : Opened) (l : Lemma) (number : List ℕ) (inside : IsInside ds o l (Some number) front) → IsOpenedBy ds (more_item inside.parts (lemma_item number inside.so_far.tokens)) (with_item o (item.Lemma l)) front

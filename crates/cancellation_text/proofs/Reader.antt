@@ -25,7 +25,7 @@ use Rattle.cancellation_text.specs.Reading.{called_tokens, begun, with_item, res
 use Rattle.cancel_rules.specs.declared.cancellation.Side.TheVariants.{Left, Right}
 use Rattle.cancellation_text.proofs.ItemLines.{block_meets}
 use Rattle.cancellation_text.proofs.NextLines.{outcome}
-use Rattle.cancellation_text.proofs.Outcomes.{told_good, told_bad}
+use Rattle.block_lines.proofs.Outcomes.{told_given, told_refused}
 use Rattle.cancellation_text.proofs.Parts.{with_goal, lines_of_parts, led_is, parts_say, IsInside, IsOpen, inside_keeps, goes_on}
 
 -- each has a bound of its own
@@ -73,5 +73,5 @@ module _ (ds : List Declaration) where
   pub reader : IsReader (cancellation_kind ds) (cancellation_steps ds)
   reader =
       reader_by_head (cancellation_kind ds) (cancellation_steps ds) (IsOpen ds) told (refl, refl) refl refl
-      (codes "cancellation") (codes "1") at.Headed (λ line. refl) refl refl (λ s t front line here more. told_good (outcome ds front line s here) t) (goes_on ds) ends
-      (λ s front line flaw here more. told_bad (outcome ds front line s here) flaw) (λ K t is keeps. block_meets K ds t is keeps) same_proof
+      (codes "cancellation") (codes "1") at.Headed (λ line. refl) refl refl (λ s t front line here more. told_given (outcome ds front line s here) t) (goes_on ds) ends
+      (λ s front line flaw here more. told_refused (outcome ds front line s here) flaw) (λ K t is keeps. block_meets K ds t is keeps) same_proof
