@@ -1,33 +1,31 @@
 -- A basis that is written is read back, whatever texts are before and after it.
-use Rattle.std.proofs.Common.{◌≡◌, true, false, ℕ, List, [], ◌∷◌, ◌++◌, IsTrue, arith, refl, sym, ap, ap₂, ◌∙◌, subst, length, map, codes}
+use Rattle.std.proofs.Common.{◌≡◌, true, false, ℕ, List, ◌∷◌, ◌++◌, IsTrue, arith, refl, sym, ap, ◌∙◌, subst, codes}
 use Rattle.std.specs.Prelude.{decimal}
-use Rattle.std.specs.List.{All, flat_map, list_all}
-use Rattle.std.proofs.lemmas.List.{append_assoc, length-map, map-append}
-use Rattle.std.proofs.lemmas.List.Elements.{All-nil, All-cons, All-head, All-tail}
-use Rattle.definitions.specs.Poly.{Poly as Terms}
+use Rattle.std.specs.List.{flat_map, list_all}
+use Rattle.std.proofs.lemmas.List.{append_assoc, length-map}
 use Rattle.nc_polynomial.specs.declared.poly.Poly.{Poly}
 use Rattle.quiver.specs.Declarations.{Declaration, IsDeclared}
-use Rattle.block_text.specs.Back as blocks
-use Rattle.block_text.specs.Back.{Part, is_inside, is_named, values_in}
+use Rattle.block_text.specs.Back.{is_inside, is_named}
 use Rattle.block_text.specs.Lines.{Line, number_limit}
 use Rattle.block_text.specs.PolynomialBack.{IsPolynomialLine}
 use Rattle.block_text.specs.PolynomialLines.{polynomial_line}
-use Rattle.block_text.specs.Texts.{HasBlocks}
+use Rattle.block_text.specs.Laws.{AreReadBack}
 use Rattle.block_text.specs.Tokens.{tokens_of, is_skipped}
 use Rattle.block_text.specs.Written.{poly_text}
 use Rattle.block_text.proofs.ContentBack.{text_of_tokens}
-use Rattle.block_text.proofs.PartsBack.{IsWritten, written_between, parts_have}
+use Rattle.block_text.proofs.PartsBack.{IsWritten}
 use Rattle.block_text.proofs.PolysBack.{poly_is_line}
 use Rattle.block_text.proofs.TextsBack.{are_low, line_text-append, literal}
 use Rattle.block_text.proofs.PolynomialBounds.{all_with}
 use Rattle.block_lines.specs.LineKinds.{numbers, polynomial_behind}
 use Rattle.block_lines.proofs.PolynomialReader.{line_keeps, kept_by}
+use Rattle.block_lines.proofs.SeenKinds.{seen_are_read_back}
 use Rattle.block_lines.proofs.SectionBlocks.{IsLineWritten, number_written, none_written, line_written, lines_written, block_written}
 use Rattle.adjoint_rules.specs.declared.basis.Basis.{Basis}
-use Rattle.block_lines.specs.BasisLines.{on_polynomial, rules, bounds, flaw_of, part, BasisTerms, basis_lines}
-use Rattle.block_lines.specs.Bases.{other_words, basis_kind, by_terms}
+use Rattle.block_lines.specs.BasisLines.{on_polynomial, rules, bounds, flaw_of, part, basis_lines}
+use Rattle.block_lines.specs.Bases.{other_words, basis_kind, by_terms, HasBases}
 use Rattle.adjoint_rules.specs.Limits.{rule_limit}
-use Rattle.block_lines.specs.Back.{HasLetters, IsWritableBasis, text_of, BasesAreReadBack, ArePartsReadBack}
+use Rattle.block_lines.specs.Back.{HasLetters, IsWritableBasis, text_of}
 use Rattle.block_lines.specs.Written.{rule_line}
 use Rattle.quiver.specs.Over.{IsPolyOver}
 use Rattle.block_text.proofs.PolynomialsBack.{polynomials_are_read_back}
@@ -74,72 +72,5 @@ module _ (ds : List Declaration) (declared : IsDeclared ds) (known : IsTrue (lis
       (lines_written rules rule_limit (rule_line ds) (λ (p : Poly). p.terms) IsWritable (polynomial_written (codes "rule") (codes "rule ") refl refl (λ text. refl) (λ line. refl)) b.rules each
       (omega (arith, writable.few, length-map b.rules (λ (p : Poly). p.terms))) (line_written rest none_written))))
 
--- between other lines
-pub bases_are_read_back : BasesAreReadBack
-bases_are_read_back ds declared known b before after first last writable whole front end few =
-    subst (HasBlocks (basis_kind ds) (before ++ text_of ds b ++ after)) (sym (map-append by_terms first (b ∷ last)))
-    (written_between (basis_kind ds) (text_of ds b) (by_terms b) before after (map by_terms first) (map by_terms last) (basis_written ds declared known b writable) whole front end
-    (omega (arith, few, length-map first by_terms, length-map last by_terms)))
-
--- the same by terms
-abbrev mapped : Part Basis → Part BasisTerms
-mapped (blocks.block b) = blocks.block (by_terms b)
-mapped (blocks.comment text) = blocks.comment text
-mapped (blocks.other head ls) = blocks.other head ls
-
-values_mapped : (parts : List (Part Basis)) → values_in (map mapped parts) ≡ map by_terms (values_in parts)
-values_mapped [] = refl
-values_mapped (blocks.block b ∷ parts) = ap (λ vs. by_terms b ∷ vs) (values_mapped parts)
-values_mapped (blocks.comment text ∷ parts) = values_mapped parts
-values_mapped (blocks.other head ls ∷ parts) = values_mapped parts
-
-module _ (ds : List Declaration) where
-  abbrev line_by_terms : Terms → List ℕ
-  line_by_terms p = codes "rule " ++ poly_text ds p ++ codes "\n"
-
-  abbrev text_by_terms : BasisTerms → List ℕ
-  text_by_terms v = codes "basis 1\nclaim " ++ decimal v.0 ++ codes "\n" ++ flat_map line_by_terms v.1.0 ++ codes "rest " ++ poly_text ds v.1.1.0 ++ codes "\nend\n"
-
-  rules_mapped : (ps : List Poly) → flat_map line_by_terms (map (λ p. p.terms) ps) ≡ flat_map (rule_line ds) ps
-  rules_mapped [] = refl
-  rules_mapped (p ∷ ps) = ap (λ text. rule_line ds p ++ text) (rules_mapped ps)
-
-  text_mapped : (b : Basis) → text_by_terms (by_terms b) ≡ text_of ds b
-  text_mapped b = ap (λ text. codes "basis 1\nclaim " ++ decimal b.claim ++ codes "\n" ++ text ++ codes "rest " ++ poly_text ds b.rest.terms ++ codes "\nend\n") (rules_mapped b.rules)
-
-  part_mapped : (p : Part Basis) → blocks.part_text text_by_terms (mapped p) ≡ blocks.part_text (text_of ds) p
-  part_mapped (blocks.block b) = text_mapped b
-  part_mapped (blocks.comment text) = refl
-  part_mapped (blocks.other head ls) = refl
-
-  parts_mapped : (parts : List (Part Basis)) → flat_map (blocks.part_text text_by_terms) (map mapped parts) ≡ flat_map (blocks.part_text (text_of ds)) parts
-  parts_mapped [] = refl
-  parts_mapped (p ∷ parts) = ap₂ (λ (one more : List ℕ). one ++ more) (part_mapped p) (parts_mapped parts)
-
-  -- the terms of a basis that can be written
-  abbrev IsOfWritable : BasisTerms → Type 0
-  IsOfWritable v = (b : Basis) × (by_terms b ≡ v) × IsWritableBasis ds b
-
-  abbrev IsWritablePart : Part Basis → Type 0
-  IsWritablePart p = blocks.IsPart other_words (IsWritableBasis ds) p
-
-  part_good : (p : Part Basis) → IsWritablePart p → blocks.IsPart other_words IsOfWritable (mapped p)
-  part_good (blocks.block b) is = (b, refl, is)
-  part_good (blocks.comment text) is = is
-  part_good (blocks.other head ls) is = is
-
-  parts_good : (parts : List (Part Basis)) → All IsWritablePart parts → All (blocks.IsPart other_words IsOfWritable) (map mapped parts)
-  parts_good [] each = All-nil (blocks.IsPart other_words IsOfWritable)
-  parts_good (p ∷ parts) each = All-cons (blocks.IsPart other_words IsOfWritable) (mapped p) (map mapped parts) (part_good p (All-head IsWritablePart p parts each)) (parts_good parts (All-tail IsWritablePart p parts each))
-
-  terms_written : IsDeclared ds → IsTrue (list_all is_named ds) → (v : BasisTerms) → IsOfWritable v → IsWritten (basis_kind ds) (text_by_terms v) v
-  terms_written declared known v good =
-      subst (λ (w : BasisTerms). IsWritten (basis_kind ds) (text_by_terms w) w) good.1
-      (subst (λ (text : List ℕ). IsWritten (basis_kind ds) text (by_terms good.0)) (sym (text_mapped good.0)) (basis_written ds declared known good.0 good.2))
-
-pub are_parts_read_back : ArePartsReadBack
-are_parts_read_back ds declared known parts each few =
-    subst (HasBlocks (basis_kind ds) (flat_map (blocks.part_text (text_of ds)) parts)) (values_mapped parts)
-    (subst (λ (text : List ℕ). HasBlocks (basis_kind ds) text (values_in (map mapped parts))) (parts_mapped ds parts)
-    (parts_have (basis_kind ds) (text_by_terms ds) (IsOfWritable ds) (terms_written ds declared known) (reader ds).words (map mapped parts) (parts_good ds parts each)
-    (omega (arith, few, ap length (values_mapped parts), length-map (values_in parts) by_terms))))
+pub bases_back : (ds : List Declaration) → IsDeclared ds → IsTrue (list_all is_named ds) → AreReadBack (HasBases ds) (text_of ds) (IsWritableBasis ds) other_words
+bases_back ds declared known = seen_are_read_back (basis_kind ds) by_terms (text_of ds) (IsWritableBasis ds) (reader ds).words (basis_written ds declared known)

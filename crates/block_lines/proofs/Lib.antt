@@ -8,4 +8,5 @@ pub mod LetterReader
 pub mod Reader
 pub mod BasisValues
 pub mod EachText
+mod SeenKinds
 pub mod BasesBack

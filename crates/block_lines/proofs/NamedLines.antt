@@ -7,7 +7,6 @@ use Rattle.std.proofs.lemmas.List.Elements.{All-nil, All-head, All-tail, All-pus
 use Rattle.std.proofs.lemmas.Option.{same_Some}
 use Rattle.block_text.specs.declared.fault.Flaw.{Flaw}
 use Rattle.block_text.specs.declared.fault.Flaw.TheVariants.{BadLine}
-use Rattle.block_text.specs.Fault.{asked}
 use Rattle.block_text.specs.Lines.{Line, is_end}
 use Rattle.block_text.proofs.Bounds.{before}
 use Rattle.block_text.proofs.Meets.{Meets, reads, passes, then_meets, meets-weaker}

@@ -19,7 +19,7 @@ use Rattle.block_text.proofs.Meets.{Meets, reads, passes, then_meets, meets-weak
 use Rattle.block_text.proofs.Owed as owed
 use Rattle.block_text.proofs.Owed.{Begins, IsWhole, IsStopped, misfit, stopped_by}
 use Rattle.block_text.proofs.PolynomialBounds.{all_with}
-use Rattle.block_text.proofs.Results.{bind_ok, bind_err, bind_assoc, by_test, else_ok, ok_has, option_map_some}
+use Rattle.block_text.proofs.Results.{bind_assoc, option_map_some}
 use Rattle.block_text.proofs.SaidLines.{said_ok, said_err, said_meets}
 use Rattle.block_text.proofs.Standing.{everywhere}
 use Rattle.block_text.proofs.Zips.{AllZip-unique, zip_length, zip_push}

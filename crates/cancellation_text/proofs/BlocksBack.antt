@@ -1,5 +1,5 @@
 -- A proof that cancels letters that is written is a block of evidence text.
-use Rattle.std.proofs.Common.{◌≡◌, ◌<◌, ◌+◌, ◌^◌, ℕ, suc, List, [], ◌∷◌, ◌++◌, Some, None, Option, arith, refl, ap₂, ◌∙◌, subst, length, map, codes, IsTrue}
+use Rattle.std.proofs.Common.{◌≡◌, ◌<◌, ◌+◌, ◌^◌, ℕ, suc, List, [], ◌∷◌, ◌++◌, None, Option, arith, refl, ap₂, ◌∙◌, subst, length, map, codes, IsTrue}
 use Rattle.std.specs.Prelude.{decimal}
 use Rattle.std.specs.Fmt.{signed_decimal}
 use Rattle.std.specs.List.{All, AllZip, cons_option, list_all, flat_map, sum_by}
@@ -17,7 +17,6 @@ use Rattle.cancel_rules.specs.declared.cancellation.Item.{Item}
 use Rattle.cancel_rules.specs.declared.cancellation.Item.TheVariants as item
 use Rattle.cancel_rules.specs.declared.cancellation.Cancellation.{Cancellation}
 use Rattle.block_text.specs.Back.{is_named}
-use Rattle.block_text.specs.Letters.{number_within}
 use Rattle.block_text.specs.Lines.{number_limit, Line, claim_line, end_line}
 use Rattle.block_text.specs.Written.{letter_text}
 use Rattle.block_text.proofs.ContentBack.{IsTextOf, no_text, text-append, text_of_tokens}

@@ -1,5 +1,5 @@
 -- The lines of letters that are called monic or epic, and of cancellations: what is read of one, and how one is read.
-use Rattle.std.proofs.Common.{◌≡◌, ℕ, Bool, true, ◌&&◌, List, [], ◌∷◌, Some, None, IsTrue, if◌then◌else◌, refl, ap, ap₂, subst, codes}
+use Rattle.std.proofs.Common.{◌≡◌, ℕ, ◌&&◌, List, [], ◌∷◌, Some, None, IsTrue, if◌then◌else◌, refl, ap, ap₂, subst, codes}
 use Rattle.std.specs.Option.{option_map}
 use Rattle.std.proofs.lemmas.Bool.{and_parts}
 use Rattle.std.proofs.lemmas.Option.{option_and_then_some}

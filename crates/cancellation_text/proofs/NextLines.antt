@@ -1,10 +1,9 @@
 -- A line at its place in a block: the place after it, or that it does not fit the grammar or is the first that passes a bound.
-use Rattle.std.proofs.Common.{◌≡◌, ◌<◌, ◌⊎◌, ◌+◌, ℕ, ℤ, Bool, true, false, List, [], ◌∷◌, ◌++◌, Option, Some, None, Result, Ok, IsTrue, inl, inr, arith, refl, sym, ap, ap₂, ◌∙◌, subst, length, nat_le, leb-false, append-nil, append_assoc, codes}
+use Rattle.std.proofs.Common.{◌≡◌, ◌<◌, ◌⊎◌, ◌+◌, ℕ, ℤ, false, List, [], ◌∷◌, ◌++◌, Option, Some, None, Result, Ok, IsTrue, inl, inr, arith, refl, sym, ap, ap₂, ◌∙◌, subst, length, nat_le, leb-false, append-nil, append_assoc, codes}
 use Rattle.std.specs.List.{All}
 use Rattle.std.proofs.lemmas.List.Elements.{All-nil, All-cons, All-push, All-replicate, All-weaker}
 use Rattle.quiver.specs.Declarations.{Declaration}
 use Rattle.traced_rows.specs.declared.evidence.Lemma.{Lemma}
-use Rattle.cancel_rules.specs.declared.cancellation.Item.{Item}
 use Rattle.cancel_rules.specs.declared.cancellation.Item.TheVariants as item
 use Rattle.block_text.specs.declared.fault.Flaw.{Flaw}
 use Rattle.block_text.specs.declared.fault.Flaw.TheVariants.{BadLine, UnknownName, NumberTooLarge, TooMany}

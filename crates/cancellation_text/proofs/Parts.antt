@@ -26,7 +26,7 @@ use Rattle.cancellation_text.specs.declared.place.Opened.{Opened}
 use Rattle.cancellation_text.specs.declared.place.Stage.{Stage}
 use Rattle.cancellation_text.specs.declared.place.Stage.TheVariants as at
 use Rattle.cancellation_text.specs.Blocks.{CalledTokens, ItemTokens, lemma, cancel, CancellationTokens, head_line, called_line, item_lines, cancellation_lines, is_map_letter, AreItems, IsItem, IsCancellationBlock}
-use Rattle.cancellation_text.specs.Bounds.{Bound, names, numbers, words, rows, letters, bounds, item_rows, IsKnown, HasItemName, HasItemNumber, KeepsOne, IsItemOf, IsCancellationOf}
+use Rattle.cancellation_text.specs.Bounds.{Bound, names, numbers, rows, bounds, item_rows, IsKnown, HasItemName, HasItemNumber, KeepsOne, IsItemOf, IsCancellationOf}
 use Rattle.cancellation_text.specs.Cancellations.{cancellation_kind}
 use Rattle.cancellation_text.specs.Reading.{begun, with_item, proof_of}
 use Rattle.cancellation_text.proofs.Letters.{letters_by, AreCalled, AreApart, none_called, none_once}

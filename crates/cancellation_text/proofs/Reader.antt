@@ -1,28 +1,23 @@
 -- The reader of proofs that cancel letters owes what a reader of blocks owes.
-use Rattle.std.proofs.Common.{◌≡◌, ◌++◌, ◌∷◌, [], ℕ, false, List, Option, Some, None, Result, Ok, refl, sym, ap, ◌∙◌, subst, codes, ◌+◌}
+use Rattle.std.proofs.Common.{◌≡◌, List, Some, None, refl, sym, ap, ◌∙◌, subst, codes}
 use Rattle.quiver.specs.Declarations.{Declaration}
 use Rattle.traced_rows.specs.declared.evidence.Lemma.{Lemma}
 use Rattle.cancel_rules.specs.declared.cancellation.Item.{Item}
 use Rattle.cancel_rules.specs.declared.cancellation.Item.TheVariants as item
 use Rattle.cancel_rules.specs.declared.cancellation.Cancellation.{Cancellation}
-use Rattle.block_text.specs.declared.fault.Flaw.{Flaw}
 use Rattle.block_text.specs.Letters.{number_within}
-use Rattle.block_text.specs.Lines.{Line, begins, is_end, claim_of, number_limit, integer_of}
+use Rattle.block_text.specs.Lines.{Line, number_limit, integer_of}
 use Rattle.block_text.proofs.Bounds.{bound_of}
-use Rattle.block_text.proofs.Owed.{Begins, IsWhole, IsReader, reader_by_head}
-use Rattle.block_text.proofs.Results.{by_test, bind_ok}
+use Rattle.block_text.proofs.Owed.{IsWhole, IsReader, reader_by_head}
 use Rattle.block_text.proofs.Zips.{AllZip-unique}
-use Rattle.certificate_text.specs.Lines.{denominator_of}
-use Rattle.certificate_text.specs.Reading.{lemma_row}
 use Rattle.certificate_text.proofs.OneCertificate.{same_value, same_result, same_scaled}
 use Rattle.cancellation_text.specs.declared.place.Opened.{Opened}
 use Rattle.cancellation_text.specs.declared.place.Stage.{Stage}
 use Rattle.cancellation_text.specs.declared.place.Stage.TheVariants as at
-use Rattle.cancellation_text.specs.Blocks.{CalledTokens, CancelTokens, ItemTokens, lemma, cancel, CancellationTokens, known_letter}
+use Rattle.cancellation_text.specs.Blocks.{CancelTokens, ItemTokens, lemma, cancel, CancellationTokens, known_letter}
 use Rattle.cancellation_text.specs.Bounds.{Bound, names, bounds, flaw_of, IsItemOf, IsCancelOf, IsCancellationOf}
 use Rattle.cancellation_text.specs.Cancellations.{cancellation_kind}
-use Rattle.cancellation_text.specs.Reading.{called_tokens, begun, with_item, resized, proof_of, calling, in_lemma, next, finish, cancellation_steps}
-use Rattle.cancel_rules.specs.declared.cancellation.Side.TheVariants.{Left, Right}
+use Rattle.cancellation_text.specs.Reading.{proof_of, finish, cancellation_steps}
 use Rattle.cancellation_text.proofs.ItemLines.{block_meets}
 use Rattle.cancellation_text.proofs.NextLines.{outcome}
 use Rattle.block_lines.proofs.Outcomes.{told_given, told_refused}
