@@ -1,4 +1,4 @@
--- A proof that cancels letters that is written is a block of evidence text.
+-- A proof that cancels letters that is written is a block of evidence text, and is read back.
 use Rattle.std.proofs.Common.{◌≡◌, ◌<◌, ◌+◌, ◌^◌, ℕ, suc, List, [], ◌∷◌, ◌++◌, None, Option, arith, refl, ap₂, ◌∙◌, subst, length, map, codes, IsTrue}
 use Rattle.std.specs.Prelude.{decimal}
 use Rattle.std.specs.Fmt.{signed_decimal}
@@ -18,10 +18,13 @@ use Rattle.cancel_rules.specs.declared.cancellation.Item.TheVariants as item
 use Rattle.cancel_rules.specs.declared.cancellation.Cancellation.{Cancellation}
 use Rattle.block_text.specs.Back.{is_named}
 use Rattle.block_text.specs.Lines.{number_limit, Line, claim_line, end_line}
+use Rattle.block_text.specs.Laws.{AreReadBack}
+use Rattle.block_text.specs.Texts.{HasBlocks}
 use Rattle.block_text.specs.Written.{letter_text}
 use Rattle.block_text.proofs.ContentBack.{IsTextOf, no_text, text-append, text_of_tokens}
 use Rattle.block_text.proofs.NumbersBack.{decimal_number, decimal_within}
 use Rattle.block_text.proofs.PartsBack.{IsWritten}
+use Rattle.block_text.proofs.TextLaws.{are_read_back}
 use Rattle.block_text.proofs.TextsBack.{literal}
 use Rattle.block_text.proofs.Zips.{zip_length}
 use Rattle.certificate_text.specs.Blocks.{denominator_line, goal_lines}
@@ -35,12 +38,13 @@ use Rattle.cancellation_text.specs.declared.place.Opened.{Opened}
 use Rattle.cancellation_text.specs.Back.{IsMapLetter, AreCalledOnce, IsWritableItem, lemmas_in, IsWritable}
 use Rattle.cancellation_text.specs.Blocks.{CalledTokens, ItemTokens, lemma, cancel, CancellationTokens, head_line, called_line, item_lines, cancellation_lines, is_map_letter, called_on, AreItems}
 use Rattle.cancellation_text.specs.Bounds.{Bound, names, numbers, words, rows, letters, rows_in, IsKnown, IsItemOf}
-use Rattle.cancellation_text.specs.Cancellations.{cancellation_kind}
+use Rattle.cancellation_text.specs.Cancellations.{cancellation_kind, other_words}
 use Rattle.cancellation_text.specs.Reading.{called_of, cancel_by, on_left, on_right}
 use Rattle.cancellation_text.specs.Written.{called_text, items_text, cancellation_text}
 use Rattle.cancellation_text.proofs.Letters.{letters_by, AreCalled, AreApart}
 use Rattle.cancellation_text.proofs.LinesBack.{IsWrittenMap, map_written, called_is_text, cancel_is_text}
 use Rattle.cancellation_text.proofs.Parts.{Parts, with_goal, rows_of, AreParts, led_is, led_keeps, parts_say}
+use Rattle.cancellation_text.proofs.Reader.{reader}
 
 -- letters that are called monic or epic
 abbrev called_trees : List Declaration → Side → List Letter → List CalledTokens
@@ -241,3 +245,7 @@ module _ (ds : List Declaration) (declared : IsDeclared ds) (known : IsTrue (lis
       keeps = λ bound. led_keeps are_parts None tree.goal bound (λ _. goal.size.within) (λ _. tt) (rows_within bound);
       says = parts_say are_parts tree.goal proof.goal (lemma_says ds proof.goal goal);
     }
+
+  -- whatever texts are before and after it
+  pub back : AreReadBack (HasBlocks (cancellation_kind ds)) (cancellation_text ds) (IsWritable ds) other_words
+  back = are_read_back (cancellation_kind ds) (cancellation_text ds) (IsWritable ds) (reader ds).words cancellation_written

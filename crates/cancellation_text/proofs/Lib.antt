@@ -7,5 +7,4 @@ pub mod Reader
 pub mod EachText
 pub mod Readable
 mod LinesBack
-mod BlocksBack
-pub mod ReadBack
+pub mod BlocksBack
