@@ -1,7 +1,7 @@
 pub mod Outcomes
 pub mod SectionReaders
 pub mod SectionBlocks
-mod Names
+pub mod Names
 pub mod NamedLines
 pub mod PolynomialReader
 pub mod LetterReader

@@ -18,6 +18,7 @@ use Rattle.block_lines.specs.LineKinds.{LineKind}
 use Rattle.block_lines.specs.Sections.{Section, named_lines}
 use Rattle.block_lines.specs.SectionSteps.{SectionSteps, named_steps}
 use Rattle.block_lines.proofs.Outcomes.{Told, gives, refuses, told_given, told_refused, then_told, result_told, asked_told, test_told}
+use Rattle.std.proofs.lemmas.Slice.Eq.{bytes_eq-Decides}
 use Rattle.block_lines.proofs.Names.{AreDistinct, distinct_push, distinct_apart}
 use Rattle.block_lines.proofs.SectionReaders.{read_from, kind_by, AreFit, IsSectionReader}
 
@@ -68,7 +69,7 @@ module _ {Bound V : Type 0} (flaw_of : Bound → Flaw) (bounds : List Bound) (li
       module _ (p : Place) (front : List Line) (here : AreNamed p front) (l : Line) (t : line.Tokens) (is : l ≡ line.line_of t) (is_line : line.IsLine t) (fresh : list_any (bytes_eq (name t)) p.0 ≡ false) where
         -- with one more line
         tree_with : Lines.IsTree (here.ts ++ t ∷ [])
-        tree_with = (All-push line.IsLine here.ts t here.is_tree.0 is_line, rw map-append (distinct_push (map name here.ts) (name t) here.is_tree.1 (rw here.names at fresh)))
+        tree_with = (All-push line.IsLine here.ts t here.is_tree.0 is_line, rw map-append (distinct_push bytes_eq bytes_eq-Decides (map name here.ts) (name t) here.is_tree.1 (rw here.names at fresh)))
 
         front_with : front ++ l ∷ [] ≡ map line.line_of (here.ts ++ t ∷ [])
         front_with = ap₂ (λ ls x. ls ++ x ∷ []) here.are is ∙ sym (map-append line.line_of here.ts (t ∷ []))
@@ -129,7 +130,7 @@ module _ {Bound V : Type 0} (flaw_of : Bound → Flaw) (bounds : List Bound) (li
         lines_meet p [] each distinct keeps = reads p.1 refl (record { us = []; each = tt; is = sym (append-nil p.1) })
         lines_meet p (t ∷ ts) each distinct keeps =
             then_meets (λ q. read_from Steps q (map line.line_of ts))
-            (next_meets p t (All-head line.IsLine t ts each) (distinct_apart p.0 (name t) (map name ts) distinct) (λ b kept. All-head (line.Keeps b) t ts (keeps b kept)))
+            (next_meets p t (All-head line.IsLine t ts each) (distinct_apart bytes_eq bytes_eq-Decides p.0 (name t) (map name ts) distinct) (λ b kept. All-head (line.Keeps b) t ts (keeps b kept)))
             (λ q _ found.
             rw found.2
             (meets-weaker

@@ -58,23 +58,17 @@ abbrev pub more_item : Parts → ItemTokens → Parts
 more_item p i = record { claim = p.claim; denominator = p.denominator; called = p.called; items = p.items ++ i ∷ [] }
 
 pub lines_of_parts : (p : Parts) (goal : ScaledTokens) → cancellation_lines (with_goal p goal) ≡ parts_front p ++ goal_lines goal
-lines_of_parts p goal = ap (λ ls. head_line ∷ claim_line p.claim ∷ denominator_line p.denominator ∷ ls) (sym (append_assoc (map called_line p.called) (flat_map item_lines p.items) (goal_lines goal)))
+lines_of_parts p goal = simp append_assoc refl
 
 pub front-item : (p : Parts) (i : ItemTokens) → parts_front (more_item p i) ≡ parts_front p ++ item_lines i
-front-item p i =
-    let pushed : flat_map item_lines (p.items ++ i ∷ []) ≡ flat_map item_lines p.items ++ item_lines i =
-    flat_map-append item_lines p.items (i ∷ []) ∙ ap (λ ls. flat_map item_lines p.items ++ ls) (append-nil (item_lines i)) in
-    ap (λ ls. head_line ∷ claim_line p.claim ∷ denominator_line p.denominator ∷ ls)
-    (ap (λ ls. map called_line p.called ++ ls) pushed ∙ sym (append_assoc (map called_line p.called) (flat_map item_lines p.items) (item_lines i)))
+front-item p i = simp (flat_map-append, append_assoc, append-nil) refl
 
 pub front-called : (claim denominator : List ℕ) (called : List CalledTokens) (c : CalledTokens)
     → parts_front (calling claim denominator (called ++ c ∷ [])) ≡ parts_front (calling claim denominator called) ++ called_line c ∷ []
-front-called claim denominator called c =
-    ap (λ ls. head_line ∷ claim_line claim ∷ denominator_line denominator ∷ ls)
-    (append-nil (map called_line (called ++ c ∷ [])) ∙ map-append called_line called (c ∷ []) ∙ ap (λ ls. ls ++ called_line c ∷ []) (sym (append-nil (map called_line called))))
+front-called claim denominator called c = simp (map-append, append_assoc, append-nil) refl
 
 pub rows-item : (items : List ItemTokens) (i : ItemTokens) → rows_of (items ++ i ∷ []) ≡ rows_of items ++ item_rows i
-rows-item items i = flat_map-append item_rows items (i ∷ []) ∙ ap (λ rs. rows_of items ++ rs) (append-nil (item_rows i))
+rows-item items i = simp (flat_map-append, append-nil) refl
 
 are_items-push : (n m : ℕ) (items : List ItemTokens) (i : ItemTokens) → m ≡ n + length items → AreItems n items → IsItem m i → AreItems n (items ++ i ∷ [])
 are_items-push n m [] i same each next =
