@@ -4,7 +4,6 @@ mod Parts
 mod NextLines
 mod ItemLines
 pub mod Reader
-pub mod EachText
 pub mod Readable
 mod LinesBack
 pub mod BlocksBack

@@ -5,10 +5,12 @@ use Rattle.traced_rows.specs.declared.evidence.Lemma.{Lemma}
 use Rattle.cancel_rules.specs.declared.cancellation.Item.{Item}
 use Rattle.cancel_rules.specs.declared.cancellation.Item.TheVariants as item
 use Rattle.cancel_rules.specs.declared.cancellation.Cancellation.{Cancellation}
+use Rattle.block_text.specs.Laws.{AreTold}
 use Rattle.block_text.specs.Letters.{number_within}
 use Rattle.block_text.specs.Lines.{Line, number_limit, integer_of}
 use Rattle.block_text.proofs.Bounds.{bound_of}
 use Rattle.block_text.proofs.Owed.{IsWhole, IsReader, reader_by_head}
+use Rattle.block_text.proofs.TextLaws.{are_told}
 use Rattle.block_text.proofs.Zips.{AllZip-unique}
 use Rattle.certificate_text.proofs.OneCertificate.{same_value, same_result, same_scaled}
 use Rattle.cancellation_text.specs.declared.place.Opened.{Opened}
@@ -16,7 +18,7 @@ use Rattle.cancellation_text.specs.declared.place.Stage.{Stage}
 use Rattle.cancellation_text.specs.declared.place.Stage.TheVariants as at
 use Rattle.cancellation_text.specs.Blocks.{CancelTokens, ItemTokens, lemma, cancel, CancellationTokens, known_letter}
 use Rattle.cancellation_text.specs.Bounds.{Bound, names, bounds, flaw_of, IsItemOf, IsCancelOf, IsCancellationOf}
-use Rattle.cancellation_text.specs.Cancellations.{cancellation_kind}
+use Rattle.cancellation_text.specs.Cancellations.{cancellation_kind, IsCancellations, IsFirstFault}
 use Rattle.cancellation_text.specs.Reading.{proof_of, finish, cancellation_steps}
 use Rattle.cancellation_text.proofs.ItemLines.{block_meets}
 use Rattle.cancellation_text.proofs.NextLines.{outcome}
@@ -24,9 +26,9 @@ use Rattle.block_lines.proofs.Outcomes.{told_given, told_refused}
 use Rattle.cancellation_text.proofs.Parts.{with_goal, lines_of_parts, led_is, parts_say, IsInside, IsOpen, inside_keeps, goes_on}
 
 -- each has a bound of its own
-told : (b : Bound) → bound_of flaw_of bounds (flaw_of b) ≡ Some b
-told names = refl
-told b = refl
+flaw_told : (b : Bound) → bound_of flaw_of bounds (flaw_of b) ≡ Some b
+flaw_told names = refl
+flaw_told b = refl
 
 -- values
 module _ (ds : List Declaration) where
@@ -67,6 +69,10 @@ module _ (ds : List Declaration) where
 
   pub reader : IsReader (cancellation_kind ds) (cancellation_steps ds)
   reader =
-      reader_by_head (cancellation_kind ds) (cancellation_steps ds) (IsOpen ds) told (refl, refl) refl refl
+      reader_by_head (cancellation_kind ds) (cancellation_steps ds) (IsOpen ds) flaw_told (refl, refl) refl refl
       (codes "cancellation") (codes "1") at.Headed (λ line. refl) refl refl (λ s t front line here more. told_given (outcome ds front line s here) t) (goes_on ds) ends
       (λ s front line flaw here more. told_refused (outcome ds front line s here) flaw) (λ K t is keeps. block_meets K ds t is keeps) same_proof
+
+  -- each text has proofs or a first fault, in one way
+  pub told : AreTold (IsCancellations ds) (IsFirstFault ds)
+  told = are_told (cancellation_kind ds) (cancellation_steps ds) reader
