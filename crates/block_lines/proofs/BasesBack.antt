@@ -1,36 +1,31 @@
 -- A basis that is written is read back, whatever texts are before and after it.
-use Rattle.std.proofs.Common.{◌≡◌, true, false, ℕ, List, [], ◌∷◌, ◌++◌, IsTrue, arith, refl, sym, ap, ◌∙◌, subst, map, codes}
+use Rattle.std.proofs.Common.{◌≡◌, true, false, ℕ, List, ◌∷◌, ◌++◌, IsTrue, arith, refl, sym, ap, ◌∙◌, subst, codes}
 use Rattle.std.specs.Prelude.{decimal}
-use Rattle.std.specs.List.{AllZip, flat_map, list_all}
+use Rattle.std.specs.List.{flat_map, list_all}
 use Rattle.std.proofs.lemmas.List.{append_assoc, length-map}
 use Rattle.nc_polynomial.specs.declared.poly.Poly.{Poly}
 use Rattle.quiver.specs.Declarations.{Declaration, IsDeclared}
-use Rattle.block_text.specs.Back as blocks
 use Rattle.block_text.specs.Back.{is_inside, is_named}
 use Rattle.block_text.specs.Lines.{Line, number_limit}
 use Rattle.block_text.specs.PolynomialBack.{IsPolynomialLine}
 use Rattle.block_text.specs.PolynomialLines.{polynomial_line}
-use Rattle.block_text.specs.Texts.{HasBlocks}
+use Rattle.block_text.specs.Laws.{AreReadBack}
 use Rattle.block_text.specs.Tokens.{tokens_of, is_skipped}
 use Rattle.block_text.specs.Written.{poly_text}
 use Rattle.block_text.proofs.ContentBack.{text_of_tokens}
 use Rattle.block_text.proofs.PartsBack.{IsWritten}
-use Rattle.block_text.proofs.TextLaws.{are_read_back}
-use Rattle.block_text.specs.Blocks.{own_in}
-use Rattle.block_text.specs.Kind.{Kind}
-use Rattle.block_text.specs.Laws.{AreReadBack}
-use Rattle.block_lines.specs.Sections.{block_kind, said_as}
 use Rattle.block_text.proofs.PolysBack.{poly_is_line}
 use Rattle.block_text.proofs.TextsBack.{are_low, line_text-append, literal}
 use Rattle.block_text.proofs.PolynomialBounds.{all_with}
 use Rattle.block_lines.specs.LineKinds.{numbers, polynomial_behind}
 use Rattle.block_lines.proofs.PolynomialReader.{line_keeps, kept_by}
+use Rattle.block_lines.proofs.SeenKinds.{seen_are_read_back}
 use Rattle.block_lines.proofs.SectionBlocks.{IsLineWritten, number_written, none_written, line_written, lines_written, block_written}
 use Rattle.adjoint_rules.specs.declared.basis.Basis.{Basis}
 use Rattle.block_lines.specs.BasisLines.{on_polynomial, rules, bounds, flaw_of, part, basis_lines}
-use Rattle.block_lines.specs.Bases.{HasBases, other_words, basis_kind, by_terms}
+use Rattle.block_lines.specs.Bases.{other_words, basis_kind, by_terms, HasBases}
 use Rattle.adjoint_rules.specs.Limits.{rule_limit}
-use Rattle.block_lines.specs.Back.{HasLetters, IsWritableBasis, text_of, BasesAreReadBack, ArePartsReadBack}
+use Rattle.block_lines.specs.Back.{HasLetters, IsWritableBasis, text_of}
 use Rattle.block_lines.specs.Written.{rule_line}
 use Rattle.quiver.specs.Over.{IsPolyOver}
 use Rattle.block_text.proofs.PolynomialsBack.{polynomials_are_read_back}
@@ -77,50 +72,5 @@ module _ (ds : List Declaration) (declared : IsDeclared ds) (known : IsTrue (lis
       (lines_written rules rule_limit (rule_line ds) (λ (p : Poly). p.terms) IsWritable (polynomial_written (codes "rule") (codes "rule ") refl refl (λ text. refl) (λ line. refl)) b.rules each
       (omega (arith, writable.few, length-map b.rules (λ (p : Poly). p.terms))) (line_written rest none_written))))
 
--- blocks by bases in place of their terms
-abbrev by_bases : List Declaration → Kind Basis
-by_bases ds = block_kind (codes "basis") (codes "1") other_words bounds flaw_of (said_as (basis_lines ds) (λ t b. (basis_lines ds).Says t (by_terms b)))
-
-module _ {T V W : Type 0} (R : T → W → Type 0) (f : V → W) where
-  zip_mapped : (ts : List T) (vs : List V) → AllZip (λ t v. R t (f v)) ts vs → AllZip R ts (map f vs)
-  zip_mapped [] [] each = tt
-  zip_mapped [] (v ∷ vs) each = absurd each
-  zip_mapped (t ∷ ts) [] each = absurd each
-  zip_mapped (t ∷ ts) (v ∷ vs) each = (each.0, zip_mapped ts vs each.1)
-
-  zip_unmapped : (ts : List T) (vs : List V) → AllZip R ts (map f vs) → AllZip (λ t v. R t (f v)) ts vs
-  zip_unmapped [] [] each = tt
-  zip_unmapped [] (v ∷ vs) each = absurd each
-  zip_unmapped (t ∷ ts) [] each = absurd each
-  zip_unmapped (t ∷ ts) (v ∷ vs) each = (each.0, zip_unmapped ts vs each.1)
-
-module _ (ds : List Declaration) where
-  to_terms : {text : List ℕ} {bases : List Basis} → HasBlocks (by_bases ds) text bases → HasBases ds text bases
-  to_terms {bases = bases} has = record {
-    utf8 = has.utf8;
-    blocks = has.blocks;
-    are_blocks = record { are = has.are_blocks.are; each = has.are_blocks.each };
-    within = has.within;
-    says = zip_mapped (basis_lines ds).Says by_terms (own_in has.blocks) bases has.says;
-  }
-
-  from_terms : {text : List ℕ} {bases : List Basis} → HasBases ds text bases → HasBlocks (by_bases ds) text bases
-  from_terms {bases = bases} has = record {
-    utf8 = has.utf8;
-    blocks = has.blocks;
-    are_blocks = record { are = has.are_blocks.are; each = has.are_blocks.each };
-    within = has.within;
-    says = zip_unmapped (basis_lines ds).Says by_terms (own_in has.blocks) bases has.says;
-  }
-
-  back : IsDeclared ds → IsTrue (list_all is_named ds) → AreReadBack (HasBlocks (by_bases ds)) (text_of ds) (IsWritableBasis ds) other_words
-  back declared known = are_read_back (by_bases ds) (text_of ds) (IsWritableBasis ds) (reader ds).words (λ b writable.
-      let is = basis_written ds declared known b writable in record { tree = is.tree; text_is = is.text_is; is_tree = is.is_tree; keeps = is.keeps; says = is.says })
-
--- between other lines
-pub bases_are_read_back : BasesAreReadBack
-bases_are_read_back ds declared known b before after first last writable whole front end few =
-    to_terms ds ((back ds declared known).between b before after first last writable whole (from_terms ds front) (from_terms ds end) few)
-
-pub are_parts_read_back : ArePartsReadBack
-are_parts_read_back ds declared known parts each few = to_terms ds ((back ds declared known).in_parts parts each few)
+pub bases_back : (ds : List Declaration) → IsDeclared ds → IsTrue (list_all is_named ds) → AreReadBack (HasBases ds) (text_of ds) (IsWritableBasis ds) other_words
+bases_back ds declared known = seen_are_read_back (basis_kind ds) by_terms (text_of ds) (IsWritableBasis ds) (reader ds).words (basis_written ds declared known)

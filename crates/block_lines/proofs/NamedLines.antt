@@ -7,18 +7,18 @@ use Rattle.std.proofs.lemmas.List.Elements.{All-nil, All-head, All-tail, All-pus
 use Rattle.std.proofs.lemmas.Option.{same_Some}
 use Rattle.block_text.specs.declared.fault.Flaw.{Flaw}
 use Rattle.block_text.specs.declared.fault.Flaw.TheVariants.{BadLine}
-use Rattle.block_text.specs.Fault.{asked}
 use Rattle.block_text.specs.Lines.{Line, is_end}
 use Rattle.block_text.proofs.Bounds.{before}
 use Rattle.block_text.proofs.Meets.{Meets, reads, passes, then_meets, meets-weaker}
 use Rattle.block_text.proofs.Owed as owed
 use Rattle.block_text.proofs.Owed.{Begins, IsStopped, misfit}
-use Rattle.block_text.proofs.Results.{bind_ok, bind_err, by_test, else_ok, ok_has, asked_ok, asked_err}
 use Rattle.block_text.proofs.Standing.{everywhere}
 use Rattle.block_text.proofs.Zips.{AllZip-unique, zip_push}
 use Rattle.block_lines.specs.LineKinds.{LineKind}
 use Rattle.block_lines.specs.Sections.{Section, named_lines}
 use Rattle.block_lines.specs.SectionSteps.{SectionSteps, named_steps}
+use Rattle.block_lines.proofs.Outcomes.{Told, gives, refuses, told_given, told_refused, then_told, result_told, asked_told, test_told}
+use Rattle.std.proofs.lemmas.Slice.Eq.{bytes_eq-Decides}
 use Rattle.block_lines.proofs.Names.{AreDistinct, distinct_push, distinct_apart}
 use Rattle.block_lines.proofs.SectionReaders.{read_from, kind_by, AreFit, IsSectionReader}
 
@@ -69,7 +69,7 @@ module _ {Bound V : Type 0} (flaw_of : Bound → Flaw) (bounds : List Bound) (li
       module _ (p : Place) (front : List Line) (here : AreNamed p front) (l : Line) (t : line.Tokens) (is : l ≡ line.line_of t) (is_line : line.IsLine t) (fresh : list_any (bytes_eq (name t)) p.0 ≡ false) where
         -- with one more line
         tree_with : Lines.IsTree (here.ts ++ t ∷ [])
-        tree_with = (All-push line.IsLine here.ts t here.is_tree.0 is_line, rw map-append (distinct_push (map name here.ts) (name t) here.is_tree.1 (rw here.names at fresh)))
+        tree_with = (All-push line.IsLine here.ts t here.is_tree.0 is_line, rw map-append (distinct_push bytes_eq bytes_eq-Decides (map name here.ts) (name t) here.is_tree.1 (rw here.names at fresh)))
 
         front_with : front ++ l ∷ [] ≡ map line.line_of (here.ts ++ t ∷ [])
         front_with = ap₂ (λ ls x. ls ++ x ∷ []) here.are is ∙ sym (map-append line.line_of here.ts (t ∷ []))
@@ -98,20 +98,13 @@ module _ {Bound V : Type 0} (flaw_of : Bound → Flaw) (bounds : List Bound) (li
               keeps = All-weaker (λ b. line.Keeps b t) (λ b. All (line.Keeps b) (here.ts ++ t ∷ [])) (λ b kept. All-push (line.Keeps b) here.ts t (here.keep b) kept) (before flaw_of bounds bound) keeps;
             })
 
-      goes : (p q : Place) (front : List Line) (l : Line) → AreNamed p front → Steps.next p l ≡ Ok q → AreNamed q (front ++ l ∷ [])
-      goes p q front l here made =
-          bind_ok (asked BadLine (tokens l)) _ q made (λ t t_is grown.
-          else_ok (list_any (bytes_eq (name t)) p.0) BadLine _ q grown (λ fresh valued.
-          bind_ok (value t) _ q valued (λ v v_is made_of.
-          let found = known.are l t (asked_ok BadLine (tokens l) t t_is) in
-          ok_has (λ r. AreNamed r (front ++ l ∷ [])) (p.0 ++ name t ∷ [], p.1 ++ v ∷ []) q made_of (named_with p front here l t found.0 found.1 fresh v v_is (judged t)))))
-
-      stops : (p : Place) (front : List Line) (l : Line) (f : Flaw) → AreNamed p front → Steps.next p l ≡ Err f → IsStopped (kind_by flaw_of bounds Lines) f (front ++ l ∷ [])
-      stops p front l f here made =
-          bind_err (asked BadLine (tokens l)) _ f made (λ e. misfit (asked_err BadLine (tokens l) f e)) (λ t t_is grown.
-          by_test (list_any (bytes_eq (name t)) p.0) _ _ (Err f) grown (λ again same. misfit (cc)) (λ fresh valued.
-          let found = known.are l t (asked_ok BadLine (tokens l) t t_is) in
-          bind_err (value t) _ f valued (λ none. stopped_at p front here l t found.0 found.1 fresh f none (judged t)) (λ v v_is made_of. absurd (cc))))
+      line_told : (p : Place) (front : List Line) (l : Line) → AreNamed p front → Told (λ q. AreNamed q (front ++ l ∷ [])) (λ f. IsStopped (kind_by flaw_of bounds Lines) f (front ++ l ∷ [])) (Steps.next p l)
+      line_told p front l here =
+          then_told _ (asked_told BadLine (tokens l) (λ none. misfit refl)) (λ t t_is.
+          test_told (list_any (bytes_eq (name t)) p.0) _ _ (λ again. refuses BadLine refl (misfit refl)) (λ fresh.
+          let found = known.are l t t_is in
+          then_told _ (result_told (value t) (λ f none. stopped_at p front here l t found.0 found.1 fresh f none (judged t)))
+          (λ v v_is. gives (p.0 ++ name t ∷ [], p.1 ++ v ∷ []) refl (named_with p front here l t found.0 found.1 fresh v v_is (judged t)))))
 
       goes_on : (p : Place) (front : List Line) → AreNamed p front → Begins (kind_by flaw_of bounds Lines) bounds front
       goes_on p front here = record { tree = here.ts; more = []; are = sym (append-nil front ∙ here.are); is_tree = here.is_tree; keeps = everywhere (λ b. All (line.Keeps b) here.ts) here.keep bounds }
@@ -137,7 +130,7 @@ module _ {Bound V : Type 0} (flaw_of : Bound → Flaw) (bounds : List Bound) (li
         lines_meet p [] each distinct keeps = reads p.1 refl (record { us = []; each = tt; is = sym (append-nil p.1) })
         lines_meet p (t ∷ ts) each distinct keeps =
             then_meets (λ q. read_from Steps q (map line.line_of ts))
-            (next_meets p t (All-head line.IsLine t ts each) (distinct_apart p.0 (name t) (map name ts) distinct) (λ b kept. All-head (line.Keeps b) t ts (keeps b kept)))
+            (next_meets p t (All-head line.IsLine t ts each) (distinct_apart bytes_eq bytes_eq-Decides p.0 (name t) (map name ts) distinct) (λ b kept. All-head (line.Keeps b) t ts (keeps b kept)))
             (λ q _ found.
             rw found.2
             (meets-weaker
@@ -149,9 +142,9 @@ module _ {Bound V : Type 0} (flaw_of : Bound → Flaw) (bounds : List Bound) (li
         fit = named_fit tokens known;
         IsOpen = AreNamed;
         starts = record { ts = []; is_tree = none_are; keep = λ b. All-nil (line.Keeps b); say = tt; names = refl; are = refl };
-        goes = λ p q front l here made. goes p q front l here made;
+        goes = λ p q front l here. told_given (line_told p front l here) q;
         goes_on = goes_on;
         ends = λ p front vs here made. record { tree = here.ts; are = here.are; is_tree = here.is_tree; keeps = here.keep; says = subst (AllZip line.Says here.ts) (same_Some p.1 vs made) here.say };
-        stops = λ p front l f here made. stops p front l f here made;
+        stops = λ p front l f here. told_refused (line_told p front l here) f;
         reads = λ K ts is keeps. meets-weaker (lines_meet K ([], []) ts is.0 is.1 keeps) (λ vs _ found. subst (AllZip line.Says ts) (sym found.is) found.each);
       }

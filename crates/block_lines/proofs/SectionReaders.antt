@@ -19,7 +19,7 @@ use Rattle.block_text.proofs.Meets.{Meets, reads, passes, then_meets, meets-weak
 use Rattle.block_text.proofs.Owed as owed
 use Rattle.block_text.proofs.Owed.{Begins, IsWhole, IsStopped, misfit, stopped_by}
 use Rattle.block_text.proofs.PolynomialBounds.{all_with}
-use Rattle.block_text.proofs.Results.{bind_ok, bind_err, bind_assoc, by_test, else_ok, ok_has, option_map_some}
+use Rattle.block_text.proofs.Results.{bind_assoc, option_map_some}
 use Rattle.block_text.proofs.SaidLines.{said_ok, said_err, said_meets}
 use Rattle.block_text.proofs.Standing.{everywhere}
 use Rattle.block_text.proofs.Zips.{AllZip-unique, zip_length, zip_push}
@@ -29,6 +29,7 @@ use Rattle.block_lines.specs.declared.section.LinesPlace.{LinesPlace}
 use Rattle.block_lines.specs.LineKinds.{LineKind, said_line}
 use Rattle.block_lines.specs.LineReadings.{Reading}
 use Rattle.block_lines.specs.Sections.{Section, no_lines, line_by, line_then, lines_then, said_as}
+use Rattle.block_lines.proofs.Outcomes.{Told, gives, refuses, told_given, told_refused, then_told, result_told, test_told}
 use Rattle.block_lines.specs.SectionSteps.{SectionSteps, no_steps, grown, lines_place, line_next, line_steps_by, line_steps, lines_next, lines_steps, steps_as}
 
 -- lines from a place on, to the end
@@ -216,16 +217,6 @@ module _ {Bound : Type 0} (flaw_of : Bound → Flaw) (bounds : List Bound) where
     IsOpen at.Before front = front ≡ []
     IsOpen (at.Behind v r) front = IsBehind v r front
 
-    line_goes : (b c : LinePlace V B) (front : List Line) (l : Line) → IsOpen b front → line_next read steps b l ≡ Ok c → IsOpen c (front ++ l ∷ [])
-    line_goes at.Before c front l here made =
-        bind_ok (read l) _ c made (λ v v_is made_of.
-        ok_has (λ q. IsOpen q (front ++ l ∷ [])) (at.Behind v (steps v).start) c made_of
-        (let known = one.is_read l v v_is in record { first = l; known = known; behind = []; are = ap (λ ls. ls ++ l ∷ []) here; is_open = (More known).starts }))
-    line_goes (at.Behind v r) c front l here made =
-        bind_ok ((steps v).next r l) _ c made (λ q q_is made_of.
-        ok_has (λ p. IsOpen p (front ++ l ∷ [])) (at.Behind v q) c made_of
-        (record { first = here.first; known = here.known; behind = here.behind ++ l ∷ []; are = ap (λ ls. ls ++ l ∷ []) here.are; is_open = (More here.known).goes r q here.behind l here.is_open q_is }))
-
     begins_behind : (within : List Bound) (l : Line) (v : V) (ls : List Line) (known : IsLineRead line l v) → Begins (kind_by (Rest known.tokens)) within ls → Begins (kind_by Whole) within (l ∷ ls)
     begins_behind within l v ls known begins = record {
       tree = (known.tokens, begins.tree);
@@ -265,17 +256,21 @@ module _ {Bound : Type 0} (flaw_of : Bound → Flaw) (bounds : List Bound) where
           says = (here.known.says, found.says);
         }))
 
-    line_stops : (b : LinePlace V B) (front : List Line) (l : Line) (f : Flaw) → IsOpen b front → line_next read steps b l ≡ Err f → IsStopped (kind_by Whole) f (front ++ l ∷ [])
-    line_stops at.Before front l f here made =
-        bind_err (read l) _ f made (λ e. stopped_by (kind_by Whole) f (front ++ l ∷ []) (one.stops l f e) (λ passed.
+    line_told : (b : LinePlace V B) (front : List Line) (l : Line) → IsOpen b front → Told (λ c. IsOpen c (front ++ l ∷ [])) (λ f. IsStopped (kind_by Whole) f (front ++ l ∷ [])) (line_next read steps b l)
+    line_told at.Before front l here =
+        then_told _ (result_told (read l) (λ f e. stopped_by (kind_by Whole) f (front ++ l ∷ []) (one.stops l f e) (λ passed.
         owed.passes passed.bound passed.told
-        (subst (λ x. Begins (kind_by Whole) (before flaw_of bounds passed.bound) (front ++ x ∷ [])) (sym passed.are) (begins_with (before flaw_of bounds passed.bound) front passed.tokens here passed.is passed.keeps))))
-        (λ v v_is none. absurd (cc))
-    line_stops (at.Behind v r) front l f here made =
-        bind_err ((steps v).next r l) _ f made (λ e.
+        (subst (λ x. Begins (kind_by Whole) (before flaw_of bounds passed.bound) (front ++ x ∷ [])) (sym passed.are) (begins_with (before flaw_of bounds passed.bound) front passed.tokens here passed.is passed.keeps)))))
+        (λ v v_is.
+        let known = one.is_read l v v_is in
+        gives (at.Behind v (steps v).start) refl (record { first = l; known = known; behind = []; are = ap (λ ls. ls ++ l ∷ []) here; is_open = (More known).starts }))
+    line_told (at.Behind v r) front l here =
+        then_told _ (result_told ((steps v).next r l) (λ f e.
         stopped_with (Rest here.known.tokens) Whole f (here.behind ++ l ∷ []) (front ++ l ∷ [])
         (λ within begins. subst (Begins (kind_by Whole) within) (sym (ap (λ ls. ls ++ l ∷ []) here.are)) (begins_behind within here.first v (here.behind ++ l ∷ []) here.known begins))
-        ((More here.known).stops r here.behind l f here.is_open e)) (λ q q_is none. absurd (cc))
+        ((More here.known).stops r here.behind l f here.is_open e)))
+        (λ q q_is. gives (at.Behind v q) refl
+        (record { first = here.first; known = here.known; behind = here.behind ++ l ∷ []; are = ap (λ ls. ls ++ l ∷ []) here.are; is_open = (More here.known).goes r q here.behind l here.is_open q_is }))
 
     behind_reads : (v : V) (r : B) (ls : List Line) → read_from (line_steps_by read steps) (at.Behind v r) ls ≡ (read_from (steps v) r ls >>= λ w. Ok (v, w))
     behind_reads v r [] = asked-map (λ w. (v, w)) ((steps v).finish r)
@@ -301,10 +296,10 @@ module _ {Bound : Type 0} (flaw_of : Bound → Flaw) (bounds : List Bound) where
       };
       IsOpen = IsOpen;
       starts = refl;
-      goes = line_goes;
+      goes = λ b c front l here. told_given (line_told b front l here) c;
       goes_on = line_goes_on;
       ends = line_ends;
-      stops = line_stops;
+      stops = λ b front l f here. told_refused (line_told b front l here) f;
       reads = line_reads;
     }
 
@@ -387,28 +382,6 @@ module _ {Bound : Type 0} (flaw_of : Bound → Flaw) (bounds : List Bound) where
               (λ b kept other. (All-push (line.Keeps b) here.ts t (here.lines.keep b) kept, λ same. absurd (other same), more.fit.example_keeps b)) within keeps apart;
         }
 
-        lines_go : (c : LinesPlace V B) (l : Line) → lines_next word limit read steps p l ≡ Ok c → IsAmong c (front ++ l ∷ [])
-        lines_go c l made =
-            by_test (p.more && begins word l) _ _ (Ok c) made
-            (λ takes read_on.
-            let first = (and_parts p.more (begins word l) takes).0 in
-            bind_ok (read l) _ c read_on (λ v v_is grown_is.
-            bind_ok (grown limit p.values v) _ c grown_is (λ vs vs_is made_of.
-            else_ok (nat_le limit (length p.values)) (TooMany limit) _ vs vs_is (λ room same.
-            ok_has (λ q. IsAmong q (front ++ l ∷ [])) (lines_place vs p.rest p.more) c made_of
-            (ok_has (λ ws. IsAmong (lines_place ws p.rest p.more) (front ++ l ∷ [])) (p.values ++ v ∷ []) vs same
-            (let known = one.is_read l v v_is in with_line v l first (grind (arith, nat_tests, room)) known))))))
-            (λ other read_on.
-            bind_ok (steps.next p.rest l) _ c read_on (λ r r_is made_of.
-            ok_has (λ q. IsAmong q (front ++ l ∷ [])) (lines_place p.values r false) c made_of (record {
-              ts = here.ts;
-              lines = here.lines;
-              behind = here.behind ++ l ∷ [];
-              are = front_behind l;
-              is_open = more.goes p.rest r here.behind l here.is_open r_is;
-              first = λ e. absurd (cc);
-            })))
-
         lines_go_on : Begins (kind_by All_Lines) bounds front
         lines_go_on = subst (Begins (kind_by All_Lines) bounds) (sym here.are) (begins_lines bounds here.behind (more.goes_on p.rest here.behind here.is_open))
 
@@ -443,17 +416,28 @@ module _ {Bound : Type 0} (flaw_of : Bound → Flaw) (bounds : List Bound) where
             owed.passes count (is ∙ sym told)
             (begins_more (before flaw_of bounds count) l known.tokens first known.are known.is (everywhere (λ b. line.Keeps b known.tokens) known.keeps (before flaw_of bounds count)) (apart_before count))
 
-        lines_stop : (l : Line) (f : Flaw) → lines_next word limit read steps p l ≡ Err f → IsStopped (kind_by All_Lines) f (front ++ l ∷ [])
-        lines_stop l f made =
-            by_test (p.more && begins word l) _ _ (Err f) made
-            (λ takes read_on.
+        lines_told : (l : Line) → Told (λ c. IsAmong c (front ++ l ∷ [])) (λ f. IsStopped (kind_by All_Lines) f (front ++ l ∷ [])) (lines_next word limit read steps p l)
+        lines_told l =
+            test_told (p.more && begins word l) _ _
+            (λ takes.
             let first = (and_parts p.more (begins word l) takes).0 in
-            bind_err (read l) _ f read_on (λ e. stopped_by (kind_by All_Lines) f (front ++ l ∷ []) (one.stops l f e) (passed_more l f first)) (λ v v_is grown_is.
-            bind_err (grown limit p.values v) _ f grown_is (λ full.
-            by_test (nat_le limit (length p.values)) _ _ (Err f) full (λ over e. too_many l v f first (one.is_read l v v_is) (cc)) (λ room e. absurd (cc))) (λ vs vs_is none. absurd (cc))))
-            (λ other read_on. bind_err (steps.next p.rest l) _ f read_on (λ e.
+            then_told _ (result_told (read l) (λ f e. stopped_by (kind_by All_Lines) f (front ++ l ∷ []) (one.stops l f e) (passed_more l f first))) (λ v v_is.
+            let known = one.is_read l v v_is in
+            then_told {P = λ vs. (nat_le limit (length p.values) ≡ false) × (vs ≡ p.values ++ v ∷ [])} _
+            (test_told (nat_le limit (length p.values)) _ _ (λ full. refuses (TooMany limit) refl (too_many l v (TooMany limit) first known refl)) (λ room. gives _ refl (room, refl)))
+            (λ vs found. gives (lines_place vs p.rest p.more) refl (rw found.1 (let room = found.0 in with_line v l first (grind (arith, nat_tests, room)) known)))))
+            (λ other.
+            then_told _ (result_told (steps.next p.rest l) (λ f e.
             stopped_with rest All_Lines f (here.behind ++ l ∷ []) (front ++ l ∷ []) (λ within begins. subst (Begins (kind_by All_Lines) within) (sym (front_behind l)) (begins_lines within (here.behind ++ l ∷ []) begins))
-            (more.stops p.rest here.behind l f here.is_open e)) (λ r r_is none. absurd (cc)))
+            (more.stops p.rest here.behind l f here.is_open e)))
+            (λ r r_is. gives (lines_place p.values r false) refl (record {
+              ts = here.ts;
+              lines = here.lines;
+              behind = here.behind ++ l ∷ [];
+              are = front_behind l;
+              is_open = more.goes p.rest r here.behind l here.is_open r_is;
+              first = λ e. absurd (cc);
+            })))
 
       lines_behind : (vs : List V) (r : B) (ls : List Line) → read_from Steps (lines_place vs r false) ls ≡ (read_from steps r ls >>= λ w. Ok (vs, w))
       lines_behind vs r [] = asked-map (λ w. (vs, w)) (steps.finish r)
@@ -514,10 +498,10 @@ module _ {Bound : Type 0} (flaw_of : Bound → Flaw) (bounds : List Bound) where
         };
         IsOpen = IsAmong;
         starts = record { ts = []; lines = record { each = All-nil line.IsLine; keep = λ b. All-nil (line.Keeps b); few = omega arith; say = tt }; behind = []; are = refl; is_open = more.starts; first = λ _. (refl, refl) };
-        goes = λ b c front l here. lines_go b front here c l;
+        goes = λ b c front l here. told_given (lines_told b front here l) c;
         goes_on = lines_go_on;
         ends = λ b front v here. lines_end b front here v;
-        stops = λ b front l f here. lines_stop b front here l f;
+        stops = λ b front l f here. told_refused (lines_told b front here l) f;
         reads = λ K t is keeps.
             meets-weaker (lines_meet K [] t.0 t.1 is.0 is.1 (λ b kept. (keeps b kept).0) (λ b kept. (keeps b kept).2) (λ kept. omega (arith, (keeps count kept).1 refl)))
             (λ v _ known. subst (λ u. AllZip line.Says t.0 u.0 × rest.Says t.1 u.1) (sym known.is) (known.each, known.says));

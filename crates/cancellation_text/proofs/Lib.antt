@@ -2,11 +2,8 @@ mod Lines
 mod Letters
 mod Parts
 mod NextLines
-mod FlawedLines
 mod ItemLines
 pub mod Reader
-pub mod EachText
 pub mod Readable
 mod LinesBack
-mod BlocksBack
-pub mod ReadBack
+pub mod BlocksBack

@@ -1,5 +1,5 @@
 -- The lines of letters that are called monic or epic, and of cancellations: what is read of one, and how one is read.
-use Rattle.std.proofs.Common.{◌≡◌, ℕ, Bool, true, ◌&&◌, List, [], ◌∷◌, Some, None, IsTrue, refl, ap, ap₂, subst, codes}
+use Rattle.std.proofs.Common.{◌≡◌, ℕ, ◌&&◌, List, [], ◌∷◌, Some, None, IsTrue, if◌then◌else◌, refl, ap, ap₂, subst, codes}
 use Rattle.std.specs.Option.{option_map}
 use Rattle.std.proofs.lemmas.Bool.{and_parts}
 use Rattle.std.proofs.lemmas.Option.{option_and_then_some}
@@ -7,7 +7,7 @@ use Rattle.cancel_rules.specs.declared.cancellation.Side.{Side}
 use Rattle.cancel_rules.specs.declared.cancellation.Side.TheVariants.{Left, Right}
 use Rattle.block_text.specs.Letters.{is_number}
 use Rattle.block_text.specs.Lines.{Line, is}
-use Rattle.block_text.specs.Tokens.{one_token, two_tokens}
+use Rattle.block_text.specs.Tokens.{two_tokens}
 use Rattle.block_text.proofs.LineTrees.{is_word}
 use Rattle.block_text.proofs.Results.{by_test, option_map_some, cond_option}
 use Rattle.certificate_text.specs.Lines.{is_value}
@@ -17,32 +17,19 @@ use Rattle.cancellation_text.specs.Reading.{called_side, side_of, called_of, cal
 abbrev Pair : Type 0
 Pair = List ℕ × List ℕ
 
-one_is : (line : Line) (token : List ℕ) → one_token line ≡ Some token → line ≡ token ∷ []
-one_is [] token read = absurd (cc)
-one_is (a ∷ []) token read = let same : a ≡ token = cc in ap (λ t. t ∷ []) same
-one_is (a ∷ b ∷ line) token read = absurd (cc)
-
 two_are : (line : Line) (pair : Pair) → two_tokens line ≡ Some pair → line ≡ pair.0 ∷ pair.1 ∷ []
 two_are [] pair read = absurd (cc)
-two_are (a ∷ line) pair read =
-    option_map_some (λ b. (a, b)) (one_token line) pair read (λ b one same.
-    subst (λ (p : Pair). a ∷ line ≡ p.0 ∷ p.1 ∷ []) same (ap (λ ts. a ∷ ts) (one_is line b one)))
+two_are (a ∷ []) pair read = absurd (cc)
+two_are (a ∷ b ∷ []) pair read = let same : (a, b) ≡ pair = cc in subst (λ (p : Pair). a ∷ b ∷ [] ≡ p.0 ∷ p.1 ∷ []) same refl
+two_are (a ∷ b ∷ c ∷ line) pair read = absurd (cc)
 
--- sides
-called_side_is : (word : List ℕ) (side : Side) → called_side word ≡ Some side → word ≡ called_word side
-called_side_is word side read =
-    by_test (is (codes "monic") word) _ _ (Some side) read
-    (λ there made. let same : Left ≡ side = cc in subst (λ (s : Side). word ≡ called_word s) same (is_word (codes "monic") word there))
-    (λ absent read_on. by_test (is (codes "epic") word) _ _ (Some side) read_on
-    (λ there made. let same : Right ≡ side = cc in subst (λ (s : Side). word ≡ called_word s) same (is_word (codes "epic") word there))
-    (λ none made. absurd (cc)))
-
-side_is : (word : List ℕ) (side : Side) → side_of word ≡ Some side → word ≡ side_word side
-side_is word side read =
-    by_test (is (codes "left") word) _ _ (Some side) read
-    (λ there made. let same : Left ≡ side = cc in subst (λ (s : Side). word ≡ side_word s) same (is_word (codes "left") word there))
-    (λ absent read_on. by_test (is (codes "right") word) _ _ (Some side) read_on
-    (λ there made. let same : Right ≡ side = cc in subst (λ (s : Side). word ≡ side_word s) same (is_word (codes "right") word there))
+-- one of two words, by the side that it stands for
+side_is : (word_of : Side → List ℕ) (word : List ℕ) (side : Side) → (if is (word_of Left) word then Some Left else if is (word_of Right) word then Some Right else None) ≡ Some side → word ≡ word_of side
+side_is word_of word side read =
+    by_test (is (word_of Left) word) _ _ (Some side) read
+    (λ there made. let same : Left ≡ side = cc in subst (λ (s : Side). word ≡ word_of s) same (is_word (word_of Left) word there))
+    (λ absent read_on. by_test (is (word_of Right) word) _ _ (Some side) read_on
+    (λ there made. let same : Right ≡ side = cc in subst (λ (s : Side). word ≡ word_of s) same (is_word (word_of Right) word there))
     (λ none made. absurd (cc)))
 
 -- letters that are called monic or epic
@@ -55,7 +42,7 @@ called_is line c read =
     option_and_then_some called_pair (two_tokens line) c read (λ pair two kept.
     let found = cond_option (is_map_letter pair.1) (option_map (called_of pair.1) (called_side pair.0)) c kept in
     option_map_some (called_of pair.1) (called_side pair.0) c found.1 (λ side word same.
-    let words : pair.0 ∷ pair.1 ∷ [] ≡ called_word side ∷ pair.1 ∷ [] = ap (λ w. w ∷ pair.1 ∷ []) (called_side_is pair.0 side word) in
+    let words : pair.0 ∷ pair.1 ∷ [] ≡ called_word side ∷ pair.1 ∷ [] = ap (λ w. w ∷ pair.1 ∷ []) (side_is called_word pair.0 side word) in
     let line_is : line ≡ called_word side ∷ pair.1 ∷ [] = rw (two_are line pair two) words in
     subst (IsCalled line) same (record { line_is = line_is; letter = found.0 })))
 
@@ -82,7 +69,7 @@ cancel_is n (word ∷ number ∷ letter ∷ tokens) c read =
     option_and_then_some (cancel_pair number letter) (two_tokens tokens) c front.1 (λ pair two kept.
     let found = cond_option (is_number pair.1) (option_map (cancel_by number letter pair.1) (side_of pair.0)) c kept in
     option_map_some (cancel_by number letter pair.1) (side_of pair.0) c found.1 (λ side there same.
-    let behind : tokens ≡ side_word side ∷ pair.1 ∷ [] = rw (two_are tokens pair two) (ap (λ w. w ∷ pair.1 ∷ []) (side_is pair.0 side there)) in
+    let behind : tokens ≡ side_word side ∷ pair.1 ∷ [] = rw (two_are tokens pair two) (ap (λ w. w ∷ pair.1 ∷ []) (side_is side_word pair.0 side there)) in
     subst (IsCancel n (word ∷ number ∷ letter ∷ tokens)) same (record {
       line_is = ap₂ (λ w ts. w ∷ number ∷ letter ∷ ts) (is_word (codes "cancel") word words.0) behind;
       is_item = (parts.0, parts.1, found.0);

@@ -1,5 +1,5 @@
 -- Letters that are called monic or epic, and cancellations, that are written are lines of tokens.
-use Rattle.std.proofs.Common.{◌≡◌, ◌<◌, ◌^◌, ℕ, Bool, true, false, cond, nat_eq, List, [], ◌∷◌, ◌++◌, Some, arith, refl, sym, ap, ◌∙◌, subst, map, codes, IsTrue, length}
+use Rattle.std.proofs.Common.{◌≡◌, ◌<◌, ◌^◌, ℕ, Bool, true, false, cond, nat_eq, List, [], ◌∷◌, ◌++◌, Some, arith, refl, sym, ap, ◌∙◌, codes, IsTrue, length}
 use Rattle.std.specs.Prelude.{decimal}
 use Rattle.std.specs.List.{list_all}
 use Rattle.std.proofs.lemmas.List.{append_assoc, append-nil}
@@ -7,22 +7,22 @@ use Rattle.word_core.specs.declared.letter.Letter.{Letter}
 use Rattle.quiver.specs.Declarations.{Declaration, IsDeclared, letter_name}
 use Rattle.cancel_rules.specs.declared.cancellation.Side.{Side}
 use Rattle.cancel_rules.specs.declared.cancellation.Side.TheVariants.{Left, Right}
-use Rattle.cancel_rules.specs.declared.cancellation.Item.TheVariants as item
-use Rattle.block_text.specs.Back.{IsLineText, is_named}
+use Rattle.block_text.specs.Back.{IsLineText, is_inside, is_named}
 use Rattle.block_text.specs.Letters.{is_name}
-use Rattle.block_text.specs.Tokens.{goes_on, tokens_of}
+use Rattle.block_text.specs.Lines.{Line}
+use Rattle.block_text.specs.Tokens.{is_plain, is_skipped, tokens_of}
 use Rattle.block_text.specs.Written.{letter_text}
 use Rattle.block_text.proofs.ContentBack.{IsTextOf, text_of_tokens}
 use Rattle.block_text.proofs.LetterNames.{IsSpelled, letter_is_spelled}
 use Rattle.block_text.proofs.LettersBack.{not_ended, ended_by, without_last}
 use Rattle.block_text.proofs.NameBytes.{name_text}
 use Rattle.block_text.proofs.NumbersBack.{decimal_text}
-use Rattle.block_text.proofs.TextsBack.{IsWrittenLetter, letter_written, line_text-append, literal, plain_name}
-use Rattle.block_text.proofs.TokensBack.{IsToken, token_read, name_token}
+use Rattle.block_text.proofs.TextsBack.{IsWrittenLetter, letter_written, are_low, line_text-append, literal, plain_name}
+use Rattle.block_text.proofs.TokensBack.{IsToken, token_read, name_token, plain_token}
 use Rattle.cancellation_text.specs.Back.{IsMapLetter}
-use Rattle.cancellation_text.specs.Blocks.{side_word, called_line, cancel_line, is_map_letter, known_letter}
+use Rattle.cancellation_text.specs.Blocks.{called_word, side_word, called_line, cancel_line, is_map_letter, known_letter}
 use Rattle.cancellation_text.specs.Reading.{called_of, cancel_by}
-use Rattle.cancellation_text.specs.Written.{called_text, item_text}
+use Rattle.cancellation_text.specs.Written.{called_text, cancel_text}
 
 -- what is read of a letter of a map that is written
 pub record IsWrittenMap (ds : List Declaration) (a : Letter) : Type 0 where
@@ -45,72 +45,59 @@ map_written ds declared known a of_map =
       known = rw written.read refl;
     }
 
--- one token more
-alone : (token : List ℕ) → IsToken token → tokens_of token ≡ token ∷ []
-alone token is = ap tokens_of (sym (append-nil token)) ∙ token_read token [] is refl
+-- a text of one token
+record IsOne (token : List ℕ) : Type 0 where
+  line : IsLineText token
+  is : IsToken token
 
-blank : IsLineText (codes " ")
-blank = literal (codes " ") refl refl
+word : (text : List ℕ) → are_low text ≡ true → list_all is_inside text ≡ true → list_all is_plain text ≡ true → 0 < length text → IsOne text
+word text low inside plain some = record { line = literal text low inside; is = plain_token text plain some }
 
-pub called_is_text : (ds : List Declaration) (side : Side) (a : Letter) → IsWrittenMap ds a → IsTextOf (called_text ds side a) (called_line (called_of (letter_text ds a.0) side) ∷ [])
-called_is_text ds side a of_map = by_side side
-  where
-    by_side : (side : Side) → IsTextOf (called_text ds side a) (called_line (called_of (letter_text ds a.0) side) ∷ [])
-    by_side Left =
-        text_of_tokens (codes "monic " ++ letter_text ds a.0) (called_line (called_of (letter_text ds a.0) Left)) (line_text-append (codes "monic ") (letter_text ds a.0) (literal (codes "monic ") refl refl) of_map.written.text.line)
-        (ap (λ ts. codes "monic" ∷ ts) (alone (letter_text ds a.0) of_map.written.token)) refl
-    by_side Right =
-        text_of_tokens (codes "epic " ++ letter_text ds a.0) (called_line (called_of (letter_text ds a.0) Right)) (line_text-append (codes "epic ") (letter_text ds a.0) (literal (codes "epic ") refl refl) of_map.written.text.line)
-        (ap (λ ts. codes "epic" ∷ ts) (alone (letter_text ds a.0) of_map.written.token)) refl
+number_is_one : (n : ℕ) → n < 10 ^ 64 → IsOne (decimal n)
+number_is_one n small = let text = decimal_text n small in record { line = (plain_name (decimal n) text).line; is = name_token (decimal n) text }
 
--- cancellations
-side_line : (side : Side) → IsLineText (side_word side)
-side_line Left = literal (codes "left") refl refl
-side_line Right = literal (codes "right") refl refl
+letter_is_one : (ds : List Declaration) (a : Letter) → IsWrittenMap ds a → IsOne (letter_text ds a.0)
+letter_is_one ds a of_map = record { line = of_map.written.text.line; is = of_map.written.token }
 
-side_read : (side : Side) (rest : List ℕ) → tokens_of (side_word side ++ (codes " " ++ rest)) ≡ side_word side ∷ tokens_of rest
-side_read Left rest = refl
-side_read Right rest = refl
+called_is_one : (side : Side) → IsOne (called_word side)
+called_is_one Left = word (codes "monic") refl refl refl (omega arith)
+called_is_one Right = word (codes "epic") refl refl refl (omega arith)
 
-module _ (ds : List Declaration) (number from : ℕ) (a : Letter) (side : Side) (small : number < 10 ^ 64) (below : from < 2 ^ 32) (of_map : IsWrittenMap ds a) where
-  -- the text of a cancellation without its LF, and what follows each part
-  abbrev behind_side : List ℕ
-  behind_side = codes " " ++ decimal from
+side_is_one : (side : Side) → IsOne (side_word side)
+side_is_one Left = word (codes "left") refl refl refl (omega arith)
+side_is_one Right = word (codes "right") refl refl refl (omega arith)
 
-  abbrev behind_letter : List ℕ
-  behind_letter = codes " " ++ (side_word side ++ behind_side)
+-- a text of tokens with a blank between each two
+record AreSpaced (text : List ℕ) (line : Line) : Type 0 where
+  inside : IsLineText text
+  are : tokens_of text ≡ line
 
-  abbrev behind_number : List ℕ
-  behind_number = codes " " ++ (letter_text ds a.0 ++ behind_letter)
+last : (token : List ℕ) → IsOne token → AreSpaced token (token ∷ [])
+last token one = record { inside = one.line; are = ap tokens_of (sym (append-nil token)) ∙ token_read token [] one.is refl }
 
-  abbrev line_text : List ℕ
-  line_text = codes "cancel " ++ (decimal number ++ behind_number)
+before : (token text : List ℕ) (line : Line) → IsOne token → AreSpaced text line → AreSpaced (token ++ (codes " " ++ text)) (token ∷ line)
+before token text line one more = record {
+  inside = line_text-append token (codes " " ++ text) one.line (line_text-append (codes " ") text (literal (codes " ") refl refl) more.inside);
+  are = token_read token (codes " " ++ text) one.is refl ∙ ap (λ ts. token ∷ ts) more.are;
+}
 
-  line_is : item_text ds number (item.Cancel a side from) ≡ line_text ++ 10 ∷ []
-  line_is = simp append_assoc refl
+called_stands : (side : Side) (letter : List ℕ) → is_skipped (called_line (called_of letter side)) ≡ false
+called_stands Left letter = refl
+called_stands Right letter = refl
 
-  from_small : from < 10 ^ 64
-  from_small = omega (arith, below)
+module _ (ds : List Declaration) (a : Letter) (side : Side) (of_map : IsWrittenMap ds a) where
+  abbrev letter : List ℕ
+  letter = letter_text ds a.0
 
-  tokens_are : tokens_of line_text ≡ cancel_line (cancel_by (decimal number) (letter_text ds a.0) (decimal from) side)
-  tokens_are =
-      let last = alone (decimal from) (name_token (decimal from) (decimal_text from from_small)) in
-      let sides = side_read side (decimal from) in
-      let letter = token_read (letter_text ds a.0) behind_letter of_map.written.token refl in
-      let first = token_read (decimal number) behind_number (name_token (decimal number) (decimal_text number small)) refl in
-      ap (λ ts. codes "cancel" ∷ ts) (first
-      ∙ ap (λ ts. decimal number ∷ ts) (letter
-      ∙ ap (λ ts. letter_text ds a.0 ∷ ts) (sides
-      ∙ ap (λ ts. side_word side ∷ ts) last)))
+  pub called_is_text : IsTextOf (called_text ds side a) (called_line (called_of letter side) ∷ [])
+  called_is_text =
+      let spaced = before (called_word side) letter (letter ∷ []) (called_is_one side) (last letter (letter_is_one ds a of_map)) in
+      simp append_assoc (simp append_assoc at (text_of_tokens (called_word side ++ (codes " " ++ letter)) (called_line (called_of letter side)) spaced.inside spaced.are (called_stands side letter)))
 
-  line_inside : IsLineText line_text
-  line_inside =
-      let last = line_text-append (codes " ") (decimal from) blank (plain_name (decimal from) (decimal_text from from_small)).line in
-      let sides = line_text-append (codes " ") (side_word side ++ behind_side) blank (line_text-append (side_word side) behind_side (side_line side) last) in
-      let letter = line_text-append (codes " ") (letter_text ds a.0 ++ behind_letter) blank (line_text-append (letter_text ds a.0) behind_letter of_map.written.text.line sides) in
-      line_text-append (codes "cancel ") (decimal number ++ behind_number) (literal (codes "cancel ") refl refl) (line_text-append (decimal number) behind_number (plain_name (decimal number) (decimal_text number small)).line letter)
-
-  pub cancel_is_text : IsTextOf (item_text ds number (item.Cancel a side from)) (cancel_line (cancel_by (decimal number) (letter_text ds a.0) (decimal from) side) ∷ [])
-  cancel_is_text =
-      subst (λ (text : List ℕ). IsTextOf text (cancel_line (cancel_by (decimal number) (letter_text ds a.0) (decimal from) side) ∷ [])) (sym line_is)
-      (text_of_tokens line_text (cancel_line (cancel_by (decimal number) (letter_text ds a.0) (decimal from) side)) line_inside tokens_are refl)
+  pub cancel_is_text : (number from : ℕ) → number < 10 ^ 64 → from < 2 ^ 32 → IsTextOf (cancel_text ds number a side from) (cancel_line (cancel_by (decimal number) letter (decimal from) side) ∷ [])
+  cancel_is_text number from small below =
+      let item = last (decimal from) (number_is_one from (omega (arith, below))) in
+      let sided = before (side_word side) _ _ (side_is_one side) item in
+      let lettered = before letter _ _ (letter_is_one ds a of_map) sided in
+      let spaced = before (codes "cancel") _ _ (word (codes "cancel") refl refl refl (omega arith)) (before (decimal number) _ _ (number_is_one number small) lettered) in
+      simp append_assoc (simp append_assoc at (text_of_tokens _ (cancel_line (cancel_by (decimal number) letter (decimal from) side)) spaced.inside spaced.are refl))

@@ -1,240 +1,304 @@
--- A line that is read at its place in a block.
-use Rattle.std.proofs.Common.{◌≡◌, ◌<◌, ◌+◌, ℕ, ℤ, false, List, [], ◌∷◌, ◌++◌, Option, Some, None, Ok, IsTrue, arith, refl, sym, ap, ap₂, ◌∙◌, subst, length, nat_le, leb-false, append-nil, codes}
-use Rattle.std.proofs.lemmas.List.Elements.{All-push}
-use Rattle.word_core.specs.declared.letter.Letter.{Letter}
+-- A line at its place in a block: the place after it, or that it does not fit the grammar or is the first that passes a bound.
+use Rattle.std.proofs.Common.{◌≡◌, ◌<◌, ◌⊎◌, ◌+◌, ℕ, ℤ, false, List, [], ◌∷◌, ◌++◌, Option, Some, None, Result, Ok, IsTrue, inl, inr, arith, refl, sym, ap, ap₂, ◌∙◌, subst, length, nat_le, leb-false, append-nil, append_assoc, codes}
+use Rattle.std.specs.List.{All}
+use Rattle.std.proofs.lemmas.List.Elements.{All-nil, All-cons, All-push, All-replicate, All-weaker}
 use Rattle.quiver.specs.Declarations.{Declaration}
 use Rattle.traced_rows.specs.declared.evidence.Lemma.{Lemma}
-use Rattle.cancel_rules.specs.declared.cancellation.Side.TheVariants.{Left, Right}
-use Rattle.cancel_rules.specs.declared.cancellation.Item.{Item}
 use Rattle.cancel_rules.specs.declared.cancellation.Item.TheVariants as item
-use Rattle.block_text.specs.declared.fault.Flaw.TheVariants.{BadLine, UnknownName, NumberTooLarge}
+use Rattle.block_text.specs.declared.fault.Flaw.{Flaw}
+use Rattle.block_text.specs.declared.fault.Flaw.TheVariants.{BadLine, UnknownName, NumberTooLarge, TooMany}
 use Rattle.block_text.specs.Fault.{◌>>=◌, asked}
 use Rattle.block_text.specs.Letters.{is_number, number_within}
-use Rattle.block_text.specs.Lines.{Line, begins, claim_of, claim_line, number_limit, integer_of}
-use Rattle.block_text.proofs.Results.{by_test, bind_ok, asked_ok, else_ok}
-use Rattle.block_text.proofs.SaidLines.{number_said}
+use Rattle.block_text.specs.Lines.{Line, said, begins, claim_line, number_behind, number_limit, integer_limit, integer_of}
+use Rattle.block_text.proofs.Owed.{IsStopped, misfit, passes, stopped_by}
+use Rattle.block_text.proofs.SaidLines.{IsNumberLine, number_said, number_unsaid}
 use Rattle.block_text.proofs.Zips.{zip_length}
-use Rattle.certificate_text.specs.Lines.{row_limit, denominator_of, lemma_scale_of, goal_scale_of, is_value}
-use Rattle.certificate_text.specs.Blocks.{row_line, denominator_line}
-use Rattle.certificate_text.specs.Reading.{lemma_of, lemma_row}
-use Rattle.certificate_text.proofs.OpenBlocks.{Lead, lead_lines}
-use Rattle.certificate_text.proofs.NextLines.{behind, integer_in, goal_read, lemma_read, lead_push, row_more, led_more, led_first}
 use Rattle.certificate_text.specs.declared.place.Size.{Size}
-use Rattle.certificate_text.proofs.RowTrees.{HaveSize, no_rows_size, integer_is_within}
+use Rattle.certificate_text.specs.Lines.{RowTokens, row_limit, lemma_scale_of, goal_scale_of, is_row, is_value}
+use Rattle.certificate_text.specs.Blocks.{ScaledTokens, row_line, denominator_line, goal_lines}
+use Rattle.certificate_text.specs.Bounds.{IsWithin}
+use Rattle.certificate_text.specs.Reading.{lemma_of, lemma_row}
+use Rattle.certificate_text.proofs.FlawedLines.{RowPasses, row_passes, goal_unread, IsLemmaPast, lemma_unread}
+use Rattle.certificate_text.proofs.NextLines.{behind, integer_in, goal_read, lemma_read, lead_push, scaled_push, scaled_more, row_more, led_more, led_first}
+use Rattle.certificate_text.proofs.OpenBlocks.{Lead, lead_lines, unit_goal, unit_scaled}
+use Rattle.certificate_text.proofs.RowTrees.{before, RowsWithin, HaveSize, no_rows_size, integer_is_within}
 use Rattle.cancellation_text.specs.declared.place.Opened.{Opened}
 use Rattle.cancellation_text.specs.declared.place.Stage.{Stage}
 use Rattle.cancellation_text.specs.declared.place.Stage.TheVariants as at
-use Rattle.cancellation_text.specs.Blocks.{CalledTokens, CancelTokens, ItemTokens, cancel, head_line, called_line, cancel_line, is_map_letter, known_letter, IsItem}
-use Rattle.cancellation_text.specs.Bounds.{Bound, names, numbers, words, rows, letters, IsKnown, IsItemOf, IsCancelOf}
-use Rattle.cancellation_text.specs.Reading.{called_tokens, cancel_tokens, cancel_of, is_called, one_more, letters_on, with_letters, called, begun, with_item, resized, lemma_begun, cancelled, item_or_goal, calling, next}
-use Rattle.cancellation_text.proofs.Letters.{AreCalled, called_more, once_more}
+use Rattle.cancellation_text.specs.Blocks.{CalledTokens, CancelTokens, ItemTokens, cancel, CancellationTokens, head_line, called_line, item_lines, cancellation_lines, is_map_letter, known_letter, IsItem, IsCancellationBlock}
+use Rattle.cancellation_text.specs.Bounds.{Bound, names, numbers, words, rows, flaw_of, item_rows, KeepsOne, IsKnown, HasItemName, HasItemNumber, IsItemOf, IsCancelOf}
+use Rattle.cancellation_text.specs.Cancellations.{cancellation_kind}
+use Rattle.cancellation_text.specs.Reading.{called_tokens, cancel_tokens, is_called, letters_on, with_letters, called, begun, with_item, resized, lemma_begun, goal_begun, cancelled, item_or_goal, calling, next}
+use Rattle.cancellation_text.proofs.Letters.{AreApart, none_once, called_more, called_unknown, once_more}
 use Rattle.cancellation_text.proofs.Lines.{called_is, cancel_is}
+use Rattle.block_lines.proofs.Outcomes.{Told, gives, refuses, then_told, result_told, asked_told, test_told}
 use Rattle.cancellation_text.proofs.Parts as parts
-use Rattle.cancellation_text.proofs.Parts.{Parts, parts_front, more_item, lemma_item, front-item, front-called, rows_of, rows-item, PartsKeep, ItemKeeps, HasLeadRoom, IsNext, parts-resized, parts-more, IsClaimed, IsOpenedBy, IsCalling, IsInside, IsOpen, bare_is, scale_keeps, lemma_keeps, room_of, begun_keeps}
+use Rattle.cancellation_text.proofs.Parts.{Parts, parts_front, with_goal, more_item, lines_of_parts, front-item, front-called, rows_of, rows-item, begun_parts, lemma_item, led, led_behind, led_lines, IsNext, HasRoom, item_is, item_keeps, parts-more, led_is, led_keeps, IsClaimed, IsOpenedBy, IsCalling, IsInside, IsOpen}
 
--- the head
-pub next_headed : (front : List Line) (line : Line) (n : ℕ) → front ≡ head_line ∷ [] → claim_of line ≡ Ok n → IsClaimed n (front ++ line ∷ [])
-next_headed front line n are read =
-    let known = number_said (codes "claim") (number_within number_limit) line n read in
-    record { claim = known.0.digits; number = known.0.number; value = known.1; are = behind front (head_line ∷ []) line (claim_line known.0.digits) are known.0.is }
+module _ (ds : List Declaration) (front : List Line) (line : Line) where
+  abbrev Stopped : Flaw → Type 0
+  Stopped f = IsStopped (cancellation_kind ds) f (front ++ line ∷ [])
 
-none_called : (ds : List Declaration) (n : ℕ) (d : ℤ) → AreCalled ds [] (begun n d)
-none_called ds n d Left = refl
-none_called ds n d Right = refl
+  -- the place after the line, or its flaw
+  abbrev pub Outcome : Result Stage Flaw → Type 0
+  Outcome = Told (λ t. IsOpen ds t (front ++ line ∷ [])) Stopped
 
-pub next_claimed : (ds : List Declaration) (front : List Line) (line : Line) (n : ℕ) (d : ℤ) → IsClaimed n front → denominator_of line ≡ Ok d → IsCalling ds (begun n d) (front ++ line ∷ [])
-next_claimed ds front line n d claimed read =
-    let known = number_said (codes "denominator") integer_in line d read in
-    let digits : List ℕ = known.0.digits in
-    let value : integer_of digits ≡ Ok d = ap (asked NumberTooLarge) known.1 in
-    record {
-      claim = claimed.claim;
-      denominator = digits;
-      called = [];
-      opened = record {
-        known = record {
-          is = bare_is ds claimed.claim digits claimed.number known.0.number;
-          keep = begun_keeps ds claimed.claim digits (n, claimed.value) (integer_is_within digits d value);
-          values = record { claim = claimed.value; denominator = value; called = none_called ds n d; items = tt };
+  -- a block begins with these lines that keeps the bounds before one
+  stopped : {others : List Line} {last : Line} (bound : Bound) (b : CancellationTokens) (more : List Line) → front ≡ others → line ≡ last → cancellation_lines b ≡ (others ++ last ∷ []) ++ more
+      → IsCancellationBlock ds b → All (λ k. KeepsOne ds k b) (before bound) → Stopped (flaw_of bound)
+  stopped {others} {last} bound b more fronts line_is are is keeps =
+      passes bound refl (record { tree = b; more = more; are = are ∙ ap (λ ls. ls ++ more) (sym (behind front others line last fronts line_is)); is_tree = is; keeps = keeps })
+
+  -- the head
+  number_told : {A : Type 0} (word : List ℕ) (value : List ℕ → Option A) (f : A → Result Stage Flaw) → (IsNumberLine word line → Stopped NumberTooLarge)
+      → ((there : IsNumberLine word line) (x : A) → value there.digits ≡ Some x → Outcome (f x)) → Outcome (said (number_behind word) value NumberTooLarge line >>= f)
+  number_told word value f large more =
+      then_told f
+      (result_told (said (number_behind word) value NumberTooLarge line) (λ e read. stopped_by (cancellation_kind ds) e _ (number_unsaid word value line e read) (λ found. subst Stopped (sym found.0) (large found.1))))
+      (λ x read. let known = number_said word value line x read in more known.0 x known.1)
+
+  -- without letters, items and rows
+  bare_stops : {others : List Line} {last : Line} (claim denominator : List ℕ) (more : List Line) → front ≡ others → line ≡ last
+      → parts_front (parts.calling claim denominator []) ≡ (others ++ last ∷ []) ++ more → IsTrue (is_number claim) → IsTrue (is_number denominator) → Stopped NumberTooLarge
+  bare_stops {others} {last} claim denominator more fronts line_is are n d =
+      stopped numbers (with_goal (parts.calling claim denominator []) unit_goal) (more ++ goal_lines unit_goal) fronts line_is
+      (ap (λ ls. ls ++ goal_lines unit_goal) are ∙ append_assoc (others ++ last ∷ []) more (goal_lines unit_goal))
+      (record { claim = n; denominator = d; called = All-nil _; once = none_once ds; items = tt; goal = unit_scaled })
+      (All-replicate (λ k. KeepsOne ds k (with_goal (parts.calling claim denominator []) unit_goal)) 1 names (record { called = All-nil _; items = All-nil _ }, All-nil _))
+
+  headed : front ≡ head_line ∷ [] → Outcome (next ds at.Headed line)
+  headed are =
+      number_told (codes "claim") (number_within number_limit) _ (λ there. bare_stops there.digits (codes "1") (denominator_line (codes "1") ∷ []) are there.is refl there.number refl)
+      (λ there n n_is. gives (at.Claimed n) refl (record {
+        claim = there.digits;
+        head = record { claim_is = there.number; denominator_is = refl; claim_value = n_is; denominator_value = refl };
+        are = behind front (head_line ∷ []) line (claim_line there.digits) are there.is;
+      }))
+
+  claimed : (n : ℕ) → IsClaimed n front → Outcome (next ds (at.Claimed n) line)
+  claimed n here =
+      number_told (codes "denominator") integer_in _ (λ there. bare_stops here.claim there.digits [] here.are there.is refl here.head.claim_is there.number)
+      (λ there d d_is. gives (at.Called (begun n d)) refl (record {
+        claim = here.claim;
+        denominator = there.digits;
+        called = [];
+        opened = record {
+          known = begun_parts ds here.claim there.digits n d (record { claim_is = here.head.claim_is; denominator_is = there.number; claim_value = here.head.claim_value; denominator_value = ap (asked NumberTooLarge) d_is });
+          have = no_rows_size ds;
+          are = behind front (head_line ∷ claim_line here.claim ∷ []) line (denominator_line there.digits) here.are there.is;
         };
-        have = no_rows_size ds;
-        are = behind front (head_line ∷ claim_line claimed.claim ∷ []) line (denominator_line digits) claimed.are known.0.is;
-      };
+      }))
+
+  -- letters that are called monic or epic
+  letter_told : (o : Opened) (here : IsCalling ds o front) (c : CalledTokens) → called_tokens line ≡ Some c → Outcome (called ds o c)
+  letter_told o here c there =
+      then_told _ (asked_told UnknownName (known_letter ds c.letter) unknown) (λ a known.
+      then_told {P = λ ls. (is_called a (letters_on o c.side) ≡ false) × (ls ≡ letters_on o c.side ++ a ∷ [])} _
+      (test_told (is_called a (letters_on o c.side)) _ _ (λ twice. refuses BadLine refl (misfit refl)) (λ none. gives _ refl (none, refl)))
+      (λ ls found. gives (at.Called (with_letters o c.side ls)) refl (record {
+        claim = here.claim;
+        denominator = here.denominator;
+        called = here.called ++ c ∷ [];
+        opened = record {
+          known = record {
+            head = before_it.head;
+            called = rw found.1 (record {
+              maps = maps;
+              known = All-push (λ (d : CalledTokens). IsKnown ds d.letter) here.called c before_it.called.known (a, known);
+              say = called_more ds here.called o.monic o.epic before_it.called.say c.letter c.side a known;
+              once = once_more o.monic o.epic c.side a found.0 before_it.called.once;
+            });
+            items = before_it.items;
+          };
+          have = here.opened.have;
+          are = lines_are;
+        };
+      })))
+    where
+      before_it : parts.AreParts ds (parts.calling here.claim here.denominator here.called) o
+      before_it = here.opened.known
+
+      maps : All (λ d. IsTrue (is_map_letter d.letter)) (here.called ++ c ∷ [])
+      maps = All-push (λ (d : CalledTokens). IsTrue (is_map_letter d.letter)) here.called c before_it.called.maps (called_is line c there).letter
+
+      lines_are : front ++ line ∷ [] ≡ parts_front (parts.calling here.claim here.denominator (here.called ++ c ∷ []))
+      lines_are =
+          behind front (parts_front (parts.calling here.claim here.denominator here.called)) line (called_line c) here.opened.are (called_is line c there).line_is
+          ∙ sym (front-called here.claim here.denominator here.called c)
+
+      unknown : known_letter ds c.letter ≡ None → Stopped UnknownName
+      unknown none =
+          stopped names (with_goal (parts.calling here.claim here.denominator (here.called ++ c ∷ [])) unit_goal) (goal_lines unit_goal) refl refl
+          (lines_of_parts (parts.calling here.claim here.denominator (here.called ++ c ∷ [])) unit_goal ∙ ap (λ ls. ls ++ goal_lines unit_goal) (sym lines_are))
+          (record {
+            claim = before_it.head.claim_is;
+            denominator = before_it.head.denominator_is;
+            called = maps;
+            once = λ side. subst AreApart (sym (called_unknown ds here.called o.monic o.epic before_it.called.say c.letter c.side none side)) (before_it.called.once side);
+            items = tt;
+            goal = unit_scaled;
+          })
+          (All-nil (λ k. KeepsOne ds k (with_goal (parts.calling here.claim here.denominator (here.called ++ c ∷ [])) unit_goal)))
+
+  -- items and the goal
+  module _ (p : Parts) (o : Opened) (opened : IsOpenedBy ds p o front) where
+    -- as many items as their tokens
+    count : length p.items ≡ length o.items
+    count = zip_length (IsItemOf ds) p.items o.items opened.known.items.say
+
+    rows_with_none : (bound : Bound) → RowsWithin ds (rows_of p.items ++ []) bound
+    rows_with_none bound = subst (λ rs. RowsWithin ds rs bound) (sym (append-nil (rows_of p.items))) (opened.have.keep bound)
+
+    abbrev without_rows : List ℕ → ScaledTokens
+    without_rows digits = record { scale = digits; rows = [] }
+
+    -- the first line of a lemma or of the goal
+    lead_goes : (lead : Lead) (digits : List ℕ) (scale : ℤ) → IsNext lead p → HasRoom lead p → IsTrue (is_number digits) → integer_of digits ≡ Ok scale
+        → line ∷ [] ≡ lead_lines lead (without_rows digits) → IsInside ds o (lemma_of scale []) lead (front ++ line ∷ [])
+    lead_goes lead digits scale next room number value line_is = record {
+      parts = p;
+      known = opened.known;
+      next = next;
+      room = room;
+      so_far = led_first ds o.size digits scale (rows_of p.items) number value opened.have;
+      are = ap₂ (λ (ls ms : List Line). ls ++ ms) opened.are line_is;
     }
 
--- letters that are called monic or epic
-called_keeps : (ds : List Declaration) (claim denominator : List ℕ) (before : List CalledTokens) (c : CalledTokens) → IsKnown ds c.letter → (bound : Bound) → PartsKeep ds (parts.calling claim denominator before) bound
-    → PartsKeep ds (parts.calling claim denominator (before ++ c ∷ [])) bound
-called_keeps ds claim denominator before c known names keep = (All-push (λ (d : CalledTokens). IsKnown ds d.letter) before c keep.0 known, keep.1)
-called_keeps ds claim denominator before c known numbers keep = keep
-called_keeps ds claim denominator before c known words keep = tt
-called_keeps ds claim denominator before c known rows keep = keep
-called_keeps ds claim denominator before c known letters keep = tt
+    goal_told : Outcome (goal_begun o line)
+    goal_told =
+        then_told _ (result_told (goal_scale_of line) (λ f read. stopped_by (cancellation_kind ds) f _ (goal_unread line f read) (λ found. subst Stopped (sym found.large)
+        (stopped numbers (with_goal p (without_rows found.digits)) [] opened.are found.line_is (led_lines p None (without_rows found.digits))
+        (led_is opened.known None (without_rows found.digits) tt (record { scale = found.number; rows = All-nil _ }))
+        (All-replicate (λ k. KeepsOne ds k (with_goal p (without_rows found.digits))) 1 names (led_keeps opened.known None (without_rows found.digits) names (λ s. absurd (cc)) (λ s. tt) (rows_with_none names)))))))
+        (λ scale read. let known = goal_read line scale read in gives (at.Goal o (lemma_of scale [])) refl (lead_goes None known.0 scale tt tt known.2 known.3 (ap (λ l. l ∷ []) known.1)))
 
--- a letter that was read
-pub record IsNew (ds : List Declaration) (o : Opened) (c : CalledTokens) (t : Stage) : Type 0 where
-  pub letter : Letter
-  pub known : known_letter ds c.letter ≡ Some letter
-  pub none : is_called letter (letters_on o c.side) ≡ false
-  pub is : at.Called (with_letters o c.side (letters_on o c.side ++ letter ∷ [])) ≡ t
+    -- an item of one line
+    module _ (i : ItemTokens) (last : Line) (line_of : line ≡ last) (lines : item_lines i ≡ last ∷ []) (none : item_rows i ≡ []) (is : IsItem (length o.items + 1) i) where
+      is_next : IsItem (length p.items + 1) i
+      is_next = subst (λ n. IsItem (n + 1) i) (sym count) is
 
-is_new : (ds : List Declaration) (o : Opened) (c : CalledTokens) (t : Stage) → called ds o c ≡ Ok t → IsNew ds o c t
-is_new ds o c t read =
-    bind_ok (asked UnknownName (known_letter ds c.letter)) _ t read (λ a asked_a read_more.
-    bind_ok (one_more (letters_on o c.side) a) _ t read_more (λ more more_is made.
-    else_ok (is_called a (letters_on o c.side)) BadLine _ more more_is (λ none pushed.
-    let same : letters_on o c.side ++ a ∷ [] ≡ more = cc in
-    record { letter = a; known = asked_ok UnknownName (known_letter ds c.letter) a asked_a; none = none; is = ap (λ ls. at.Called (with_letters o c.side ls)) same ∙ (cc) })))
+      abbrev Kept : Bound → Type 0
+      Kept bound = KeepsOne ds bound (with_goal (more_item p i) unit_goal)
 
-pub next_called : (ds : List Declaration) (o : Opened) (front : List Line) (line : Line) (c : CalledTokens) (t : Stage) → IsCalling ds o front → called_tokens line ≡ Some c → called ds o c ≡ Ok t
-    → IsOpen ds t (front ++ line ∷ [])
-next_called ds o front line c t here there read =
-    let found = is_new ds o c t read in
-    let line_of = called_is line c there in
-    let known = here.opened.known in
-    subst (λ (s : Stage). IsOpen ds s (front ++ line ∷ [])) found.is (record {
-      claim = here.claim;
-      denominator = here.denominator;
-      called = here.called ++ c ∷ [];
-      opened = record {
-        known = record {
-          is = record {
-            claim = known.is.claim;
-            denominator = known.is.denominator;
-            called = All-push (λ (d : CalledTokens). IsTrue (is_map_letter d.letter)) here.called c known.is.called line_of.letter;
-            once = once_more ds here.called o c found.letter known.values.called found.known found.none known.is.once;
-            items = known.is.items;
-          };
-          keep = λ bound. called_keeps ds here.claim here.denominator here.called c (found.letter, found.known) bound (known.keep bound);
-          values = record {
-            claim = known.values.claim;
-            denominator = known.values.denominator;
-            called = called_more ds here.called o c found.letter known.values.called found.known;
-            items = known.values.items;
-          };
-        };
-        have = here.opened.have;
-        are =
-            behind front (parts_front (parts.calling here.claim here.denominator here.called)) line (called_line c) here.opened.are line_of.line_is
-            ∙ sym (front-called here.claim here.denominator here.called c);
-      };
-    })
+      front_with : front ++ line ∷ [] ≡ parts_front (more_item p i)
+      front_with = behind front (parts_front p) line last opened.are line_of ∙ ap (λ ls. parts_front p ++ ls) (sym lines) ∙ sym (front-item p i)
 
--- a cancellation that was read
-record IsCancelRead (ds : List Declaration) (before : ℕ) (c : CancelTokens) (i : Item) : Type 0 where
-  says : IsCancelOf ds c i
-  few : before < row_limit
+      item_stops : (bound : Bound) → All Kept (before bound) → Stopped (flaw_of bound)
+      item_stops bound keeps =
+          stopped bound (with_goal (more_item p i) unit_goal) (goal_lines unit_goal) refl refl (lines_of_parts (more_item p i) unit_goal ∙ ap (λ ls. ls ++ goal_lines unit_goal) (sym front_with)) (item_is opened.known i is_next) keeps
 
-is_cancel : (ds : List Declaration) (before : ℕ) (c : CancelTokens) (i : Item) → cancel_of ds before c ≡ Ok i → IsCancelRead ds before c i
-is_cancel ds before c i read =
-    bind_ok (asked UnknownName (known_letter ds c.letter)) _ i read (λ a a_is read_number.
-    bind_ok (asked NumberTooLarge (number_within number_limit c.item)) _ i read_number (λ n n_is read_room.
-    else_ok (nat_le row_limit before) _ _ i read_room (λ few made.
-    record {
-      says = record {
-        letter = a;
-        number = n;
-        letter_is = asked_ok UnknownName (known_letter ds c.letter) a a_is;
-        number_is = asked_ok NumberTooLarge (number_within number_limit c.item) n n_is;
-        is = cc;
-      };
-      few = leb-false row_limit before few;
-    })))
+      kept : (bound : Bound) → (bound ≡ names → HasItemName ds i) → (bound ≡ numbers → HasItemNumber i) → (bound ≡ rows → length p.items < row_limit) → Kept bound
+      kept bound named numbered room = item_keeps opened.known i bound named numbered room (subst (λ rs. RowsWithin ds (rows_of p.items ++ rs) bound) (sym none) (rows_with_none bound))
 
-pub cancel_keeps : (ds : List Declaration) (c : CancelTokens) (i : Item) → IsCancelOf ds c i → (bound : Bound) → ItemKeeps ds (cancel c) bound
-cancel_keeps ds c i says names = (says.letter, says.letter_is)
-cancel_keeps ds c i says numbers = (says.number, says.number_is)
-cancel_keeps ds c i says words = tt
-cancel_keeps ds c i says rows = tt
-cancel_keeps ds c i says letters = tt
+      unnumbered : HasItemName ds i → Stopped NumberTooLarge
+      unnumbered name = item_stops numbers (All-replicate Kept 1 names (kept names (λ s. name) (λ s. absurd (cc)) (λ s. absurd (cc))))
 
-module _ (ds : List Declaration) (p : Parts) (o : Opened) (front : List Line) (line : Line) (t : Stage) (opened : IsOpenedBy ds p o front) where
-  abbrev OpenNext : Type 0
-  OpenNext = IsOpen ds t (front ++ line ∷ [])
+      crowded : HasItemName ds i → HasItemNumber i → Stopped (TooMany row_limit)
+      crowded name number = item_stops rows (All-cons Kept names (numbers ∷ words ∷ []) (each names (λ s. cc)) (All-cons Kept numbers (words ∷ []) (each numbers (λ s. cc)) (All-replicate Kept 1 words (each words (λ s. cc)))))
+        where
+          each : (bound : Bound) → (bound ≡ rows → ⊥) → Kept bound
+          each bound other = kept bound (λ s. name) (λ s. number) (λ s. absurd (other s))
 
-  -- as many items as their tokens
-  count : length p.items ≡ length o.items
-  count = zip_length (IsItemOf ds) p.items o.items opened.known.values.items
+    lemma_past : (f : Flaw) → IsLemmaPast (length o.items) line f → Stopped f
+    lemma_past f found = by_past found.past
+      where
+        i : ItemTokens
+        i = lemma_item found.number (without_rows found.digits)
 
-  -- the first line of a lemma or of the goal
-  next_lead : (lead : Lead) (digits : List ℕ) (scale : ℤ) → IsNext lead p → ((bound : Bound) → HasLeadRoom lead p bound) → IsTrue (is_number digits) → integer_of digits ≡ Ok scale
-      → line ∷ [] ≡ lead_lines lead (record { scale = digits; rows = [] }) → IsInside ds o (lemma_of scale []) lead (front ++ line ∷ [])
-  next_lead lead digits scale next room number value line_is = record {
-    parts = p;
-    known = opened.known;
-    next = next;
-    room = room;
-    so_far = led_first ds o.size digits scale (rows_of p.items) number value opened.have;
-    are = ap₂ (λ (ls ms : List Line). ls ++ ms) opened.are line_is;
-  }
+        is : IsItem (length o.items + 1) i
+        is = (found.next, record { scale = found.scale; rows = All-nil _ })
 
-  goal_next : (scale : ℤ) → goal_scale_of line ≡ Ok scale → at.Goal o (lemma_of scale []) ≡ t → OpenNext
-  goal_next scale read made =
-      let known = goal_read line scale read in
-      subst (λ (s : Stage). IsOpen ds s (front ++ line ∷ [])) made (next_lead None known.0 scale tt (λ bound. tt) known.2 known.3 (ap (λ l. l ∷ []) known.1))
+        by_past : (f ≡ NumberTooLarge) ⊎ ((f ≡ TooMany row_limit) × IsWithin integer_limit found.digits) → Stopped f
+        by_past (inl large) = subst Stopped (sym large) (unnumbered i _ found.line_is refl refl is tt)
+        by_past (inr many) = subst Stopped (sym many.0) (crowded i _ found.line_is refl refl is tt many.1)
 
-  lemma_next : lemma_begun o line ≡ Ok t → OpenNext
-  lemma_next read =
-      bind_ok (lemma_scale_of (length o.items) line) _ t read (λ scale scale_is made.
-      let known = lemma_read (length o.items) line scale scale_is in
-      let same : at.Lemma o (lemma_of scale []) ≡ t = cc in
-      let few : length p.items < row_limit = omega (arith, count, known.few) in
-      subst (λ (s : Stage). IsOpen ds s (front ++ line ∷ [])) same (
-        known.number,
-        next_lead (Some known.number) known.digits scale (subst (λ n. IsTrue (is_value (n + 1) known.number)) (sym count) known.next) (room_of p few) known.scale_number known.scale_value (ap (λ l. l ∷ []) known.line_is),
-      ))
+    lemma_told : Outcome (lemma_begun o line)
+    lemma_told =
+        then_told _ (result_told (lemma_scale_of (length o.items) line) (λ f read. stopped_by (cancellation_kind ds) f _ (lemma_unread (length o.items) line f read) (lemma_past f))) (λ scale read.
+        let known = lemma_read (length o.items) line scale read in
+        gives (at.Lemma o (lemma_of scale [])) refl (
+          known.number,
+          lead_goes (Some known.number) known.digits scale (subst (λ n. IsTrue (is_value (n + 1) known.number)) (sym count) known.next) (omega (arith, count, known.few)) known.scale_number known.scale_value (ap (λ l. l ∷ []) known.line_is),
+        ))
 
-  cancel_next : (c : CancelTokens) → cancel_tokens (length o.items + 1) line ≡ Some c → (cancel_of ds (length o.items) c >>= λ i. Ok (at.Cancelled (with_item o i))) ≡ Ok t → OpenNext
-  cancel_next c there read =
-      let line_of = cancel_is (length o.items + 1) line c there in
-      bind_ok (cancel_of ds (length o.items) c) _ t read (λ i i_is made.
-      let cancels = is_cancel ds (length o.items) c i i_is in
-      let same : at.Cancelled (with_item o i) ≡ t = cc in
-      let few : length p.items < row_limit = omega (arith, count, cancels.few) in
-      subst (λ (s : Stage). IsOpen ds s (front ++ line ∷ [])) same (
-        more_item p (cancel c),
+    item_told : (found : Option CancelTokens) → cancel_tokens (length o.items + 1) line ≡ found → Outcome (cancelled ds o line found)
+    item_told None there = lemma_told
+    item_told (Some c) there =
+        let line_of = cancel_is (length o.items + 1) line c there in
+        then_told {P = λ i. IsCancelOf ds c i × (length o.items < row_limit)} _
+        (then_told _ (asked_told UnknownName (known_letter ds c.letter) (λ none. item_stops (cancel c) _ line_of.line_is refl refl line_of.is_item names (All-nil _))) (λ a known.
+        then_told _ (asked_told NumberTooLarge (number_within number_limit c.item) (λ none. unnumbered (cancel c) _ line_of.line_is refl refl line_of.is_item (a, known))) (λ n value.
+        test_told (nat_le row_limit (length o.items)) _ _ (λ full. refuses (TooMany row_limit) refl (crowded (cancel c) _ line_of.line_is refl refl line_of.is_item (a, known) (n, value)))
+        (λ room. gives (item.Cancel a c.side n) refl (record { letter = a; number = n; letter_is = known; number_is = value; is = refl }, leb-false row_limit (length o.items) room)))))
+        (λ i found. gives (at.Cancelled (with_item o i)) refl (
+          more_item p (cancel c),
+          record {
+            known = parts-more opened.known (cancel c) i (is_next (cancel c) _ line_of.line_is refl refl line_of.is_item) (omega (arith, count, found.1)) found.0;
+            have = subst (HaveSize ds o.size) (sym (append-nil (rows_of p.items)) ∙ sym (rows-item p.items (cancel c))) opened.have;
+            are = front_with (cancel c) _ line_of.line_is refl refl line_of.is_item;
+          },
+        ))
+
+    items_told : Outcome (item_or_goal ds o line)
+    items_told = test_told (begins (codes "goal") line) _ _ (λ is. goal_told) (λ more. item_told (cancel_tokens (length o.items + 1) line) refl)
+
+  calling_told : (o : Opened) → IsCalling ds o front → (found : Option CalledTokens) → called_tokens line ≡ found → Outcome (calling ds o line found)
+  calling_told o here (Some c) there = letter_told o here c there
+  calling_told o here None there = items_told (parts.calling here.claim here.denominator here.called) o here.opened
+
+  -- rows
+  module _ (o : Opened) (l : Lemma) (lead : Lead) (inside : IsInside ds o l lead front) where
+    abbrev rows_before : List RowTokens
+    rows_before = rows_of inside.parts.items
+
+    abbrev tokens : ScaledTokens
+    tokens = inside.so_far.tokens
+
+    row_stops : (f : Flaw) → RowPasses ds (rows_before ++ tokens.rows) line f → Stopped f
+    row_stops f found =
+        let more : ScaledTokens = scaled_push tokens found.row in
+        subst Stopped (sym found.pass.flaw_is)
+        (stopped found.pass.bound (led inside.parts lead more) (led_behind lead) inside.are found.line_is
+        (led_lines inside.parts lead more ∙ ap (λ ls. ls ++ led_behind lead) (sym (lead_push (parts_front inside.parts) lead tokens found.row)))
+        (led_is inside.known lead more inside.next (scaled_more tokens found.row inside.so_far.scaled found.is_row))
+        (All-weaker (RowsWithin ds ((rows_before ++ tokens.rows) ++ found.row ∷ [])) (λ k. KeepsOne ds k (led inside.parts lead more))
+        (λ k all. led_keeps inside.known lead more k (λ _. integer_is_within tokens.scale l.scale inside.so_far.values.scale) (λ _. inside.room) (subst (λ rs. RowsWithin ds rs k) (append_assoc rows_before tokens.rows (found.row ∷ [])) all))
+        (before found.pass.bound) found.pass.keep))
+
+    row_goes : (more : Size × Lemma) → lemma_row ds o.size l line ≡ Ok more → IsInside ds (resized o more.0) more.1 lead (front ++ line ∷ [])
+    row_goes more read =
+        let found = row_more ds o.size l tokens rows_before line more inside.so_far.scaled inside.so_far.values inside.so_far.have read in
         record {
-          known = parts-more ds p o (cancel c) i opened.known (subst (λ n. IsItem (n + 1) (cancel c)) (sym count) line_of.is_item) (cancel_keeps ds c i cancels.says) few cancels.says;
-          have = subst (HaveSize ds o.size) (sym (append-nil (rows_of p.items)) ∙ sym (rows-item p.items (cancel c))) opened.have;
-          are = behind front (parts_front p) line (cancel_line c) opened.are line_of.line_is ∙ sym (front-item p (cancel c));
-        },
-      ))
+          parts = inside.parts;
+          known = record { head = inside.known.head; called = inside.known.called; items = inside.known.items };
+          next = inside.next;
+          room = inside.room;
+          so_far = led_more ds tokens rows_before line more found;
+          are = behind front (parts_front inside.parts ++ lead_lines lead tokens) line (row_line found.row) inside.are found.line_is ∙ lead_push (parts_front inside.parts) lead tokens found.row;
+        }
 
-  cancelled_next : (found : Option CancelTokens) → cancel_tokens (length o.items + 1) line ≡ found → cancelled ds o line found ≡ Ok t → OpenNext
-  cancelled_next (Some c) there read = cancel_next c there read
-  cancelled_next None there read = lemma_next read
-
-  pub item_next : item_or_goal ds o line ≡ Ok t → OpenNext
-  item_next read =
-      by_test (begins (codes "goal") line) _ _ (Ok t) read
-      (λ is read_goal. bind_ok (goal_scale_of line) _ t read_goal (λ scale scale_is made. goal_next scale scale_is (cc)))
-      (λ more read_item. cancelled_next _ refl read_item)
-
--- rows
-module _ (ds : List Declaration) where
-  pub next_row : (o : Opened) (l : Lemma) (lead : Lead) (front : List Line) (line : Line) (next : Size × Lemma) → IsInside ds o l lead front → lemma_row ds o.size l line ≡ Ok next
-      → IsInside ds (resized o next.0) next.1 lead (front ++ line ∷ [])
-  next_row o l lead front line next inside read =
-      let more = row_more ds o.size l inside.so_far.tokens (rows_of inside.parts.items) line next inside.so_far.scaled inside.so_far.values inside.so_far.have read in
-      record {
-        parts = inside.parts;
-        known = parts-resized ds inside.parts o next.0 inside.known;
-        next = inside.next;
-        room = inside.room;
-        so_far = led_more ds inside.so_far.tokens (rows_of inside.parts.items) line next more;
-        are =
-            behind front (parts_front inside.parts ++ lead_lines lead inside.so_far.tokens) line (row_line more.row) inside.are more.line_is
-            ∙ lead_push (parts_front inside.parts) lead inside.so_far.tokens more.row;
-      }
+    row_told : (place : Size × Lemma → Stage) → ((more : Size × Lemma) → IsInside ds (resized o more.0) more.1 lead (front ++ line ∷ []) → IsOpen ds (place more) (front ++ line ∷ []))
+        → Outcome (lemma_row ds o.size l line >>= λ more. Ok (place more))
+    row_told place put =
+        then_told _ (result_told (lemma_row ds o.size l line) (λ f read. stopped_by (cancellation_kind ds) f _ (row_passes ds o.size l (rows_before ++ tokens.rows) line f inside.so_far.have read) (row_stops f)))
+        (λ more read. gives (place more) refl (put more (row_goes more read)))
 
   -- after the last row of a lemma
-  pub lemma_finished : (o : Opened) (l : Lemma) (number : List ℕ) (front : List Line) (inside : IsInside ds o l (Some number) front)
-      → IsOpenedBy ds (more_item inside.parts (lemma_item number inside.so_far.tokens)) (with_item o (item.Lemma l)) front
-  lemma_finished o l number front inside =
+  lemma_whole : (o : Opened) (l : Lemma) (number : List ℕ) (inside : IsInside ds o l (Some number) front) → IsOpenedBy ds (more_item inside.parts (lemma_item number inside.so_far.tokens)) (with_item o (item.Lemma l)) front
+  lemma_whole o l number inside =
       let i : ItemTokens = lemma_item number inside.so_far.tokens in
       record {
-        known = parts-more ds inside.parts o i (item.Lemma l) inside.known (inside.next, inside.so_far.scaled) (λ bound. lemma_keeps ds number inside.so_far.tokens bound (scale_keeps ds inside.so_far.tokens l inside.so_far.values bound))
-            (inside.room rows) inside.so_far.values;
+        known = parts-more inside.known i (item.Lemma l) (inside.next, inside.so_far.scaled) inside.room inside.so_far.values;
         have = subst (HaveSize ds o.size) (sym (rows-item inside.parts.items i)) inside.so_far.have;
         are = inside.are ∙ sym (front-item inside.parts i);
       }
+
+  pub outcome : (s : Stage) → IsOpen ds s front → Outcome (next ds s line)
+  outcome at.Headed here = headed here
+  outcome (at.Claimed n) here = claimed n here
+  outcome (at.Called o) here = calling_told o here (called_tokens line) refl
+  outcome (at.Lemma o l) here =
+      test_told (begins (codes "row") line) _ _ (λ is. row_told o l (Some here.0) here.1 (λ more. at.Lemma (resized o more.0) more.1) (λ more inside. (here.0, inside)))
+      (λ other. items_told (more_item here.1.parts (lemma_item here.0 here.1.so_far.tokens)) (with_item o (item.Lemma l)) (lemma_whole o l here.0 here.1))
+  outcome (at.Cancelled o) here = items_told here.0 o here.1
+  outcome (at.Goal o goal) here = row_told o goal None here (λ more. at.Goal (resized o more.0) more.1) (λ more inside. inside)

@@ -1,15 +1,17 @@
 -- The first lines of a block, by the place after them, and the blocks that continue them.
-use Rattle.std.proofs.Common.{◌≡◌, ◌<◌, ◌≤◌, ◌+◌, ℕ, List, [], ◌∷◌, ◌++◌, Some, None, Ok, IsTrue, arith, refl, sym, ap, ◌∙◌, subst, length, map, append_assoc, append-nil, length-append, codes}
+use Rattle.std.proofs.Common.{◌≡◌, ◌<◌, ◌≤◌, ◌+◌, ℕ, ℤ, pos, List, [], ◌∷◌, ◌++◌, Some, None, Ok, IsTrue, arith, refl, sym, ap, ◌∙◌, subst, length, map, append_assoc, append-nil, length-append, codes}
 use Rattle.std.specs.Bool.{⊤}
 use Rattle.std.specs.List.{All, AllZip, flat_map}
 use Rattle.std.proofs.lemmas.Grind.{flat_map-append}
 use Rattle.std.proofs.lemmas.List.{map-append}
-use Rattle.std.proofs.lemmas.List.Elements.{All-nil, All-push}
+use Rattle.std.proofs.lemmas.List.Elements.{All-nil, All-cons, All-push}
+use Rattle.word_core.specs.declared.letter.Letter.{Letter}
 use Rattle.quiver.specs.Declarations.{Declaration}
 use Rattle.traced_rows.specs.declared.evidence.Lemma.{Lemma}
 use Rattle.cancel_rules.specs.declared.cancellation.Item.{Item}
 use Rattle.cancel_rules.specs.declared.cancellation.Item.TheVariants as item
-use Rattle.certificate_text.specs.declared.place.Size.{Size}
+use Rattle.cancel_rules.specs.declared.cancellation.Side.{Side}
+use Rattle.cancel_rules.specs.declared.cancellation.Side.TheVariants.{Left, Right}
 use Rattle.block_text.specs.Letters.{is_number, number_within}
 use Rattle.block_text.specs.Lines.{Line, number_limit, integer_limit, integer_of, claim_line}
 use Rattle.block_text.proofs.Owed.{Begins}
@@ -19,15 +21,15 @@ use Rattle.certificate_text.specs.Lines.{RowTokens, row_limit, is_value}
 use Rattle.certificate_text.specs.Blocks.{ScaledTokens, denominator_line, goal_lines, IsScaled}
 use Rattle.certificate_text.specs.Bounds.{IsWithin, IsScaledOf}
 use Rattle.certificate_text.proofs.OpenBlocks.{Lead, IsLed, lemma_tokens, lead_lines, unit_goal, unit_scaled, unit_within}
-use Rattle.certificate_text.proofs.RowTrees.{RowsWithin, HaveSize, no_rows_keep, integer_is_within}
+use Rattle.certificate_text.proofs.RowTrees.{RowsWithin, HaveSize, no_rows_size, integer_is_within}
 use Rattle.cancellation_text.specs.declared.place.Opened.{Opened}
 use Rattle.cancellation_text.specs.declared.place.Stage.{Stage}
 use Rattle.cancellation_text.specs.declared.place.Stage.TheVariants as at
-use Rattle.cancellation_text.specs.Blocks.{CalledTokens, ItemTokens, lemma, CancellationTokens, head_line, called_line, item_lines, cancellation_lines, is_map_letter, AreItems, IsItem, IsCancellationBlock}
-use Rattle.cancellation_text.specs.Bounds.{Bound, names, numbers, words, rows, letters, item_rows, IsKnown, HasItemName, HasItemNumber, KeepsOne, IsItemOf}
+use Rattle.cancellation_text.specs.Blocks.{CalledTokens, ItemTokens, lemma, cancel, CancellationTokens, head_line, called_line, item_lines, cancellation_lines, is_map_letter, AreItems, IsItem, IsCancellationBlock}
+use Rattle.cancellation_text.specs.Bounds.{Bound, names, numbers, rows, bounds, item_rows, IsKnown, HasItemName, HasItemNumber, KeepsOne, IsItemOf, IsCancellationOf}
 use Rattle.cancellation_text.specs.Cancellations.{cancellation_kind}
-use Rattle.cancellation_text.specs.Reading.{with_item, resized}
-use Rattle.cancellation_text.proofs.Letters.{AreCalled, AreOnce}
+use Rattle.cancellation_text.specs.Reading.{begun, with_item, proof_of}
+use Rattle.cancellation_text.proofs.Letters.{letters_by, AreCalled, AreApart, none_called, none_once}
 
 -- what is before the goal
 pub record Parts : Type 0 where
@@ -39,8 +41,11 @@ pub record Parts : Type 0 where
 abbrev pub parts_front : Parts → List Line
 parts_front p = head_line ∷ claim_line p.claim ∷ denominator_line p.denominator ∷ (map called_line p.called ++ flat_map item_lines p.items)
 
+abbrev block_of : Parts → List ItemTokens → ScaledTokens → CancellationTokens
+block_of p items goal = record { claim = p.claim; denominator = p.denominator; called = p.called; items = items; goal = goal }
+
 abbrev pub with_goal : Parts → ScaledTokens → CancellationTokens
-with_goal p goal = record { claim = p.claim; denominator = p.denominator; called = p.called; items = p.items; goal = goal }
+with_goal p goal = block_of p p.items goal
 
 abbrev pub rows_of : List ItemTokens → List RowTokens
 rows_of items = flat_map item_rows items
@@ -52,75 +57,18 @@ calling claim denominator called = record { claim = claim; denominator = denomin
 abbrev pub more_item : Parts → ItemTokens → Parts
 more_item p i = record { claim = p.claim; denominator = p.denominator; called = p.called; items = p.items ++ i ∷ [] }
 
-lines_of_parts : (p : Parts) (goal : ScaledTokens) → cancellation_lines (with_goal p goal) ≡ parts_front p ++ goal_lines goal
-lines_of_parts p goal = ap (λ ls. head_line ∷ claim_line p.claim ∷ denominator_line p.denominator ∷ ls) (sym (append_assoc (map called_line p.called) (flat_map item_lines p.items) (goal_lines goal)))
+pub lines_of_parts : (p : Parts) (goal : ScaledTokens) → cancellation_lines (with_goal p goal) ≡ parts_front p ++ goal_lines goal
+lines_of_parts p goal = simp append_assoc refl
 
 pub front-item : (p : Parts) (i : ItemTokens) → parts_front (more_item p i) ≡ parts_front p ++ item_lines i
-front-item p i =
-    let pushed : flat_map item_lines (p.items ++ i ∷ []) ≡ flat_map item_lines p.items ++ item_lines i =
-    flat_map-append item_lines p.items (i ∷ []) ∙ ap (λ ls. flat_map item_lines p.items ++ ls) (append-nil (item_lines i)) in
-    ap (λ ls. head_line ∷ claim_line p.claim ∷ denominator_line p.denominator ∷ ls)
-    (ap (λ ls. map called_line p.called ++ ls) pushed ∙ sym (append_assoc (map called_line p.called) (flat_map item_lines p.items) (item_lines i)))
+front-item p i = simp (flat_map-append, append_assoc, append-nil) refl
 
 pub front-called : (claim denominator : List ℕ) (called : List CalledTokens) (c : CalledTokens)
     → parts_front (calling claim denominator (called ++ c ∷ [])) ≡ parts_front (calling claim denominator called) ++ called_line c ∷ []
-front-called claim denominator called c =
-    ap (λ ls. head_line ∷ claim_line claim ∷ denominator_line denominator ∷ ls)
-    (append-nil (map called_line (called ++ c ∷ [])) ∙ map-append called_line called (c ∷ []) ∙ ap (λ ls. ls ++ called_line c ∷ []) (sym (append-nil (map called_line called))))
+front-called claim denominator called c = simp (map-append, append_assoc, append-nil) refl
 
 pub rows-item : (items : List ItemTokens) (i : ItemTokens) → rows_of (items ++ i ∷ []) ≡ rows_of items ++ item_rows i
-rows-item items i = flat_map-append item_rows items (i ∷ []) ∙ ap (λ rs. rows_of items ++ rs) (append-nil (item_rows i))
-
--- numbers and letters are at their places, and no letter is called monic or epic twice
-pub record IsParts (ds : List Declaration) (p : Parts) : Type 0 where
-  pub claim : IsTrue (is_number p.claim)
-  pub denominator : IsTrue (is_number p.denominator)
-  pub called : All (λ c. IsTrue (is_map_letter c.letter)) p.called
-  pub once : AreOnce ds p.called
-  pub items : AreItems 1 p.items
-
--- they keep the bound, but for the rows
-abbrev pub PartsKeep : List Declaration → Parts → Bound → Type 0
-PartsKeep ds p names = All (λ c. IsKnown ds c.letter) p.called × All (HasItemName ds) p.items
-PartsKeep ds p numbers = IsWithin number_limit p.claim × IsWithin integer_limit p.denominator × All HasItemNumber p.items
-PartsKeep ds p words = ⊤
-PartsKeep ds p rows = length p.items ≤ row_limit
-PartsKeep ds p letters = ⊤
-
-abbrev pub ScaleKeeps : List ℕ → Bound → Type 0
-ScaleKeeps digits numbers = IsWithin integer_limit digits
-ScaleKeeps digits bound = ⊤
-
-abbrev pub ItemKeeps : List Declaration → ItemTokens → Bound → Type 0
-ItemKeeps ds i names = HasItemName ds i
-ItemKeeps ds i numbers = HasItemNumber i
-ItemKeeps ds i bound = ⊤
-
--- there is room for one more item
-abbrev pub HasRoom : Parts → Bound → Type 0
-HasRoom p rows = length p.items < row_limit
-HasRoom p bound = ⊤
-
-pub room_of : (p : Parts) → length p.items < row_limit → (bound : Bound) → HasRoom p bound
-room_of p few names = tt
-room_of p few numbers = tt
-room_of p few words = tt
-room_of p few rows = few
-room_of p few letters = tt
-
-pub keep-item : (ds : List Declaration) (p : Parts) (i : ItemTokens) (bound : Bound) → PartsKeep ds p bound → ItemKeeps ds i bound → HasRoom p bound → PartsKeep ds (more_item p i) bound
-keep-item ds p i names keep one room = (keep.0, All-push (HasItemName ds) p.items i keep.1 one)
-keep-item ds p i numbers keep one room = (keep.0, keep.1, All-push HasItemNumber p.items i keep.2 one)
-keep-item ds p i words keep one room = tt
-keep-item ds p i rows keep one room = omega (arith, room, length-append p.items (i ∷ []))
-keep-item ds p i letters keep one room = tt
-
-keeps_one : (ds : List Declaration) (p : Parts) (goal : ScaledTokens) (bound : Bound) → PartsKeep ds p bound → ScaleKeeps goal.scale bound → RowsWithin ds (rows_of p.items ++ goal.rows) bound → KeepsOne ds bound (with_goal p goal)
-keeps_one ds p goal names keep scale all = (record { called = keep.0; items = keep.1 }, all)
-keeps_one ds p goal numbers keep scale all = (record { claim = keep.0; denominator = keep.1; items = keep.2; goal = scale }, all)
-keeps_one ds p goal words keep scale all = all
-keeps_one ds p goal rows keep scale all = (keep, all)
-keeps_one ds p goal letters keep scale all = all
+rows-item items i = simp (flat_map-append, append-nil) refl
 
 are_items-push : (n m : ℕ) (items : List ItemTokens) (i : ItemTokens) → m ≡ n + length items → AreItems n items → IsItem m i → AreItems n (items ++ i ∷ [])
 are_items-push n m [] i same each next =
@@ -128,17 +76,56 @@ are_items-push n m [] i same each next =
     (subst (λ k. IsItem k i) first next, tt)
 are_items-push n m (j ∷ items) i same each next = (each.0, are_items-push (n + 1) m items i (omega (arith, same)) each.1 next)
 
--- the number of the next item
-abbrev pub next_number : Parts → ℕ
-next_number p = length p.items + 1
+-- what follows of the tokens of items that say their values
+zip_left : {X Y : Type 0} (R : X → Y → Type 0) (P : X → Type 0) → ((x : X) (y : Y) → R x y → P x) → (xs : List X) (ys : List Y) → AllZip R xs ys → All P xs
+zip_left R P each [] ys zipped = All-nil P
+zip_left R P each (x ∷ xs) [] zipped = absurd zipped
+zip_left R P each (x ∷ xs) (y ∷ ys) zipped = All-cons P x xs (each x y zipped.0) (zip_left R P each xs ys zipped.1)
 
-pub parts-item : (ds : List Declaration) (p : Parts) (i : ItemTokens) → IsParts ds p → IsItem (next_number p) i → IsParts ds (more_item p i)
-parts-item ds p i is next = record {
-  claim = is.claim;
-  denominator = is.denominator;
-  called = is.called;
-  once = is.once;
-  items = are_items-push 1 (next_number p) p.items i (omega arith) is.items next;
+item_name : (ds : List Declaration) (i : ItemTokens) (v : Item) → IsItemOf ds i v → HasItemName ds i
+item_name ds (lemma l) v says = tt
+item_name ds (cancel c) v says = (says.letter, says.letter_is)
+
+item_number : (ds : List Declaration) (i : ItemTokens) (v : Item) → IsItemOf ds i v → HasItemNumber i
+item_number ds (lemma l) (item.Lemma v) says = integer_is_within l.scaled.scale v.scale says.scale
+item_number ds (lemma l) (item.Cancel a side n) says = absurd says
+item_number ds (cancel c) v says = (says.number, says.number_is)
+
+-- the claim and the denominator
+pub record IsHead (claim denominator : List ℕ) (n : ℕ) (z : ℤ) : Type 0 where
+  pub claim_is : IsTrue (is_number claim)
+  pub denominator_is : IsTrue (is_number denominator)
+  pub claim_value : number_within number_limit claim ≡ Some n
+  pub denominator_value : integer_of denominator ≡ Ok z
+
+-- the letters that are called monic and epic
+pub record AreLetters (ds : List Declaration) (called : List CalledTokens) (monic epic : List Letter) : Type 0 where
+  pub maps : All (λ c. IsTrue (is_map_letter c.letter)) called
+  pub known : All (λ c. IsKnown ds c.letter) called
+  pub say : AreCalled ds called monic epic
+  pub once : (side : Side) → AreApart (letters_by monic epic side)
+
+-- whole items
+pub record AreWhole (ds : List Declaration) (items : List ItemTokens) (found : List Item) : Type 0 where
+  pub numbered : AreItems 1 items
+  pub few : length items ≤ row_limit
+  pub say : AllZip (IsItemOf ds) items found
+
+-- they fit the grammar, keep all bounds but those on rows, and say this
+pub record AreParts (ds : List Declaration) (p : Parts) (o : Opened) : Type 0 where
+  pub head : IsHead p.claim p.denominator o.claim o.denominator
+  pub called : AreLetters ds p.called o.monic o.epic
+  pub items : AreWhole ds p.items o.items
+
+none_apart : (side : Side) → AreApart (letters_by [] [] side)
+none_apart Left = none_once [] Left
+none_apart Right = none_once [] Right
+
+pub begun_parts : (ds : List Declaration) (claim denominator : List ℕ) (n : ℕ) (z : ℤ) → IsHead claim denominator n z → AreParts ds (calling claim denominator []) (begun n z)
+begun_parts ds claim denominator n z head = record {
+  head = head;
+  called = record { maps = All-nil _; known = All-nil _; say = none_called ds; once = none_apart };
+  items = record { numbered = tt; few = omega arith; say = tt };
 }
 
 -- the lemma with these rows
@@ -149,115 +136,88 @@ abbrev pub led : Parts → Lead → ScaledTokens → CancellationTokens
 led p None s = with_goal p s
 led p (Some number) s = with_goal (more_item p (lemma_item number s)) unit_goal
 
+abbrev pub led_behind : Lead → List Line
+led_behind None = []
+led_behind (Some number) = goal_lines unit_goal
+
+pub led_lines : (p : Parts) (lead : Lead) (s : ScaledTokens) → cancellation_lines (led p lead s) ≡ (parts_front p ++ lead_lines lead s) ++ led_behind lead
+led_lines p None s = lines_of_parts p s ∙ sym (append-nil (parts_front p ++ goal_lines s))
+led_lines p (Some number) s = lines_of_parts (more_item p (lemma_item number s)) unit_goal ∙ ap (λ ls. ls ++ goal_lines unit_goal) (front-item p (lemma_item number s))
+
 -- the number is the next one
 abbrev pub IsNext : Lead → Parts → Type 0
 IsNext None p = ⊤
-IsNext (Some number) p = IsTrue (is_value (next_number p) number)
+IsNext (Some number) p = IsTrue (is_value (length p.items + 1) number)
 
-abbrev pub HasLeadRoom : Lead → Parts → Bound → Type 0
-HasLeadRoom None p bound = ⊤
-HasLeadRoom (Some number) p bound = HasRoom p bound
+-- there is room for one more lemma
+abbrev pub HasRoom : Lead → Parts → Type 0
+HasRoom None p = ⊤
+HasRoom (Some number) p = length p.items < row_limit
 
-unit_scale_keeps : (bound : Bound) → ScaleKeeps unit_goal.scale bound
-unit_scale_keeps names = tt
-unit_scale_keeps numbers = unit_within
-unit_scale_keeps words = tt
-unit_scale_keeps rows = tt
-unit_scale_keeps letters = tt
-
-pub lemma_keeps : (ds : List Declaration) (number : List ℕ) (s : ScaledTokens) (bound : Bound) → ScaleKeeps s.scale bound → ItemKeeps ds (lemma_item number s) bound
-lemma_keeps ds number s names scale = tt
-lemma_keeps ds number s numbers scale = scale
-lemma_keeps ds number s words scale = tt
-lemma_keeps ds number s rows scale = tt
-lemma_keeps ds number s letters scale = tt
-
-module _ (ds : List Declaration) (p : Parts) where
-  -- without rows of a goal
-  pub parts_keep_one : (bound : Bound) → PartsKeep ds p bound → RowsWithin ds (rows_of p.items) bound → KeepsOne ds bound (with_goal p unit_goal)
-  parts_keep_one bound keep all = keeps_one ds p unit_goal bound keep (unit_scale_keeps bound) (subst (λ rs. RowsWithin ds rs bound) (sym (append-nil (rows_of p.items))) all)
-
-  pub begin_parts : (within : List Bound) → IsParts ds p → All (λ bound. KeepsOne ds bound (with_goal p unit_goal)) within → Begins (cancellation_kind ds) within (parts_front p)
-  begin_parts within is keeps = record {
-    tree = with_goal p unit_goal;
-    more = goal_lines unit_goal;
-    are = lines_of_parts p unit_goal;
-    is_tree = record { claim = is.claim; denominator = is.denominator; called = is.called; once = is.once; items = is.items; goal = unit_scaled };
-    keeps = keeps;
+module _ {ds : List Declaration} {p : Parts} {o : Opened} (are : AreParts ds p o) where
+  is_block_with : (items : List ItemTokens) (goal : ScaledTokens) → AreItems 1 items → IsScaled goal → IsCancellationBlock ds (block_of p items goal)
+  is_block_with items goal numbered scaled = record {
+    claim = are.head.claim_is;
+    denominator = are.head.denominator_is;
+    called = are.called.maps;
+    once = λ side. subst AreApart (sym (are.called.say side)) (are.called.once side);
+    items = numbered;
+    goal = scaled;
   }
 
-  pub is_block : (goal : ScaledTokens) → IsParts ds p → IsScaled goal → IsCancellationBlock ds (with_goal p goal)
-  is_block goal is scaled = record { claim = is.claim; denominator = is.denominator; called = is.called; once = is.once; items = is.items; goal = scaled }
+  keeps_with : (items : List ItemTokens) (goal : ScaledTokens) (bound : Bound) → (bound ≡ names → All (HasItemName ds) items) → (bound ≡ numbers → All HasItemNumber items) → (bound ≡ numbers → IsWithin integer_limit goal.scale)
+      → (bound ≡ rows → length items ≤ row_limit) → RowsWithin ds (rows_of items ++ goal.rows) bound → KeepsOne ds bound (block_of p items goal)
+  keeps_with items goal names named numbered scale few all = (record { called = are.called.known; items = named refl }, all)
+  keeps_with items goal numbers named numbered scale few all =
+      (record { claim = (o.claim, are.head.claim_value); denominator = integer_is_within p.denominator o.denominator are.head.denominator_value; items = numbered refl; goal = scale refl }, all)
+  keeps_with items goal rows named numbered scale few all = (few refl, all)
+  keeps_with items goal bound named numbered scale few all = all
 
-  pub goal_front : (goal : ScaledTokens) → parts_front p ++ goal_lines goal ≡ cancellation_lines (with_goal p goal)
-  goal_front goal = sym (lines_of_parts p goal)
+  items_named : All (HasItemName ds) p.items
+  items_named = zip_left (IsItemOf ds) (HasItemName ds) (item_name ds) p.items o.items are.items.say
 
-module _ (ds : List Declaration) (p : Parts) where
-  pub led_keeps : (lead : Lead) (s : ScaledTokens) (bound : Bound) → PartsKeep ds p bound → HasLeadRoom lead p bound → ScaleKeeps s.scale bound → RowsWithin ds (rows_of p.items ++ s.rows) bound → KeepsOne ds bound (led p lead s)
-  led_keeps None s bound keep room scale all = keeps_one ds p s bound keep scale all
-  led_keeps (Some number) s bound keep room scale all =
-      parts_keep_one ds (more_item p (lemma_item number s)) bound (keep-item ds p (lemma_item number s) bound keep (lemma_keeps ds number s bound scale) room)
-      (subst (λ rs. RowsWithin ds rs bound) (sym (rows-item p.items (lemma_item number s))) all)
+  items_numbered : All HasItemNumber p.items
+  items_numbered = zip_left (IsItemOf ds) HasItemNumber (item_number ds) p.items o.items are.items.say
 
-  pub begin_led : (within : List Bound) (lead : Lead) (s : ScaledTokens) → IsParts ds p → IsNext lead p → IsScaled s → All (λ bound. KeepsOne ds bound (led p lead s)) within
-      → Begins (cancellation_kind ds) within (parts_front p ++ lead_lines lead s)
-  begin_led within None s is next scaled keeps = record {
-    tree = with_goal p s;
-    more = [];
-    are = lines_of_parts p s ∙ sym (append-nil (parts_front p ++ goal_lines s));
-    is_tree = is_block ds p s is scaled;
-    keeps = keeps;
+  -- with one more item
+  pub item_is : (i : ItemTokens) → IsItem (length p.items + 1) i → IsCancellationBlock ds (with_goal (more_item p i) unit_goal)
+  item_is i next = is_block_with (p.items ++ i ∷ []) unit_goal (are_items-push 1 (length p.items + 1) p.items i (omega arith) are.items.numbered next) unit_scaled
+
+  pub item_keeps : (i : ItemTokens) (bound : Bound) → (bound ≡ names → HasItemName ds i) → (bound ≡ numbers → HasItemNumber i) → (bound ≡ rows → length p.items < row_limit)
+      → RowsWithin ds (rows_of p.items ++ item_rows i) bound → KeepsOne ds bound (with_goal (more_item p i) unit_goal)
+  item_keeps i bound named numbered room all =
+      keeps_with (p.items ++ i ∷ []) unit_goal bound (λ s. All-push (HasItemName ds) p.items i items_named (named s)) (λ s. All-push HasItemNumber p.items i items_numbered (numbered s)) (λ s. unit_within)
+      (λ s. omega (arith, room s, length-append p.items (i ∷ []))) (subst (λ rs. RowsWithin ds rs bound) (sym (append-nil (rows_of (p.items ++ i ∷ [])) ∙ rows-item p.items i)) all)
+
+  pub parts-more : (i : ItemTokens) (v : Item) → IsItem (length p.items + 1) i → length p.items < row_limit → IsItemOf ds i v → AreParts ds (more_item p i) (with_item o v)
+  parts-more i v next room says = record {
+    head = are.head;
+    called = are.called;
+    items = record {
+      numbered = are_items-push 1 (length p.items + 1) p.items i (omega arith) are.items.numbered next;
+      few = omega (arith, room, length-append p.items (i ∷ []));
+      say = zip_push (IsItemOf ds) p.items o.items i v are.items.say says;
+    };
   }
-  begin_led within (Some number) s is next scaled keeps =
-      subst (Begins (cancellation_kind ds) within) (front-item p (lemma_item number s))
-      (begin_parts ds (more_item p (lemma_item number s)) within (parts-item ds p (lemma_item number s) is (next, scaled)) keeps)
 
--- what the lines say
-pub record IsPartsOf (ds : List Declaration) (p : Parts) (o : Opened) : Type 0 where
-  pub claim : number_within number_limit p.claim ≡ Some o.claim
-  pub denominator : integer_of p.denominator ≡ Ok o.denominator
-  pub called : AreCalled ds p.called o
-  pub items : AllZip (IsItemOf ds) p.items o.items
+  pub parts_say : (goal : ScaledTokens) (l : Lemma) → IsScaledOf ds goal l → IsCancellationOf ds (with_goal p goal) (proof_of o l)
+  parts_say goal l says =
+      record { claim = are.head.claim_value; denominator = are.head.denominator_value; monic = are.called.say Left; epic = are.called.say Right; items = are.items.say; goal = says }
 
--- they fit the grammar, keep all bounds, and say this
-pub record AreParts (ds : List Declaration) (p : Parts) (o : Opened) : Type 0 where
-  pub is : IsParts ds p
-  pub keep : (bound : Bound) → PartsKeep ds p bound
-  pub values : IsPartsOf ds p o
+  -- with a lemma or the goal
+  pub led_is : (lead : Lead) (s : ScaledTokens) → IsNext lead p → IsScaled s → IsCancellationBlock ds (led p lead s)
+  led_is None s next scaled = is_block_with p.items s are.items.numbered scaled
+  led_is (Some number) s next scaled = item_is (lemma_item number s) (next, scaled)
 
--- with another size
-pub parts-resized : (ds : List Declaration) (p : Parts) (o : Opened) (size : Size) → AreParts ds p o → AreParts ds p (resized o size)
-parts-resized ds p o size are = record {
-  is = are.is;
-  keep = are.keep;
-  values = record { claim = are.values.claim; denominator = are.values.denominator; called = called; items = are.values.items };
-}
-  where
-    called : AreCalled ds p.called (resized o size)
-    called side = are.values.called side
-
--- with one more item
-pub parts-more : (ds : List Declaration) (p : Parts) (o : Opened) (i : ItemTokens) (v : Item) → AreParts ds p o → IsItem (next_number p) i → ((bound : Bound) → ItemKeeps ds i bound) → length p.items < row_limit
-    → IsItemOf ds i v → AreParts ds (more_item p i) (with_item o v)
-parts-more ds p o i v are next keeps few says = record {
-  is = parts-item ds p i are.is next;
-  keep = λ bound. keep-item ds p i bound (are.keep bound) (keeps bound) (room_of p few bound);
-  values = record {
-    claim = are.values.claim;
-    denominator = are.values.denominator;
-    called = called;
-    items = zip_push (IsItemOf ds) p.items o.items i v are.values.items says;
-  };
-}
-  where
-    called : AreCalled ds p.called (with_item o v)
-    called side = are.values.called side
+  pub led_keeps : (lead : Lead) (s : ScaledTokens) (bound : Bound) → (bound ≡ numbers → IsWithin integer_limit s.scale) → (bound ≡ rows → HasRoom lead p) → RowsWithin ds (rows_of p.items ++ s.rows) bound
+      → KeepsOne ds bound (led p lead s)
+  led_keeps None s bound scale room all = keeps_with p.items s bound (λ _. items_named) (λ _. items_numbered) scale (λ _. are.items.few) all
+  led_keeps (Some number) s bound scale room all = item_keeps (lemma_item number s) bound (λ _. tt) scale room all
 
 -- after the claim
 pub record IsClaimed (n : ℕ) (front : List Line) : Type 0 where
   pub claim : List ℕ
-  pub number : IsTrue (is_number claim)
-  pub value : number_within number_limit claim ≡ Some n
+  pub head : IsHead claim (codes "1") n (pos 1)
   pub are : front ≡ head_line ∷ claim_line claim ∷ []
 
 -- after whole items
@@ -278,7 +238,7 @@ pub record IsInside (ds : List Declaration) (o : Opened) (l : Lemma) (lead : Lea
   pub parts : Parts
   pub known : AreParts ds parts o
   pub next : IsNext lead parts
-  pub room : (bound : Bound) → HasLeadRoom lead parts bound
+  pub room : HasRoom lead parts
   pub so_far : IsLed ds o.size l (rows_of parts.items)
   pub are : front ≡ parts_front parts ++ lead_lines lead so_far.tokens
 
@@ -291,71 +251,36 @@ IsOpen ds (at.Cancelled o) front = (p : Parts) × IsOpenedBy ds p o front
 IsOpen ds (at.Goal o goal) front = IsInside ds o goal None front
 
 -- and the blocks that continue it
-pub scale_keeps : (ds : List Declaration) (s : ScaledTokens) (l : Lemma) → IsScaledOf ds s l → (bound : Bound) → ScaleKeeps s.scale bound
-scale_keeps ds s l says names = tt
-scale_keeps ds s l says numbers = integer_is_within s.scale l.scale says.scale
-scale_keeps ds s l says words = tt
-scale_keeps ds s l says rows = tt
-scale_keeps ds s l says letters = tt
-
-pub begun_keeps : (ds : List Declaration) (claim denominator : List ℕ) → IsWithin number_limit claim → IsWithin integer_limit denominator → (bound : Bound) → PartsKeep ds (calling claim denominator []) bound
-begun_keeps ds claim denominator n d names = (All-nil (λ (c : CalledTokens). IsKnown ds c.letter), All-nil (HasItemName ds))
-begun_keeps ds claim denominator n d numbers = (n, d, All-nil HasItemNumber)
-begun_keeps ds claim denominator n d words = tt
-begun_keeps ds claim denominator n d rows = omega arith
-begun_keeps ds claim denominator n d letters = tt
-
 module _ (ds : List Declaration) where
-  pub begin_opened : (p : Parts) (o : Opened) (front : List Line) (within : List Bound) → IsOpenedBy ds p o front → Begins (cancellation_kind ds) within front
-  begin_opened p o front within opened =
-      subst (Begins (cancellation_kind ds) within) (sym opened.are)
-      (begin_parts ds p within opened.known.is (everywhere (λ bound. KeepsOne ds bound (with_goal p unit_goal)) (λ bound. parts_keep_one ds p bound (opened.known.keep bound) (opened.have.keep bound)) within))
+  begins_with : (front behind : List Line) (b : CancellationTokens) → cancellation_lines b ≡ front ++ behind → IsCancellationBlock ds b → ((bound : Bound) → KeepsOne ds bound b) → Begins (cancellation_kind ds) bounds front
+  begins_with front behind b are is keeps = record { tree = b; more = behind; are = are; is_tree = is; keeps = everywhere (λ bound. KeepsOne ds bound b) keeps bounds }
+
+  -- after whole items, or before the denominator of a block without items
+  begins_parts : (p : Parts) (o : Opened) (front behind : List Line) → AreParts ds p o → HaveSize ds o.size (rows_of p.items) → parts_front p ≡ front ++ behind → Begins (cancellation_kind ds) bounds front
+  begins_parts p o front behind known have are =
+      begins_with front (behind ++ goal_lines unit_goal) (with_goal p unit_goal) (lines_of_parts p unit_goal ∙ ap (λ ls. ls ++ goal_lines unit_goal) are ∙ append_assoc front behind (goal_lines unit_goal))
+      (led_is known None unit_goal tt unit_scaled)
+      (λ bound. led_keeps known None unit_goal bound (λ _. unit_within) (λ _. tt) (subst (λ rs. RowsWithin ds rs bound) (sym (append-nil (rows_of p.items))) (have.keep bound)))
+
+  begins_opened : (p : Parts) (o : Opened) (front : List Line) → IsOpenedBy ds p o front → Begins (cancellation_kind ds) bounds front
+  begins_opened p o front opened = begins_parts p o front [] opened.known opened.have (sym opened.are ∙ sym (append-nil front))
 
   pub inside_keeps : (o : Opened) (l : Lemma) (lead : Lead) (front : List Line) (inside : IsInside ds o l lead front) (bound : Bound) → KeepsOne ds bound (led inside.parts lead inside.so_far.tokens)
   inside_keeps o l lead front inside bound =
-      led_keeps ds inside.parts lead inside.so_far.tokens bound (inside.known.keep bound) (inside.room bound) (scale_keeps ds inside.so_far.tokens l inside.so_far.values bound) (inside.so_far.have.keep bound)
+      led_keeps inside.known lead inside.so_far.tokens bound (λ _. integer_is_within inside.so_far.tokens.scale l.scale inside.so_far.values.scale) (λ _. inside.room) (inside.so_far.have.keep bound)
 
-  pub begin_inside : (o : Opened) (l : Lemma) (lead : Lead) (front : List Line) (within : List Bound) → IsInside ds o l lead front → Begins (cancellation_kind ds) within front
-  begin_inside o l lead front within inside =
-      subst (Begins (cancellation_kind ds) within) (sym inside.are)
-      (begin_led ds inside.parts within lead inside.so_far.tokens inside.known.is inside.next inside.so_far.scaled
-      (everywhere (λ bound. KeepsOne ds bound (led inside.parts lead inside.so_far.tokens)) (inside_keeps o l lead front inside) within))
+  begins_inside : (o : Opened) (l : Lemma) (lead : Lead) (front : List Line) → IsInside ds o l lead front → Begins (cancellation_kind ds) bounds front
+  begins_inside o l lead front inside =
+      begins_with front (led_behind lead) (led inside.parts lead inside.so_far.tokens) (led_lines inside.parts lead inside.so_far.tokens ∙ ap (λ ls. ls ++ led_behind lead) (sym inside.are))
+      (led_is inside.known lead inside.so_far.tokens inside.next inside.so_far.scaled) (inside_keeps o l lead front inside)
 
-  begin_shorter : (within : List Bound) (front behind : List Line) → Begins (cancellation_kind ds) within (front ++ behind) → Begins (cancellation_kind ds) within front
-  begin_shorter within front behind begin = record {
-    tree = begin.tree;
-    more = behind ++ begin.more;
-    are = begin.are ∙ append_assoc front behind begin.more;
-    is_tree = begin.is_tree;
-    keeps = begin.keeps;
-  }
-
-  -- the shortest block with this claim and this denominator
-  abbrev pub bare : List ℕ → List ℕ → Parts
-  bare claim denominator = calling claim denominator []
-
-  pub bare_is : (claim denominator : List ℕ) → IsTrue (is_number claim) → IsTrue (is_number denominator) → IsParts ds (bare claim denominator)
-  bare_is claim denominator n d = record {
-    claim = n;
-    denominator = d;
-    called = All-nil (λ c. IsTrue (is_map_letter c.letter));
-    once = λ side i j e below within. absurd (omega (arith, within));
-    items = tt;
-  }
-
-  pub begin_bare : (claim denominator : List ℕ) (within : List Bound) → IsTrue (is_number claim) → IsTrue (is_number denominator)
-      → All (λ bound. KeepsOne ds bound (with_goal (bare claim denominator) unit_goal)) within → Begins (cancellation_kind ds) within (head_line ∷ claim_line claim ∷ denominator_line denominator ∷ [])
-  begin_bare claim denominator within n d keeps = begin_parts ds (bare claim denominator) within (bare_is claim denominator n d) keeps
-
-  pub begin_claimed : (claim : List ℕ) (within : List Bound) → IsTrue (is_number claim) → All (λ bound. KeepsOne ds bound (with_goal (bare claim (codes "1")) unit_goal)) within
-      → Begins (cancellation_kind ds) within (head_line ∷ claim_line claim ∷ [])
-  begin_claimed claim within n keeps = begin_shorter within (head_line ∷ claim_line claim ∷ []) (denominator_line (codes "1") ∷ []) (begin_bare claim (codes "1") within n refl keeps)
-
-  bare_keeps : (claim denominator : List ℕ) → IsWithin number_limit claim → IsWithin integer_limit denominator → (bound : Bound) → KeepsOne ds bound (with_goal (bare claim denominator) unit_goal)
-  bare_keeps claim denominator n d bound = parts_keep_one ds (bare claim denominator) bound (begun_keeps ds claim denominator n d bound) (no_rows_keep ds bound)
-
-  pub claimed_keeps : (claim : List ℕ) → IsWithin number_limit claim → (within : List Bound) → All (λ bound. KeepsOne ds bound (with_goal (bare claim (codes "1")) unit_goal)) within
-  claimed_keeps claim n within = everywhere (λ bound. KeepsOne ds bound (with_goal (bare claim (codes "1")) unit_goal)) (bare_keeps claim (codes "1") n unit_within) within
-
-  pub begin_headed : (within : List Bound) → Begins (cancellation_kind ds) within (head_line ∷ [])
-  begin_headed within = begin_shorter within (head_line ∷ []) (claim_line (codes "1") ∷ []) (begin_claimed (codes "1") within refl (claimed_keeps (codes "1") (1, refl) within))
+  pub goes_on : (s : Stage) (front : List Line) → IsOpen ds s front → Begins (cancellation_kind ds) bounds front
+  goes_on at.Headed front here =
+      begins_parts (calling (codes "1") (codes "1") []) (begun 1 (pos 1)) front (claim_line (codes "1") ∷ denominator_line (codes "1") ∷ [])
+      (begun_parts ds (codes "1") (codes "1") 1 (pos 1) (record { claim_is = refl; denominator_is = refl; claim_value = refl; denominator_value = refl })) (no_rows_size ds) (ap (λ ls. ls ++ claim_line (codes "1") ∷ denominator_line (codes "1") ∷ []) (sym here))
+  goes_on (at.Claimed n) front here =
+      begins_parts (calling here.claim (codes "1") []) (begun n (pos 1)) front (denominator_line (codes "1") ∷ []) (begun_parts ds here.claim (codes "1") n (pos 1) here.head) (no_rows_size ds) (ap (λ ls. ls ++ denominator_line (codes "1") ∷ []) (sym here.are))
+  goes_on (at.Called o) front here = begins_opened (calling here.claim here.denominator here.called) o front here.opened
+  goes_on (at.Lemma o l) front here = begins_inside o l (Some here.0) front here.1
+  goes_on (at.Cancelled o) front here = begins_opened here.0 o front here.1
+  goes_on (at.Goal o goal) front here = begins_inside o goal None front here

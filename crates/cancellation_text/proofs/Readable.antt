@@ -1,12 +1,10 @@
 -- The proofs that are read can be checked.
-use Rattle.std.proofs.Common.{◌≡◌, ◌<◌, ◌≤◌, ◌+◌, ℕ, List, [], ◌∷◌, ◌++◌, Option, Some, None, Result, arith, refl, subst, ap, ap₂, ◌∙◌, sym, length, length-append, IfOk}
+use Rattle.std.proofs.Common.{◌≡◌, ℕ, List, [], ◌∷◌, Option, Some, None, Result, arith, refl, subst, sym, length, length-append, IfOk}
 use Rattle.std.specs.List.{All, AllZip, cons_option}
-use Rattle.std.specs.Option.{option_map}
 use Rattle.std.proofs.lemmas.List.Elements.{All-nil, All-cons}
 use Rattle.word_core.specs.declared.letter.Letter.{Letter}
-use Rattle.quiver.specs.Declarations.{Declaration, letter_count}
+use Rattle.quiver.specs.Declarations.{Declaration}
 use Rattle.traced_rows.specs.declared.evidence.Lemma.{Lemma}
-use Rattle.traced_rows.specs.declared.evidence.LemmaRow.{LemmaRow}
 use Rattle.cancel_rules.specs.declared.cancellation.Side.{Side}
 use Rattle.cancel_rules.specs.declared.cancellation.Side.TheVariants.{Left, Right}
 use Rattle.cancel_rules.specs.declared.cancellation.Item.{Item}
@@ -28,7 +26,7 @@ use Rattle.certificate_text.specs.Evidence.{IsLemmaRowOver}
 use Rattle.certificate_text.proofs.Checkable.{positive_in_range, zip_all, scaled_checkable}
 use Rattle.std.proofs.lemmas.List.Elements.{All-weaker}
 use Rattle.cancellation_text.specs.Blocks.{CalledTokens, ItemTokens, lemma, cancel, CancellationTokens, known_letter, called_on, called_letters}
-use Rattle.cancellation_text.specs.Bounds.{Bound, rows, item_rows, rows_in, KeepsOne, IsItemOf, IsCancellationOf}
+use Rattle.cancellation_text.specs.Bounds.{Bound, rows, item_rows, KeepsOne, IsItemOf, IsCancellationOf}
 use Rattle.cancellation_text.specs.Cancellations.{cancellation_kind, IsCancellations}
 use Rattle.cancellation_text.specs.Reading.{cancellation_steps, called_of}
 use Rattle.cancellation_text.proofs.Parts.{rows_of}

@@ -26,7 +26,7 @@ use Rattle.cancel_rules.specs.Meaning.{MakesZeroByCancelling, IsCancellationSoun
 use Rattle.cancel_rules.proofs.Judged.{cancellation_is_judged, cancellation_refusal_is_unique, accepted_cancellation_is_not_refused}
 use Rattle.cancel_rules.proofs.Letters.{difference_over, indivisible_over}
 use Rattle.cancel_rules.proofs.Shown.{accepted_cancellation_leads}
-use Rattle.cancellation_text.proofs.EachText as texts
+use Rattle.cancellation_text.proofs.Reader as texts
 use Rattle.cancellation_text.proofs.Readable.{proofs_are_readable}
 use Rattle.evidence_commands.specs.Cancel.{accepted_text, refusal_text, HasRefusalLetters, MakesZeroByStar, CancelledMeans, cancellations}
 use Rattle.evidence_commands.proofs.Causes as causes

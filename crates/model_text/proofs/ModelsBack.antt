@@ -10,7 +10,7 @@ use Rattle.std.proofs.lemmas.List.FromFn.{fill_by_all}
 use Rattle.quiver.specs.Declarations.{Declaration, object_count, letter_count, object_name, letter_name, IsDeclared}
 use Rattle.matrix_models.specs.Matrix.{Matrix, entry_at, IsSide, IsMatrix}
 use Rattle.matrix_models.specs.declared.model.Model.{Model}
-use Rattle.block_text.specs.Lines.{Line, number_limit, claim_line, end_line}
+use Rattle.block_text.specs.Lines.{number_limit, claim_line, end_line}
 use Rattle.block_text.proofs.SaidLines.{number_found}
 use Rattle.matrix_models.specs.Limits.{modulus_limit}
 use Rattle.block_text.specs.Letters.{is_number}
@@ -25,7 +25,7 @@ use Rattle.block_text.proofs.TokensBack.{token_read, name_token}
 use Rattle.model_text.specs.ModelBlocks.{EntryTokens, side, matrix, modulus_line, entry_line, name_of, is_row, is_row_of, is_entry}
 use Rattle.model_text.specs.ModelBounds.{Bound, names, numbers, sizes, value_of, side_of, matrix_of, ModelTokens, model_value, HasName, IsBelow, IsSmall, KeepsEntry}
 use Rattle.model_text.specs.Models.{model_kind, HasModels, HasMap, IsPlaced}
-use Rattle.model_text.specs.Written.{rows_text, side_text, map_text, head_text, model_text}
+use Rattle.model_text.specs.Written.{rows_text, side_text, sides_text, map_text, maps_text, head_text, model_text}
 use Rattle.model_text.specs.Back.{IsWritableModel, ModelsAreReadBack}
 use Rattle.model_text.proofs.MatricesBack.{value_back, row_tokens, later_rows, matrix_read, matrix_line, rows_count, columns_count, matrix_back}
 use Rattle.block_text.proofs.PartsBack.{IsWritten, text_of_block}
@@ -166,41 +166,50 @@ module _ (ds : List Declaration) (declared : IsDeclared ds) (known : IsTrue (lis
   object_at : (a n : ℕ) → a + suc n ≤ object_count ds → IsObjectName ds a
   object_at a n within = object_is_named ds a declared known (omega (arith, within))
 
-  sides_written : (a n : ℕ) → a + n ≤ object_count ds → All Written (map (side_tree ds m.sides) (range_with_len a n))
-  sides_written a zero within = All-nil Written
-  sides_written a (suc n) within =
-      All-cons Written (side_tree ds m.sides a) (map (side_tree ds m.sides) (range_with_len (a + 1) n)) (side_written a (object_at a n within)) (sides_written (a + 1) n (omega (arith, within)))
+  -- entries that are written
+  record AreEntries (text : List ℕ) (es : List EntryTokens) : Type 0 where
+    text_is : IsTextOf text (map entry_line es)
+    each : All Written es
 
-  sides_are_text : (a n : ℕ) → a + n ≤ object_count ds
-      → IsTextOf (flat_map (λ v. side_text ds v (get_or m.sides v 1)) (range_with_len a n)) (map entry_line (map (side_tree ds m.sides) (range_with_len a n)))
-  sides_are_text a zero within = no_text
-  sides_are_text a (suc n) within =
-      text-append _ _ (entry_line (side_tree ds m.sides a) ∷ []) (map entry_line (map (side_tree ds m.sides) (range_with_len (a + 1) n))) (side_is_text a (object_at a n within)) (sides_are_text (a + 1) n (omega (arith, within)))
+  no_entries : AreEntries [] []
+  no_entries = record { text_is = no_text; each = All-nil Written }
+
+  one_entry : (text : List ℕ) (e : EntryTokens) → IsTextOf text (entry_line e ∷ []) → Written e → AreEntries text (e ∷ [])
+  one_entry text e text_is written = record { text_is = text_is; each = All-cons Written e [] written (All-nil Written) }
+
+  entries-append : (one other : List ℕ) (es fs : List EntryTokens) → AreEntries one es → AreEntries other fs → AreEntries (one ++ other) (es ++ fs)
+  entries-append one other es fs left right = record {
+    text_is = rw (map-append entry_line es fs) (text-append one other (map entry_line es) (map entry_line fs) left.text_is right.text_is);
+    each = All-append Written es fs left.each right.each;
+  }
+
+  abbrev sides_from : ℕ → ℕ → List EntryTokens
+  sides_from a n = map (side_tree ds m.sides) (range_with_len a n)
+
+  sides_written : (a n : ℕ) → a + n ≤ object_count ds → AreEntries (flat_map (λ v. side_text ds v (get_or m.sides v 1)) (range_with_len a n)) (sides_from a n)
+  sides_written a zero within = no_entries
+  sides_written a (suc n) within =
+      let here = object_at a n within in
+      entries-append _ _ (side_tree ds m.sides a ∷ []) (sides_from (a + 1) n) (one_entry _ (side_tree ds m.sides a) (side_is_text a here) (side_written a here)) (sides_written (a + 1) n (omega (arith, within)))
 
   -- the lines of the maps
-  trees_written : (a : ℕ) (o : Option Matrix) → IsPlaced ds m.modulus a o → All Written (map_trees ds a o)
-  trees_written a None placed = All-nil Written
-  trees_written a (Some x) placed = All-cons Written _ [] (matrix_written m.modulus x placed.1 ds a (named_map a placed.0)) (All-nil Written)
+  abbrev maps_from : ℕ → ℕ → List EntryTokens
+  maps_from a n = flat_map (trees_at ds m.maps) (range_with_len a n)
 
-  trees_are_text : (a : ℕ) (o : Option Matrix) → IsPlaced ds m.modulus a o → IsTextOf (map_text ds a o) (map entry_line (map_trees ds a o))
-  trees_are_text a None placed = no_text
-  trees_are_text a (Some x) placed = matrix_is_text m.modulus x placed.1 ds a (named_map a placed.0)
+  map_written : (a : ℕ) (o : Option Matrix) → IsPlaced ds m.modulus a o → AreEntries (map_text ds a o) (map_trees ds a o)
+  map_written a None placed = no_entries
+  map_written a (Some x) placed = one_entry _ _ (matrix_is_text m.modulus x placed.1 ds a (named_map a placed.0)) (matrix_written m.modulus x placed.1 ds a (named_map a placed.0))
 
   placed_at : (a n : ℕ) → a + suc n ≤ letter_count ds → IsPlaced ds m.modulus a (get_or m.maps a None)
   placed_at a n within = writable.model.maps a (omega (arith, within))
 
-  maps_written : (a n : ℕ) → a + n ≤ letter_count ds → All Written (flat_map (trees_at ds m.maps) (range_with_len a n))
-  maps_written a zero within = All-nil Written
+  maps_written : (a n : ℕ) → a + n ≤ letter_count ds → AreEntries (flat_map (λ b. map_text ds b (get_or m.maps b None)) (range_with_len a n)) (maps_from a n)
+  maps_written a zero within = no_entries
   maps_written a (suc n) within =
-      All-append Written (trees_at ds m.maps a) (flat_map (trees_at ds m.maps) (range_with_len (a + 1) n)) (trees_written a (get_or m.maps a None) (placed_at a n within)) (maps_written (a + 1) n (omega (arith, within)))
+      entries-append _ _ (trees_at ds m.maps a) (maps_from (a + 1) n) (map_written a (get_or m.maps a None) (placed_at a n within)) (maps_written (a + 1) n (omega (arith, within)))
 
-  maps_are_text : (a n : ℕ) → a + n ≤ letter_count ds
-      → IsTextOf (flat_map (λ b. map_text ds b (get_or m.maps b None)) (range_with_len a n)) (map entry_line (flat_map (trees_at ds m.maps) (range_with_len a n)))
-  maps_are_text a zero within = no_text
-  maps_are_text a (suc n) within =
-      let more = flat_map (trees_at ds m.maps) (range_with_len (a + 1) n) in
-      subst (IsTextOf (flat_map (λ b. map_text ds b (get_or m.maps b None)) (range_with_len a (suc n)))) (sym (map-append entry_line (trees_at ds m.maps a) more))
-      (text-append _ _ _ (map entry_line more) (trees_are_text a (get_or m.maps a None) (placed_at a n within)) (maps_are_text (a + 1) n (omega (arith, within))))
+  entries_written : AreEntries (sides_text ds m.sides ++ maps_text ds m.maps) (model_tree ds m).1.1
+  entries_written = entries-append _ _ (sides_from 0 (object_count ds)) (maps_from 0 (letter_count ds)) (sides_written 0 (object_count ds) (omega arith)) (maps_written 0 (letter_count ds) (omega arith))
 
   -- the names
   tree_names_ascend : (a : ℕ) (o : Option Matrix) (more_names : List (List ℕ)) → IsPlaced ds m.modulus a o → Ascend ds (object_count ds + (a + 1)) more_names → Ascend ds (object_count ds + a) (map name_of (map_trees ds a o) ++ more_names)
@@ -212,7 +221,7 @@ module _ (ds : List Declaration) (declared : IsDeclared ds) (known : IsTrue (lis
   map_names_ascend : (a n : ℕ) → a + n ≤ letter_count ds → Ascend ds (object_count ds + a) (map name_of (flat_map (trees_at ds m.maps) (range_with_len a n)))
   map_names_ascend a zero within = tt
   map_names_ascend a (suc n) within =
-      let more = flat_map (trees_at ds m.maps) (range_with_len (a + 1) n) in
+      let more = maps_from (a + 1) n in
       subst (Ascend ds (object_count ds + a)) (sym (map-append name_of (trees_at ds m.maps a) more))
       (tree_names_ascend a (get_or m.maps a None) (map name_of more) (placed_at a n within) (map_names_ascend (a + 1) n (omega (arith, within))))
 
@@ -222,12 +231,6 @@ module _ (ds : List Declaration) (declared : IsDeclared ds) (known : IsTrue (lis
       rw (object_at a n (omega (arith, all))).named (omega arith, side_names_ascend (a + 1) n more_names (omega (arith, all)) each)
 
   -- what is read of the sides
-  abbrev sides_from : ℕ → ℕ → List EntryTokens
-  sides_from a n = map (side_tree ds m.sides) (range_with_len a n)
-
-  abbrev maps_from : ℕ → ℕ → List EntryTokens
-  maps_from a n = flat_map (trees_at ds m.maps) (range_with_len a n)
-
   side_by : (v a : ℕ) (es : List EntryTokens) (here : Bool) → nat_eq a v ≡ here → IsObjectName ds a → a ≤ v → (a + 1 ≤ v → side_of ds es v ≡ get_or m.sides v 1)
       → side_of ds (side_tree ds m.sides a ∷ es) v ≡ get_or m.sides v 1
   side_by v a es true is name low rest =
@@ -300,9 +303,6 @@ module _ (ds : List Declaration) (declared : IsDeclared ds) (known : IsTrue (lis
       let read : map (matrix_of ds (value_of (decimal m.modulus)) entries) (range_with_len 0 letters) ≡ m.maps = ap (λ n. map (matrix_of ds n entries) (range_with_len 0 letters)) modulus ∙ sym maps in
       λ j. record { claim = claim j; modulus = modulus j; sides = sym sides j; maps = read j }
 
-  entries_written : All Written (sides_from 0 (object_count ds) ++ maps_from 0 (letter_count ds))
-  entries_written = All-append Written (sides_from 0 (object_count ds)) (maps_from 0 (letter_count ds)) (sides_written 0 (object_count ds) (omega arith)) (maps_written 0 (letter_count ds) (omega arith))
-
   is_block : (model_kind ds).IsTree (model_tree ds m)
   is_block =
       let count : nat_le 2 (value_of (decimal m.modulus)) ≡ true = le-leb 2 (value_of (decimal m.modulus)) (omega (arith, value_back m.modulus modulus_small, writable.model.modulus.at_least)) in
@@ -313,7 +313,7 @@ module _ (ds : List Declaration) (declared : IsDeclared ds) (known : IsTrue (lis
         (
           rw (decimal_number m.modulus modulus_small, count) refl,
           (
-            All-weaker Written (λ e. IsTrue (is_entry e)) (λ e written. written.entry) (model_tree ds m).1.1 entries_written,
+            All-weaker Written (λ e. IsTrue (is_entry e)) (λ e written. written.entry) (model_tree ds m).1.1 entries_written.each,
             rw (map-append name_of (sides_from 0 (object_count ds)) (maps_from 0 (letter_count ds))) (ascending_apart ds 0 _ ascend),
           ),
         ),
@@ -330,7 +330,7 @@ module _ (ds : List Declaration) (declared : IsDeclared ds) (known : IsTrue (lis
         λ same. number_found number_limit (decimal m.claim) (omega (arith, value_back m.claim claim_small, writable.claim)),
         (
           λ same. number_found modulus_limit (decimal m.modulus) (omega (arith, modulus, writable.model.modulus.at_most)),
-          subst (λ (n : ℕ). All (KeepsEntry ds n bound) (model_tree ds m).1.1) (sym modulus) (All-weaker Written (KeepsEntry ds m.modulus bound) (keeps_each bound) (model_tree ds m).1.1 entries_written),
+          subst (λ (n : ℕ). All (KeepsEntry ds n bound) (model_tree ds m).1.1) (sym modulus) (All-weaker Written (KeepsEntry ds m.modulus bound) (keeps_each bound) (model_tree ds m).1.1 entries_written.each),
         ),
       )
 
@@ -344,14 +344,8 @@ module _ (ds : List Declaration) (declared : IsDeclared ds) (known : IsTrue (lis
 
   model_is_text : IsTextOf (model_text ds m) ((model_kind ds).lines_of (model_tree ds m) ++ end_line ∷ [])
   model_is_text =
-      let entries : map entry_line (sides_from 0 (object_count ds)) ++ map entry_line (maps_from 0 (letter_count ds)) ≡ map entry_line (model_tree ds m).1.1 =
-      sym (map-append entry_line (sides_from 0 (object_count ds)) (maps_from 0 (letter_count ds))) in
-      let front : List Line = (codes "model" ∷ codes "1" ∷ []) ∷ claim_line (decimal m.claim) ∷ modulus_line (decimal m.modulus) ∷ [] in
-      let sides = sides_are_text 0 (object_count ds) (omega arith) in
-      let maps = maps_are_text 0 (letter_count ds) (omega arith) in
-      let whole = text-append _ _ _ _ (text-append _ _ _ _ (text-append _ _ _ _ head_is_text sides) maps) end_is_text in
-      subst (λ (ls : List Line). IsTextOf (model_text ds m) (front ++ ls ++ end_line ∷ [])) entries
-      (subst (λ (ls : List Line). IsTextOf (model_text ds m) (ls ++ end_line ∷ [])) (append_assoc front (map entry_line (sides_from 0 (object_count ds))) (map entry_line (maps_from 0 (letter_count ds)))) whole)
+      subst (λ text. IsTextOf (text ++ codes "end\n") ((model_kind ds).lines_of (model_tree ds m) ++ end_line ∷ [])) (sym (append_assoc (head_text m) (sides_text ds m.sides) (maps_text ds m.maps)))
+      (text-append _ _ _ _ (text-append _ _ _ _ head_is_text entries_written.text_is) end_is_text)
 
   pub model_written : IsWritten (model_kind ds) (model_text ds m) m
   model_written = record { tree = model_tree ds m; text_is = model_is_text; is_tree = is_block; keeps = keeps; says = sym model_back }

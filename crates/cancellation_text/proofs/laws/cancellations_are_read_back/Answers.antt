@@ -1,4 +1,4 @@
-use Rattle.cancellation_text.proofs.ReadBack.{back}
+use Rattle.cancellation_text.proofs.BlocksBack.{back}
 use Rattle.cancellation_text.proofs.laws.cancellations_are_read_back.Goals as goal
 
 pub returns : goal.returns

@@ -1,4 +1,4 @@
-use Rattle.cancellation_text.proofs.EachText.{told}
+use Rattle.cancellation_text.proofs.Reader.{told}
 use Rattle.cancellation_text.proofs.laws.each_text_is_told.Goals as goal
 
 pub returns : goal.returns
