@@ -124,9 +124,6 @@ returns-clause-exact c =
     at_end (known_from c.args.expansions.now.entries) c.args.made.now c.as_slice-rows.result.now c.in_ok-common.common c.in_ok-sums.sums.entries gathered added ends
     ∙ ap Ok (sym same)
 
-pub common_denominator-requires : goal.common_denominator-requires
-common_denominator-requires c = c.requires.ranged
-
 pub returns-in_err-common-clause-ranged : goal.returns-in_err-common-clause-ranged
 returns-in_err-common-clause-ranged c = rw (stopped_common c) tt
 
@@ -136,17 +133,8 @@ times-requires-clause-left_in c = subst IsCoefficient (sym (same_number c.args.m
 pub times-requires-clause-right_in : goal.times-requires-clause-right_in
 times-requires-clause-right_in c = subst IsCoefficient (sym (same_number c.in_ok-common.common c.in_ok-common.ensures.in_range)) c.in_ok-common.ensures.in_range
 
-pub returns-in_err-denominator-clause-ranged : goal.returns-in_err-denominator-clause-ranged
-returns-in_err-denominator-clause-ranged c = search rules
-
-pub check_limits-requires : goal.check_limits-requires
-check_limits-requires c = c.requires.ranged
-
 pub returns-in_err-check_limits-clause-ranged : goal.returns-in_err-check_limits-clause-ranged
 returns-in_err-check_limits-clause-ranged c = rw (stopped_check_limits c) tt
-
-pub add_rows-requires-clause-ranged : goal.add_rows-requires-clause-ranged
-add_rows-requires-clause-ranged c = c.requires.ranged
 
 pub add_rows-requires-clause-common_in : goal.add_rows-requires-clause-common_in
 add_rows-requires-clause-common_in c = subst IsCoefficient (sym (same_number c.in_ok-common.common c.in_ok-common.ensures.in_range)) c.in_ok-common.ensures.in_range
@@ -157,23 +145,5 @@ add_rows-requires-clause-coefficients_in c = subst (All (λ r. IsCoefficient r.c
 pub returns-in_err-sums-clause-ranged : goal.returns-in_err-sums-clause-ranged
 returns-in_err-sums-clause-ranged c = rw (stopped_sums c) tt
 
-pub nonzero_rows-requires : goal.nonzero_rows-requires
-nonzero_rows-requires c = c.in_ok-sums.ensures.sums_in
-
 pub returns-in_err-gathered-clause-ranged : goal.returns-in_err-gathered-clause-ranged
 returns-in_err-gathered-clause-ranged c = rw (stopped_gathered c) tt
-
-pub primitive-requires-clause-denominator_in : goal.primitive-requires-clause-denominator_in
-primitive-requires-clause-denominator_in c = search rules
-
-pub primitive-requires-clause-coefficients_in : goal.primitive-requires-clause-coefficients_in
-primitive-requires-clause-coefficients_in c = c.in_ok-gathered.ensures.in_range
-
-pub returns-in_err-primitive-clause-ranged : goal.returns-in_err-primitive-clause-ranged
-returns-in_err-primitive-clause-ranged c = search rules
-
-pub returns-in_err-primitive-clause-exact : goal.returns-in_err-primitive-clause-exact
-returns-in_err-primitive-clause-exact c = search rules
-
-pub returns-clause-ranged : goal.returns-clause-ranged
-returns-clause-ranged c = c.in_ok-primitive.ensures.ranged
