@@ -1,4 +1,5 @@
 mod Examples
+mod Scratch
 pub mod Divisors
 pub mod Gathering
 pub mod Operations
