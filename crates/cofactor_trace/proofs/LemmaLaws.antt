@@ -1,6 +1,7 @@
 -- What is gathered by the table of names is the certificate.
 use Rattle.std.proofs.Common.{◌≡◌, ◌⊎◌, inl, inr, ℕ, ℤ, pos, ◌+◌, Bool, true, false, cond, List, [], ◌∷◌, ◌++◌, map, filter, length, nat_eq, eqb-true, eq-eqb, Some, Ok, sym, refl, ap, ap₂, subst, ◌∙◌, arith}
 use Rattle.std.proofs.lemmas.List.{map-append}
+use Rattle.std.proofs.lemmas.Bool.{or_cases, or_left, or_right}
 use Rattle.std.specs.List.{AllByRecursion, slice_get}
 use Rattle.traced_rows.specs.declared.Origin.{Origin}
 use Rattle.traced_rows.specs.declared.Origin.TheVariants as origin
@@ -13,7 +14,7 @@ use Rattle.cofactor_trace.specs.Needed.{IsRecord, AreRecords, is_rule, is_named,
 use Rattle.cofactor_trace.specs.Lemmas.{is_lemma, naming_of, lemma_records, lemma_row, lemma_of, limit_fault, scale_fault, gathered_of}
 use Rattle.cofactor_trace.specs.LemmaSizes.{extended_all, no_extent, limit_of}
 use Rattle.cofactor_trace.specs.Naming.{named_in, NamesRules}
-use Rattle.cofactor_trace.proofs.Closure.{or_cases, or_left, or_right, names, records_from, is_numbered, named_is_needed}
+use Rattle.cofactor_trace.proofs.Closure.{names, records_from, is_numbered, named_is_needed}
 use Rattle.cofactor_trace.proofs.NeededLaws.{records_of}
 use Rattle.cofactor_trace.proofs.LemmaLimits.{limit_of-extended}
 

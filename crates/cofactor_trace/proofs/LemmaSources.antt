@@ -1,6 +1,7 @@
 -- The replacements of the generators and rules that a lemma or the target names: generators, direct rules, earlier lemmas.
 use Rattle.std.proofs.Common.{◌≡◌, ◌⊎◌, inl, inr, ℕ, suc, ◌+◌, ◌-◌, ◌<◌, ◌≤◌, ℤ, pos, negsuc, Bool, true, false, ◌||◌, ◌&&◌, cond, List, [], ◌∷◌, ◌++◌, filter, length, nat_eq, eqb-true, eq-eqb, Option, Some, None, unwrap_or, is_none, sym, refl, ap, subst, ◌∙◌, arith}
 use Rattle.std.proofs.lemmas.Bool.Decides.{Decides-int_eq}
+use Rattle.std.proofs.lemmas.Bool.{or_cases, or_left, or_right}
 use Rattle.std.specs.List.{AllByRecursion, slice_get}
 use Rattle.std.specs.Option.{option_and_then}
 use Rattle.std.specs.Ordering.{int_eq}
@@ -12,7 +13,7 @@ use Rattle.traced_rows.specs.declared.evidence.CertFrom.TheVariants as cert
 use Rattle.cofactor_trace.specs.declared.replacement.Replacement.{Replacement}
 use Rattle.cofactor_trace.specs.Needed.{IsRecord, AreRecords, is_rule, Numbered, needed_rules}
 use Rattle.cofactor_trace.specs.Lemmas.{signed_generator, single_row, direct_of, is_lemma, lemma_at, lemma_rules, lemma_number, naming_of, signed}
-use Rattle.cofactor_trace.proofs.Closure.{or_cases, or_left, or_right, names, record_names, is_numbered, Above, above_lower, needed_ascend, numbered_above}
+use Rattle.cofactor_trace.proofs.Closure.{names, record_names, is_numbered, Above, above_lower, needed_ascend, numbered_above}
 use Rattle.cofactor_trace.proofs.NeededLaws.{AreNumbered, numbered_from}
 use Rattle.cofactor_trace.proofs.LemmaLaws.{NamesNeeded, needed_name}
 
