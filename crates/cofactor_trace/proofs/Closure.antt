@@ -1,7 +1,7 @@
 -- Each rule that the target or a needed rule names is needed, and comes before what names it.
 use Rattle.std.proofs.lemmas.Bool.{cond_both}
 use Rattle.std.proofs.lemmas.Bool.Decides.{eqb_tells, nat_tests}
-use Rattle.std.proofs.Common.{◌≡◌, ◌⊎◌, inl, inr, ℕ, suc, ◌+◌, ◌<◌, ◌≤◌, Bool, true, false, ◌||◌, cond, List, [], ◌∷◌, length, nat_eq, eqb-true, eq-eqb, Some, sym, refl, ap, subst, ◌∙◌, arith}
+use Rattle.std.proofs.Common.{◌≡◌, ℕ, suc, ◌+◌, ◌<◌, ◌≤◌, Bool, true, false, cond, List, [], ◌∷◌, length, nat_eq, eqb-true, Some, sym, refl, subst, arith}
 use Rattle.std.proofs.lemmas.List.Elements.{All-head, All-tail}
 use Rattle.std.specs.List.{All, list_any, slice_get}
 use Rattle.traced_rows.specs.declared.Origin.{Origin}
@@ -30,11 +30,11 @@ pub record_names : (count n : ℕ) (m : Made) → IsRecord count m → names n m
 record_names count n m h e = named_first count n m.rows h.earlier e
 
 -- records one after another
-abbrev pub RecordsFrom : ℕ → List Made → Type 0
+abbrev RecordsFrom : ℕ → List Made → Type 0
 RecordsFrom place [] = Unit {0}
 RecordsFrom place (m ∷ made) = IsRecord place m × RecordsFrom (suc place) made
 
-pub records_from : (made : List Made) → AreRecords made → (place : ℕ) (xs : List Made) → ((k : ℕ) (m : Made) → slice_get xs k ≡ Some m → slice_get made (place + k) ≡ Some m) → RecordsFrom place xs
+records_from : (made : List Made) → AreRecords made → (place : ℕ) (xs : List Made) → ((k : ℕ) (m : Made) → slice_get xs k ≡ Some m → slice_get made (place + k) ≡ Some m) → RecordsFrom place xs
 records_from made records place [] h = tt
 records_from made records place (m ∷ xs) h =
     let here : place + 0 ≡ place = omega arith in (
@@ -71,13 +71,14 @@ module _ (target : Made) where
       grind arith
 
   -- what the target or a needed rule names is needed
-  pub named_is_needed : (made : List Made) → RecordsFrom 0 made → IsRecord (length made) target → (n : ℕ)
+  pub named_is_needed : (made : List Made) → AreRecords made → IsRecord (length made) target → (n : ℕ)
       → is_named n (target ∷ records_of (needed_rules made target)) ≡ true → is_numbered n (needed_rules made target) ≡ true
   named_is_needed made records is_record n named =
+      let from_first = records_from made records 0 made (λ k m h. let same : k ≡ 0 + k = omega arith in subst (λ j. slice_get made j ≡ Some m) same h) in
       let own = record_names (length made) n target is_record in
-      let others = named_in_range 0 made records n in
+      let others = named_in_range 0 made from_first n in
       let range : (1 ≤ n) × (n ≤ length made) = grind arith in
-      needed_if_named 0 made records n range.0 (omega (arith, range.1)) named
+      needed_if_named 0 made from_first n range.0 (omega (arith, range.1)) named
 
   -- in ascending order
   abbrev pub Above : ℕ → List Numbered → Type 0

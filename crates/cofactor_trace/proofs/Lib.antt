@@ -1,5 +1,4 @@
 mod Examples
-mod Scratch
 pub mod Divisors
 pub mod Gathering
 pub mod Operations

@@ -1,11 +1,11 @@
 -- Expansions one after another balance, since each stands on balanced ones.
-use Rattle.std.proofs.Common.{◌≡◌, ◌⊎◌, inl, inr, ℕ, zero, suc, ◌+◌, ◌-◌, ◌≤◌, ℤ, pos, ◌<ℤ◌, Bool, true, false, ◌||◌, List, [], ◌∷◌, nat_eq, eqb-true, eq-eqb, Some, Result, Ok, Err, unwrap_or, sym, refl, ap, subst, ◌∙◌, arith, cond}
+use Rattle.std.proofs.Common.{◌≡◌, ℕ, suc, ◌-◌, ℤ, pos, ◌<ℤ◌, Bool, true, ◌||◌, List, [], ◌∷◌, nat_eq, eqb-true, eq-eqb, Result, Ok, Err, unwrap_or, sym, refl, ap, subst, ◌∙◌, arith}
 use Rattle.std.proofs.lemmas.Bool.{cond_both, or_left, or_right}
 use Rattle.std.proofs.lemmas.Bool.Decides.{nat_tests}
 use Rattle.std.proofs.lemmas.Int.{ints}
-use Rattle.std.proofs.lemmas.Cmp.{ranked, tied_itself, nat_cmp_total}
+use Rattle.std.proofs.lemmas.Cmp.{ranked}
 use Rattle.std.proofs.lemmas.List.{append-nil}
-use Rattle.std.specs.List.{AllByRecursion, list_any, slice_get}
+use Rattle.std.specs.List.{AllByRecursion, list_any}
 use Rattle.std.specs.Map.{lookup}
 use Rattle.std.specs.BTreeMap.{insert_entry, is_at}
 use Rattle.std.specs.Ordering.{nat_cmp, is_eq, match_ordering}
@@ -25,8 +25,8 @@ use Rattle.cofactor_trace.specs.Laws.{Traces, ExpansionsBalance}
 use Rattle.cofactor_trace.specs.Needed.{IsRecord, is_rule, is_named, Numbered, needed_rules, Expansions, none, known_from, and_then, expansion_from}
 use Rattle.cofactor_trace.proofs.Balance.{IsKnown, record_balances}
 use Rattle.traced_rows.proofs.Between.{between-nothing}
-use Rattle.cofactor_trace.proofs.Closure.{names, record_names, records_from, is_numbered, named_is_needed, Above, needed_ascend, numbered_above}
-use Rattle.cofactor_trace.proofs.NeededLaws.{records_of, AreNumbered, numbered_from}
+use Rattle.cofactor_trace.proofs.Closure.{names, record_names, is_numbered, named_is_needed, Above, needed_ascend, numbered_above}
+use Rattle.cofactor_trace.proofs.NeededLaws.{records_of, AreNumbered, all_numbered}
 
 -- whether the rule is listed
 abbrev is_key : ℕ → Expansions → Bool
@@ -119,12 +119,9 @@ module _ (generators rules : List (List (ℤ × List ℕ))) (target : Made) (p :
 pub expansions_balance : ExpansionsBalance
 expansions_balance generators rules made target p c records is_record traces traced ends =
     passes generators rules target p [] 0 (needed_rules made target) c tt
-    (λ n named. named_is_needed target made (records_from made records 0 made whole) is_record n named)
-    (needed_ascend target 0 made) (each (needed_rules made target) (numbered_from made target 0 made whole)) is_record.positive traced ends
+    (λ n named. named_is_needed target made records is_record n named)
+    (needed_ascend target 0 made) (each (needed_rules made target) (all_numbered made target)) is_record.positive traced ends
   where
-    whole : (k : ℕ) (m : Made) → slice_get made k ≡ Some m → slice_get made (zero + k) ≡ Some m
-    whole k m h = let same : k ≡ zero + k = omega arith in subst (λ n. slice_get made n ≡ Some m) same h
-
     each : (rest : List Numbered) → AreNumbered made rest → AllByRecursion (λ e. IsRecord (e.0 - 1) e.1 × Traces generators rules e.1 (generator_at rules e.0)) rest
     each [] h = tt
     each (e ∷ rest) h =
