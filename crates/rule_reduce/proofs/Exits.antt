@@ -31,12 +31,9 @@ all-negated p h = All-map (λ (t : Term). IsCoefficient t.0) (λ (t : Term). (ne
 -- want of memory explains anything
 pub memory-explains : {A B : Type 0} (r : Result A PolyFault) → IsErr r × IsErrAnd r IsMemory → (P : A → Type 0) (whole : Result B PolyFault) → MatchResult r P (Explains whole)
 memory-explains (Ok x) is P whole = absurd is.1
-memory-explains (Err e) is P whole = go e is.1
-  where
-    go : (e : PolyFault) → IsMemory e → Explains whole e
-    go (fault.Overflow o) is = absurd is
-    go (fault.Size s) is = absurd is
-    go (fault.Memory m) is = tt
+memory-explains (Err (fault.Memory m)) is P whole = tt
+memory-explains (Err (fault.Overflow o)) is P whole = absurd is.1
+memory-explains (Err (fault.Size s)) is P whole = absurd is.1
 
 -- multiplied from the right is multiplied from the left
 pub multiplied-scaled : (p : List Term) (k : ℤ) → multiplied p k ≡ scaled k p
@@ -167,9 +164,8 @@ if_sized-after None r x = refl
 if_sized-after (Some o) r x = refl
 
 explains-sized : {A : Type 0} (r : Result (List Term) PolyFault) (x : A) (e : PolyFault) → Explains r e → Explains (if_sized r x) e
-explains-sized r x (fault.Overflow o) why = ap (λ q. if_sized q x) why
-explains-sized r x (fault.Size s) why = ap (λ q. if_sized q x) why
 explains-sized r x (fault.Memory m) why = tt
+explains-sized r x _ why = ap (λ q. if_sized q x) why
 
 module _ (m : Move) (s : State) where
   abbrev end : Result State PolyFault

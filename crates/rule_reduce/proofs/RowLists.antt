@@ -17,11 +17,9 @@ written_more f xs ys i row written below so_far is same = ap (set ys i) same ∙
 pub still_there : {A : Type 0} (f : A → A) (xs ys : List A) (i : ℕ) (row : A) → i < length xs → ys ≡ map f (take i xs) ++ drop i xs → row ≡ get_or ys i row → row ≡ get_or xs i row
 still_there f xs ys i row below so_far is =
     let front : length (map f (take i xs)) ≡ i = length-map (take i xs) f ∙ length-take-le i xs (omega arith) in
+    let no_more : i + (i - i) ≡ i = omega arith in
     is ∙ ap (λ zs. get_or zs i row) so_far ∙ get_or-append_right (map f (take i xs)) (drop i xs) i i row front (omega arith)
-    ∙ get_or-drop i xs (i - i) row ∙ ap (λ n. get_or xs n row) (no_more i)
-  where
-    no_more : (n : ℕ) → n + (n - n) ≡ n
-    no_more n = omega arith
+    ∙ get_or-drop i xs (i - i) row ∙ ap (λ n. get_or xs n row) no_more
 
 -- all rows are written over
 pub all_written : {A : Type 0} (f : A → A) (xs ys : List A) (i : ℕ) → ys ≡ map f (take i xs) ++ drop i xs → length ys ≤ i → length xs ≤ i
