@@ -116,7 +116,7 @@ module _ (table : BTreeMap (List ℕ) ℤ) (sorted : IsOrdered word_cmp table) w
     in_range = ranged-descending (reversed table.entries []) descending-table (λ w. subst IsCoefficient (sym (coefficient_of-table w)) (in_range w));
   }
 
-length-keep : (z : ℤ) (w : List ℕ) (p : List Term) → length (keep z w p) ≤ length p + 1
+pub length-keep : (z : ℤ) (w : List ℕ) (p : List Term) → length (keep z w p) ≤ length p + 1
 length-keep (pos zero) w p = omega arith
 length-keep (pos (suc n)) w p = omega arith
 length-keep (negsuc n) w p = omega arith

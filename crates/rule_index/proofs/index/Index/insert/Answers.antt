@@ -87,6 +87,3 @@ invariant_of-self-inside c =
         ),
       ),
     )
-
-pub insert-requires-clause-tree : goal.insert-requires-clause-tree
-insert-requires-clause-tree c = c.reserve.ensures.tree

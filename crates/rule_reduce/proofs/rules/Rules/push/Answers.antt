@@ -8,15 +8,6 @@ use Rattle.rule_reduce.specs.RuleLists.{IsRule, entries_of, rule_from}
 use Rattle.rule_reduce.proofs.Numbers.{entries_of-below, entries_from-push}
 use Rattle.rule_reduce.proofs.rules.Rules.push.Goals as goal
 
-pub make_rule-requires-clause-positive : goal.make_rule-requires-clause-positive
-make_rule-requires-clause-positive g c = c.requires.positive
-
-pub make_rule-requires-clause-nonempty : goal.make_rule-requires-clause-nonempty
-make_rule-requires-clause-nonempty g c = c.requires.nonempty
-
-pub make_rule-requires-clause-over : goal.make_rule-requires-clause-over
-make_rule-requires-clause-over g c = c.requires.over
-
 pub invariant_of-self : goal.invariant_of-self
 invariant_of-self g c =
     let all = c.args.self.now.rules in
