@@ -1,4 +1,5 @@
 -- The parts of a gathered certificate: its limits, numbers and words.
+use Rattle.nc_polynomial.proofs.Shapes.{first_fits}
 use Rattle.std.proofs.Common.{◌≡◌, ℕ, suc, ℤ, pos, ◌≤◌, int_div, Bool, true, false, cond, IsTrue, List, [], ◌∷◌, ◌++◌, map, length, get_or, nat_lt, Some, None, Ok, sym, ap, subst, ◌∙◌, arith}
 use Rattle.std.proofs.lemmas.Bool.Decides.{nat_tests}
 use Rattle.std.proofs.lemmas.Bool.{cond_both}
@@ -7,9 +8,8 @@ use Rattle.std.proofs.lemmas.List.{length-map}
 use Rattle.std.proofs.lemmas.List.Sums.{sum_by-cons, sum_by-append}
 use Rattle.std.proofs.lemmas.List.Elements.{All-nil, All-cons, All-head, All-tail, All-push, All-map, All-filter, All-weaker}
 use Rattle.std.specs.List.{All}
-use Rattle.coef_int.specs.declared.Overflow.{Overflow}
-use Rattle.coef_int.specs.Range.{IsCoefficient, is_coefficient}
-use Rattle.coef_int.specs.Operations.{product_of, exact_value, first_overflow}
+use Rattle.coef_int.specs.Range.{IsCoefficient}
+use Rattle.coef_int.specs.Operations.{product_of, first_overflow}
 use Rattle.coef_int.specs.Divisor.{gcd_of}
 use Rattle.traced_rows.specs.declared.Made.{Made}
 use Rattle.traced_rows.specs.declared.evidence.LemmaRow.{LemmaRow}
@@ -100,13 +100,10 @@ lemmas_have_rows claim made target c rows ends =
     (each, omega (arith, no_more (lemmas claim made target) each, few, all))
 
 -- numbers
-fits_or : (o : Overflow) (os : List Overflow) → first_overflow (o ∷ os) ≡ None → IsCoefficient (exact_value o) × (first_overflow os ≡ None)
-fits_or o os h = let inside : is_coefficient (exact_value o) ≡ true = grind arith in (grind (arith, nat_tests), grind arith)
-
 multiple_in_range : (x : ℤ) (ys : List ℤ) → IsCoefficient x → first_overflow (multiple_products x ys) ≡ None → IsCoefficient (common_multiple x ys)
 multiple_in_range x [] h fits = h
 multiple_in_range x (y ∷ ys) h fits =
-    let first = fits_or (product_of x (int_div y (gcd_of x y))) (multiple_products (lcm_of x y) ys) fits in
+    let first = first_fits (product_of x (int_div y (gcd_of x y))) (multiple_products (lcm_of x y) ys) fits in
     multiple_in_range (lcm_of x y) ys first.0 first.1
 
 signed_in_range : (negative : Bool) (z : ℤ) → IsCoefficient z → IsCoefficient (signed negative z)

@@ -143,7 +143,7 @@ pub nonzero-added : (p q : List Term) → All (λ t. t.0 ≢ pos 0) (added p q)
 nonzero-added p q = nonzero-totals (aligned p q)
 
 -- where no operation overflows, each value is a coefficient
-first_fits : (o : Overflow) (os : List Overflow) → first_overflow (o ∷ os) ≡ None → IsCoefficient (exact_value o) × (first_overflow os ≡ None)
+pub first_fits : (o : Overflow) (os : List Overflow) → first_overflow (o ∷ os) ≡ None → IsCoefficient (exact_value o) × (first_overflow os ≡ None)
 first_fits o os e = let inside : is_coefficient (exact_value o) ≡ true = grind arith in (grind (arith, nat_tests), grind arith)
 
 pub in_range-scaled : (k : ℤ) (p : List Term) → first_overflow (products k p) ≡ None → All (λ t. IsCoefficient t.0) (scaled k p)

@@ -3,14 +3,13 @@ use mir.Syntax.{w128}
 use Rattle.std.specs.Option.{option_map}
 use Rattle.coef_int.specs.Range.{IsCoefficient}
 use Rattle.coef_int.specs.Operations.{product_of}
-use Rattle.nc_polynomial.proofs.Chains.{first-fits}
+use Rattle.nc_polynomial.proofs.Chains.{first-fits, first-fails}
 use Rattle.traced_rows.specs.declared.certificate.CertRow.{CertRow}
 use Rattle.cofactor_trace.specs.declared.fault.ExpandFault.TheVariants as fault
 use Rattle.cofactor_trace.specs.Expansion.{share, joined_row, overflow_in}
 use Rattle.cofactor_trace.specs.Faults.{IsFirst}
 use Rattle.cofactor_trace.specs.Needed.{known_from}
 use Rattle.cofactor_trace.specs.Table.{with_rows}
-use Rattle.cofactor_trace.proofs.Operations.{first-fails}
 use Rattle.cofactor_trace.proofs.record.add_row.Goals as goal
 
 pub returns-in_err-factor-clause-exact : goal.returns-in_err-factor-clause-exact
