@@ -61,9 +61,3 @@ returns-clause-exact c =
     let f = λ (s : CertRow). product_of c.args.factor s.coef in
     let kept : first_overflow (map f (drop c.loop-row.row-index c.args.inner.now)) ≡ first_overflow (map f c.args.inner.now) = subst (λ z. first_overflow (map (λ (s : CertRow). product_of z s.coef) (drop c.loop-row.row-index c.args.inner.now)) ≡ first_overflow (map (λ (s : CertRow). product_of z s.coef) c.args.inner.now)) (same_number c.args.factor c.requires.factor_in) c.loop-row.invariant.products in
     ap (option_map fault.Overflow) (first_none f c.args.inner.now c.loop-row.row-index kept (omega arith))
-
-pub loop-row-init : goal.loop-row-init
-loop-row-init c = record { sums_in = c.requires.sums_in; added = refl; products = refl }
-
-pub times-requires-clause-left_in : goal.times-requires-clause-left_in
-times-requires-clause-left_in c = subst IsCoefficient (sym (same_number c.args.factor c.requires.factor_in)) c.requires.factor_in
