@@ -3,7 +3,6 @@ use Rattle.std.proofs.lemmas.List.{get_or_read}
 use Rattle.rule_index.specs.Prefixes.{word_at}
 use Rattle.rule_index.specs.Automaton.{IsLongest, words_of}
 use Rattle.rule_index.proofs.Reading.{link-step}
-use Rattle.rule_index.proofs.SameTree.{tree_of_same}
 use Rattle.rule_index.proofs.insertion.link_of.Goals as goal
 
 pub returns : goal.returns
