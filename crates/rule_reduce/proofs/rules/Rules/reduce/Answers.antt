@@ -1,7 +1,6 @@
-use Rattle.std.proofs.Common.{rules, ◌≡◌, ℕ, Option, pos, ◌<ℤ◌, ◌<◌, ◌≤◌, ◌+◌, ◌-◌, suc, length, zero, List, [], Some, None, Err, Result, IfSome, arith, sym, ap, ◌∙◌, subst}
+use Rattle.std.proofs.Common.{rules, ◌≡◌, ℕ, Option, pos, ◌<◌, ◌≤◌, ◌+◌, ◌-◌, suc, length, zero, List, [], Some, None, Err, Result, IfSome, arith, sym, ap, ◌∙◌, subst}
 use Rattle.std.specs.List.{All}
 use Rattle.coef_int.specs.Range.{IsCoefficient}
-use Rattle.nc_polynomial.specs.Shape.{IsCanonical}
 use Rattle.definitions.specs.Poly.{Term}
 use Rattle.word_core.specs.Letters.{IsOver}
 use Rattle.word_orders.specs.Admissible.{Compare}
