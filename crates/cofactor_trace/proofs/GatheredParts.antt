@@ -1,15 +1,15 @@
 -- The parts of a gathered certificate: its limits, numbers and words.
-use Rattle.std.proofs.Common.{◌≡◌, ℕ, suc, ℤ, pos, ◌≤◌, int_div, Bool, true, false, cond, IsTrue, List, [], ◌∷◌, ◌++◌, map, length, get_or, nat_lt, Option, Some, None, Result, Ok, sym, refl, ap, subst, ◌∙◌, arith}
+use Rattle.nc_polynomial.proofs.Shapes.{first_fits}
+use Rattle.std.proofs.Common.{◌≡◌, ℕ, suc, ℤ, pos, ◌≤◌, int_div, Bool, true, false, cond, IsTrue, List, [], ◌∷◌, ◌++◌, map, length, get_or, nat_lt, Some, None, Ok, sym, ap, subst, ◌∙◌, arith}
 use Rattle.std.proofs.lemmas.Bool.Decides.{nat_tests}
+use Rattle.std.proofs.lemmas.Bool.{cond_both}
 use Rattle.std.proofs.lemmas.Int.{ints}
 use Rattle.std.proofs.lemmas.List.{length-map}
 use Rattle.std.proofs.lemmas.List.Sums.{sum_by-cons, sum_by-append}
 use Rattle.std.proofs.lemmas.List.Elements.{All-nil, All-cons, All-head, All-tail, All-push, All-map, All-filter, All-weaker}
 use Rattle.std.specs.List.{All}
-use Rattle.std.specs.Option.{option_map}
-use Rattle.coef_int.specs.declared.Overflow.{Overflow}
-use Rattle.coef_int.specs.Range.{IsCoefficient, is_coefficient}
-use Rattle.coef_int.specs.Operations.{product_of, exact_value, first_overflow}
+use Rattle.coef_int.specs.Range.{IsCoefficient}
+use Rattle.coef_int.specs.Operations.{product_of, first_overflow}
 use Rattle.coef_int.specs.Divisor.{gcd_of}
 use Rattle.traced_rows.specs.declared.Made.{Made}
 use Rattle.traced_rows.specs.declared.evidence.LemmaRow.{LemmaRow}
@@ -20,12 +20,9 @@ use Rattle.cofactor_trace.specs.Expansion.{lcm_of, common_multiple, multiple_pro
 use Rattle.cofactor_trace.specs.Needed.{IsRecord, is_named, Numbered, needed_from, needed_rules}
 use Rattle.cofactor_trace.specs.Lemmas.{is_lemma, naming_of, lemma_rules, lemma_records, lemma_row, lemma_of, signed, row_count, letter_count, limit_fault, scale_fault, gathered_of}
 use Rattle.cofactor_trace.specs.GatheringLaws.{parts_of, IsRangedLemma, GatheringsFit, LemmasHaveRows, GatheringsAreRanged, WordsAreKept}
+use Rattle.cofactor_trace.proofs.Halts.{unless_ok, unmapped-none}
 use Rattle.cofactor_trace.proofs.NeededLaws.{records_of}
 use Rattle.cofactor_trace.proofs.NamingLaws.{are_records}
-
-unless_ok : {A F : Type 0} (first : Option F) (r : Result A F) (x : A) → unless first r ≡ Ok x → (first ≡ None) × (r ≡ Ok x)
-unless_ok None r x h = (refl, h)
-unless_ok (Some e) r x h = absurd (cc)
 
 module _ (claim : ℕ) (made : List Made) (target : Made) where
   abbrev pub lemmas : List Lemma
@@ -64,27 +61,18 @@ module _ (claim : ℕ) (made : List Made) (target : Made) where
   -- and what holds of all records, of the lemmas' records
   pub needed_each : (P : Made → Type 0) (number : ℕ) (ms : List Made) → All P ms → All (λ e. P e.1) (needed_from target number ms)
   needed_each P number [] h = All-nil (λ (e : Numbered). P e.1)
-  needed_each P number (m ∷ ms) h = go (is_named number (target ∷ records_of (needed_from target (suc number) ms))) (needed_each P (suc number) ms (All-tail P m ms h))
-    where
-      go : (b : Bool) → All (λ e. P e.1) (needed_from target (suc number) ms) → All (λ e. P e.1) (cond b ((number, m) ∷ needed_from target (suc number) ms) (needed_from target (suc number) ms))
-      go true later = All-cons (λ (e : Numbered). P e.1) (number, m) (needed_from target (suc number) ms) (All-head P m ms h) later
-      go false later = later
+  needed_each P number (m ∷ ms) h =
+      let later = needed_each P (suc number) ms (All-tail P m ms h) in
+      cond_both (is_named number (target ∷ records_of (needed_from target (suc number) ms))) _ _ (All (λ (e : Numbered). P e.1))
+      (λ _. All-cons (λ (e : Numbered). P e.1) (number, m) (needed_from target (suc number) ms) (All-head P m ms h) later) (λ _. later)
 
   pub lemma_record_each : (P : Made → Type 0) → All P made → All P (lemma_records made target)
   lemma_record_each P h =
       All-map P (λ (e : Numbered). e.1) (lemma_rules made target) (All-filter (λ e. is_lemma e.1) (λ (e : Numbered). P e.1) (needed_rules made target) (needed_each P 1 made h))
 
 -- sizes
-below : (limit n : ℕ) → nat_lt limit n ≡ false → n ≤ limit
-below limit n e = grind (arith, nat_tests)
-
 within : (rows letters : ℕ) → cond (nat_lt 200000 rows) (Some (fault.Rows false)) (cond (nat_lt 1000000 letters) (Some (fault.Rows true)) None) ≡ None → (rows ≤ 200000) × (letters ≤ 1000000)
-within rows letters h = go (nat_lt 200000 rows) (nat_lt 1000000 letters) refl refl h
-  where
-    go : (a b : Bool) → nat_lt 200000 rows ≡ a → nat_lt 1000000 letters ≡ b → cond a (Some (fault.Rows false)) (cond b (Some (fault.Rows true)) None) ≡ None → (rows ≤ 200000) × (letters ≤ 1000000)
-    go true b many long e = absurd (cc)
-    go false true many long e = absurd (cc)
-    go false false many long e = (below 200000 rows many, below 1000000 letters long)
+within rows letters h = grind (arith, nat_tests)
 
 pub gatherings_fit : GatheringsFit
 gatherings_fit claim made target c ends =
@@ -112,22 +100,11 @@ lemmas_have_rows claim made target c rows ends =
     (each, omega (arith, no_more (lemmas claim made target) each, few, all))
 
 -- numbers
-fits_or : (o : Overflow) (os : List Overflow) → first_overflow (o ∷ os) ≡ None → IsCoefficient (exact_value o) × (first_overflow os ≡ None)
-fits_or o os h = go (is_coefficient (exact_value o)) refl h
-  where
-    go : (b : Bool) → is_coefficient (exact_value o) ≡ b → cond b (first_overflow os) (Some o) ≡ None → IsCoefficient (exact_value o) × (first_overflow os ≡ None)
-    go true fits e = (grind (arith, nat_tests), e)
-    go false fails e = absurd (cc)
-
 multiple_in_range : (x : ℤ) (ys : List ℤ) → IsCoefficient x → first_overflow (multiple_products x ys) ≡ None → IsCoefficient (common_multiple x ys)
 multiple_in_range x [] h fits = h
 multiple_in_range x (y ∷ ys) h fits =
-    let first = fits_or (product_of x (int_div y (gcd_of x y))) (multiple_products (lcm_of x y) ys) fits in
+    let first = first_fits (product_of x (int_div y (gcd_of x y))) (multiple_products (lcm_of x y) ys) fits in
     multiple_in_range (lcm_of x y) ys first.0 first.1
-
-no_overflow : (o : Option Overflow) → option_map fault.Overflow o ≡ None → o ≡ None
-no_overflow None e = refl
-no_overflow (Some x) e = absurd (cc)
 
 signed_in_range : (negative : Bool) (z : ℤ) → IsCoefficient z → IsCoefficient (signed negative z)
 signed_in_range true z h = omega (arith, ints, h)
@@ -138,7 +115,7 @@ gatherings_are_ranged claim made target c records is_record ends =
     let p = parts claim made target c ends in
     let naming = naming_of made target in
     subst (λ (x : LemmaCertificate). IsCoefficient x.denominator × All IsRangedLemma (parts_of x)) p.is (
-      multiple_in_range (pos 1) (scales claim made target) (omega (arith, ints)) (no_overflow (first_overflow (multiple_products (pos 1) (scales claim made target))) p.fits),
+      multiple_in_range (pos 1) (scales claim made target) (omega (arith, ints)) (unmapped-none fault.Overflow (first_overflow (multiple_products (pos 1) (scales claim made target))) p.fits),
       each_part claim made target (IsRecord (length made)) IsRangedLemma
           (λ m h. (h.scale_in, All-map (λ (r : LemmaRow). IsCoefficient r.coef) (lemma_row naming) m.rows (λ k r below. signed_in_range (naming (get_or m.rows k r).from).negative (get_or m.rows k r).coef (h.coefficients_in k r below))))
           (are_records made target records) is_record,

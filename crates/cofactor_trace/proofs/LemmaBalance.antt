@@ -1,5 +1,6 @@
 -- The rows of lemmas and goal add up to their scales times their polynomials.
-use Rattle.std.proofs.Common.{◌≡◌, ℕ, zero, suc, ◌-◌, ◌≤◌, ℤ, pos, ◌+ℤ◌, ◌*ℤ◌, ◌<ℤ◌, Bool, true, false, ◌||◌, Some, List, [], ◌∷◌, ◌++◌, map, nat_eq, eqb-true, length, cond, sym, refl, ap, ap₂, subst, ◌∙◌, append_assoc, arith}
+use Rattle.std.proofs.Common.{◌≡◌, ℕ, zero, suc, ◌-◌, ◌≤◌, ℤ, pos, ◌+ℤ◌, ◌*ℤ◌, ◌<ℤ◌, Bool, true, false, Some, List, [], ◌∷◌, ◌++◌, map, nat_eq, eqb-true, length, sym, refl, ap, ap₂, subst, ◌∙◌, append_assoc, arith}
+use Rattle.std.proofs.lemmas.Bool.{cond_both}
 use Rattle.std.proofs.lemmas.Int.{ints}
 use Rattle.std.proofs.lemmas.List.{map-append, append-nil, get_or-map, length-map}
 use Rattle.std.proofs.lemmas.List.Elements.{All-map}
@@ -49,12 +50,10 @@ module _ (generators rules : List (List (ℤ × List ℕ))) where
   -- the polynomial of a lemma is its rule
   poly_at : (n : ℕ) (done rest : List Numbered) → is_numbered n done ≡ true → generator_at (polys done) (lemma_number n (done ++ rest)) ≡ generator_at rules n
   poly_at n [] rest h = absurd (cc)
-  poly_at n (e ∷ done) rest h = go (nat_eq n e.0) refl h (poly_at n done rest)
-    where
-      go : (b : Bool) → nat_eq n e.0 ≡ b → b || is_numbered n done ≡ true → (is_numbered n done ≡ true → generator_at (polys done) (lemma_number n (done ++ rest)) ≡ generator_at rules n)
-          → generator_at (generator_at rules e.0 ∷ polys done) (cond b 1 (suc (lemma_number n (done ++ rest)))) ≡ generator_at rules n
-      go true same listed later = ap (generator_at rules) (sym (eqb-true n e.0 same))
-      go false other listed later = place_behind (generator_at rules e.0) (polys done) (lemma_number n (done ++ rest)) (number_positive n (done ++ rest)) ∙ later listed
+  poly_at n (e ∷ done) rest h =
+      cond_both (nat_eq n e.0) _ _ (λ k. generator_at (generator_at rules e.0 ∷ polys done) k ≡ generator_at rules n)
+      (λ same. ap (generator_at rules) (sym (eqb-true n e.0 same)))
+      (λ other. place_behind (generator_at rules e.0) (polys done) (lemma_number n (done ++ rest)) (number_positive n (done ++ rest)) ∙ poly_at n done rest (grind arith))
 
   -- the replacement of a generator or a rule equals it, over the generators and the lemmas before
   abbrev StandsFor : List (List (ℤ × List ℕ)) → Origin → Replacement → Type 0

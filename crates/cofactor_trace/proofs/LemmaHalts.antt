@@ -7,9 +7,8 @@ use Rattle.cofactor_trace.specs.GatherFaults.{Explains}
 
 -- a fault of the first part is that of the whole
 pub explains-some : {A : Type 0} (first : Option GatherFault) (r : Result A GatherFault) (e : GatherFault) → first ≡ Some e → Explains (unless first r) e
-explains-some first r (fault.Overflow o) h = ap (λ f. unless f r) h
-explains-some first r (fault.Rows letters) h = ap (λ f. unless f r) h
 explains-some first r (fault.Memory e) h = tt
+explains-some first r _ h = ap (λ f. unless f r) h
 
 -- a part without a fault is skipped
 pub explains-behind : {A : Type 0} (first : Option GatherFault) (r : Result A GatherFault) (e : GatherFault) → first ≡ None → Explains r e → Explains (unless first r) e

@@ -1,7 +1,8 @@
 -- What is gathered by the table of names is the certificate.
-use Rattle.std.proofs.Common.{◌≡◌, ◌⊎◌, inl, inr, ℕ, ℤ, pos, ◌+◌, Bool, true, false, cond, List, [], ◌∷◌, ◌++◌, map, filter, length, nat_eq, eqb-true, eq-eqb, Some, Ok, sym, refl, ap, ap₂, subst, ◌∙◌, arith}
+use Rattle.std.proofs.Common.{◌≡◌, inl, inr, ℕ, ℤ, pos, true, List, [], ◌∷◌, ◌++◌, map, filter, length, nat_eq, eqb-true, eq-eqb, Ok, sym, refl, ap, ap₂, subst, ◌∙◌}
 use Rattle.std.proofs.lemmas.List.{map-append}
-use Rattle.std.specs.List.{AllByRecursion, slice_get}
+use Rattle.std.proofs.lemmas.Bool.{cond_both, or_cases, or_left, or_right}
+use Rattle.std.specs.List.{AllByRecursion}
 use Rattle.traced_rows.specs.declared.Origin.{Origin}
 use Rattle.traced_rows.specs.declared.Origin.TheVariants as origin
 use Rattle.traced_rows.specs.declared.Row.{Row}
@@ -13,7 +14,7 @@ use Rattle.cofactor_trace.specs.Needed.{IsRecord, AreRecords, is_rule, is_named,
 use Rattle.cofactor_trace.specs.Lemmas.{is_lemma, naming_of, lemma_records, lemma_row, lemma_of, limit_fault, scale_fault, gathered_of}
 use Rattle.cofactor_trace.specs.LemmaSizes.{extended_all, no_extent, limit_of}
 use Rattle.cofactor_trace.specs.Naming.{named_in, NamesRules}
-use Rattle.cofactor_trace.proofs.Closure.{or_cases, or_left, or_right, names, records_from, is_numbered, named_is_needed}
+use Rattle.cofactor_trace.proofs.Closure.{names, is_numbered, named_is_needed}
 use Rattle.cofactor_trace.proofs.NeededLaws.{records_of}
 use Rattle.cofactor_trace.proofs.LemmaLimits.{limit_of-extended}
 
@@ -24,7 +25,7 @@ module _ (made : List Made) (target : Made) (records : AreRecords made) (is_reco
   NamesNeeded m = (n : ℕ) → names n m.rows ≡ true → is_numbered n (needed_rules made target) ≡ true
 
   needed_if : (n : ℕ) → is_named n (target ∷ records_of (needed_rules made target)) ≡ true → is_numbered n (needed_rules made target) ≡ true
-  needed_if n named = named_is_needed target made (records_from made records 0 made (λ k m h. let same : k ≡ 0 + k = omega arith in subst (λ j. slice_get made j ≡ Some m) same h)) is_record n named
+  needed_if n named = named_is_needed target made records is_record n named
 
   pub target_names : NamesNeeded target
   target_names n named = needed_if n (or_left (names n target.rows) (is_named n (records_of (needed_rules made target))) named)
@@ -38,12 +39,9 @@ module _ (made : List Made) (target : Made) (records : AreRecords made) (is_reco
 
   lemmas_among : (es : List Numbered) → AllByRecursion (λ e. NamesNeeded e.1) es → AllByRecursion NamesNeeded (map (λ e. e.1) (filter (λ e. is_lemma e.1) es))
   lemmas_among [] h = tt
-  lemmas_among (e ∷ es) h = go (is_lemma e.1) (lemmas_among es h.1)
-    where
-      go : (b : Bool) → AllByRecursion NamesNeeded (map (λ (n : Numbered). n.1) (filter (λ (n : Numbered). is_lemma n.1) es))
-          → AllByRecursion NamesNeeded (map (λ (n : Numbered). n.1) (cond b (e ∷ filter (λ (n : Numbered). is_lemma n.1) es) (filter (λ (n : Numbered). is_lemma n.1) es)))
-      go true rest = (h.0, rest)
-      go false rest = rest
+  lemmas_among (e ∷ es) h =
+      let rest = lemmas_among es h.1 in
+      cond_both (is_lemma e.1) _ _ (λ (l : List Numbered). AllByRecursion NamesNeeded (map (λ n. n.1) l)) (λ _. (h.0, rest)) (λ _. rest)
 
   pub needed_name : AllByRecursion (λ e. NamesNeeded e.1) (needed_rules made target)
   needed_name = each_names (needed_rules made target) (λ n named. needed_if n (or_right (names n target.rows) (is_named n (records_of (needed_rules made target))) named))
@@ -56,12 +54,10 @@ module _ (made : List Made) (target : Made) (records : AreRecords made) (is_reco
     found : (es : List Numbered) → AllByRecursion (λ e. named_in table (origin.Rule e.0) ≡ naming_of made target (origin.Rule e.0)) es → (n : ℕ) → is_numbered n es ≡ true
         → named_in table (origin.Rule n) ≡ naming_of made target (origin.Rule n)
     found [] h n listed = absurd (cc)
-    found (e ∷ es) h n listed = go (or_cases (nat_eq n e.0) (is_numbered n es) listed) (found es h.1 n)
-      where
-        go : (nat_eq n e.0 ≡ true) ⊎ (is_numbered n es ≡ true) → (is_numbered n es ≡ true → named_in table (origin.Rule n) ≡ naming_of made target (origin.Rule n))
-            → named_in table (origin.Rule n) ≡ naming_of made target (origin.Rule n)
-        go (inl same) rest = subst (λ k. named_in table (origin.Rule k) ≡ naming_of made target (origin.Rule k)) (sym (eqb-true n e.0 same)) h.0
-        go (inr there) rest = rest there
+    found (e ∷ es) h n listed = elim (or_cases (nat_eq n e.0) (is_numbered n es) listed) [
+      | inl same ↦ subst (λ k. named_in table (origin.Rule k) ≡ naming_of made target (origin.Rule k)) (sym (eqb-true n e.0 same)) h.0
+      | inr there ↦ found es h.1 n there
+    ]
 
     same_row : (r : Row) → ((n : ℕ) → is_rule n r.from ≡ true → is_numbered n (needed_rules made target) ≡ true) → named_in table r.from ≡ naming_of made target r.from
     same_row r h = go r.from h

@@ -2,7 +2,6 @@
 use Rattle.std.proofs.Common.{◌≡◌, ℕ, ◌+◌, ◌-◌, ◌^◌, ◌≤◌, min, Bool, true, false, List, [], ◌∷◌, length, map, nat_lt, Option, Some, None, ap, ◌∙◌, arith}
 use Rattle.std.specs.Prelude.{if◌then◌else◌}
 use Rattle.std.specs.List.{fold, sum_by}
-use Rattle.std.proofs.lemmas.Bool.Decides.{nat_tests}
 use Rattle.std.proofs.lemmas.List.{length-map}
 use Rattle.std.proofs.lemmas.List.Sums.{sum_by-cons}
 use Rattle.traced_rows.specs.declared.Row.{Row}
@@ -14,6 +13,7 @@ use Rattle.cofactor_trace.specs.declared.fault.GatherFault.TheVariants as fault
 use Rattle.cofactor_trace.specs.declared.extent.Extent.{Extent}
 use Rattle.cofactor_trace.specs.Lemmas.{Naming, lemma_row, lemma_of, row_count, letter_count, limit_fault}
 use Rattle.cofactor_trace.specs.LemmaSizes.{letters_with, extended, extended_all, no_extent, limit_of}
+use Rattle.cofactor_trace.proofs.SizeLaws.{below_cap}
 
 module _ (naming : Naming) where
   abbrev lemmas_of : List Made → List Lemma
@@ -50,15 +50,9 @@ module _ (naming : Naming) where
   limits : Bool → Bool → Option GatherFault
   limits rows letters = if rows then Some (fault.Rows false) else (if letters then Some (fault.Rows true) else None)
 
-  above_rows : (n : ℕ) → nat_lt 200000 (min (0 + n) (2 ^ 64 - 1)) ≡ nat_lt 200000 n
-  above_rows n = grind (arith, nat_tests)
-
-  above_letters : (n : ℕ) → nat_lt 1000000 (min (0 + n) (2 ^ 64 - 1)) ≡ nat_lt 1000000 n
-  above_letters n = grind (arith, nat_tests)
-
   pub limit_of-extended : (ms : List Made) → limit_of (extended_all no_extent ms) ≡ limit_fault (map (lemma_of naming) ms)
   unfolding limits
   limit_of-extended ms =
-      let a = ap (nat_lt 200000) (rows_are no_extent ms (omega arith)) ∙ above_rows (row_count (lemmas_of ms)) in
-      let b = ap (nat_lt 1000000) (letters_are no_extent ms (omega arith)) ∙ above_letters (letter_count (lemmas_of ms)) in
+      let a = ap (nat_lt 200000) (rows_are no_extent ms (omega arith)) ∙ below_cap 200000 (row_count (lemmas_of ms)) (omega arith) in
+      let b = ap (nat_lt 1000000) (letters_are no_extent ms (omega arith)) ∙ below_cap 1000000 (letter_count (lemmas_of ms)) (omega arith) in
       λ i. limits (a i) (b i)

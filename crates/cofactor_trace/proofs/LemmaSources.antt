@@ -1,6 +1,7 @@
 -- The replacements of the generators and rules that a lemma or the target names: generators, direct rules, earlier lemmas.
-use Rattle.std.proofs.Common.{◌≡◌, ◌⊎◌, inl, inr, ℕ, suc, ◌+◌, ◌-◌, ◌<◌, ◌≤◌, ℤ, pos, negsuc, Bool, true, false, ◌||◌, ◌&&◌, cond, List, [], ◌∷◌, ◌++◌, filter, length, nat_eq, eqb-true, eq-eqb, Option, Some, None, unwrap_or, is_none, sym, refl, ap, subst, ◌∙◌, arith}
-use Rattle.std.proofs.lemmas.Bool.Decides.{Decides-int_eq}
+use Rattle.std.proofs.Common.{◌≡◌, inl, inr, ℕ, ◌-◌, ◌<◌, ◌≤◌, ℤ, pos, negsuc, Bool, true, false, ◌&&◌, cond, List, [], ◌∷◌, ◌++◌, filter, length, nat_eq, eqb-true, eq-eqb, Option, Some, None, unwrap_or, is_none, sym, refl, ap, subst, ◌∙◌, arith}
+use Rattle.std.proofs.lemmas.Bool.Decides.{Decides-int_eq, nat_tests}
+use Rattle.std.proofs.lemmas.Bool.{and_parts, cond_both, or_cases, or_left, or_right}
 use Rattle.std.specs.List.{AllByRecursion, slice_get}
 use Rattle.std.specs.Option.{option_and_then}
 use Rattle.std.specs.Ordering.{int_eq}
@@ -12,8 +13,8 @@ use Rattle.traced_rows.specs.declared.evidence.CertFrom.TheVariants as cert
 use Rattle.cofactor_trace.specs.declared.replacement.Replacement.{Replacement}
 use Rattle.cofactor_trace.specs.Needed.{IsRecord, AreRecords, is_rule, Numbered, needed_rules}
 use Rattle.cofactor_trace.specs.Lemmas.{signed_generator, single_row, direct_of, is_lemma, lemma_at, lemma_rules, lemma_number, naming_of, signed}
-use Rattle.cofactor_trace.proofs.Closure.{or_cases, or_left, or_right, names, record_names, is_numbered, Above, above_lower, needed_ascend, numbered_above}
-use Rattle.cofactor_trace.proofs.NeededLaws.{AreNumbered, numbered_from}
+use Rattle.cofactor_trace.proofs.Closure.{names, record_names, is_numbered, Above, above_lower, needed_ascend, numbered_above}
+use Rattle.cofactor_trace.proofs.NeededLaws.{AreNumbered, all_numbered}
 use Rattle.cofactor_trace.proofs.LemmaLaws.{NamesNeeded, needed_name}
 
 -- a generator or its negative, as a record
@@ -29,16 +30,9 @@ record IsSigned (r : Row) (x : Replacement) : Type 0 where
   from_is : x.from ≡ cert.Generator generator
   row_is : r ≡ record { coef = signed x.negative (pos 1); left = []; from = origin.Generator generator; right = [] }
 
-int_is : (x y : ℤ) → int_eq x y ≡ true → x ≡ y
-int_is x y e = (Decides-int_eq x y).0 e
-
 empty_is : (w : List ℕ) → nat_eq (length w) 0 ≡ true → w ≡ []
 empty_is [] e = refl
 empty_is (a ∷ w) e = let none : length (a ∷ w) ≡ 0 = eqb-true (length (a ∷ w)) 0 e in absurd (omega (arith, none))
-
-and_both : (a b : Bool) → a && b ≡ true → (a ≡ true) × (b ≡ true)
-and_both true b e = (refl, e)
-and_both false b e = absurd (cc)
 
 signed_is : (coef : ℤ) (left right : List ℕ) (o : Origin) (x : Replacement) → left ≡ [] → right ≡ [] → signed_generator coef o ≡ Some x → IsSigned (record { coef = coef; left = left; from = o; right = right }) x
 signed_is coef left right (origin.Rule n) x l r h = absurd (cc)
@@ -52,70 +46,48 @@ signed_is coef left right (origin.Generator n) x l r h = go (int_eq coef (pos 1)
     go : (a b : Bool) → int_eq coef (pos 1) ≡ a → int_eq coef (negsuc 0) ≡ b
         → cond a (Some (record { negative = false; from = cert.Generator n })) (cond b (Some (record { negative = true; from = cert.Generator n })) None) ≡ Some x
         → IsSigned (record { coef = coef; left = left; from = origin.Generator n; right = right }) x
-    go true b one minus e = made_of false (int_is coef (pos 1) one) (cc)
-    go false true one minus e = made_of true (int_is coef (negsuc 0) minus) (cc)
+    go true b one minus e = made_of false ((Decides-int_eq coef (pos 1)).0 one) (cc)
+    go false true one minus e = made_of true ((Decides-int_eq coef (negsuc 0)).0 minus) (cc)
     go false false one minus e = absurd (cc)
+
+direct_from : (m : Made) (r : Row) (x : Replacement) → m.scale ≡ pos 1 → m.rows ≡ r ∷ [] → IsSigned r x → IsDirect m x
+direct_from m r x scale_is rows_are s = record { generator = s.generator; from_is = s.from_is; scale_is = scale_is; rows_are = rows_are ∙ ap (λ (y : Row). y ∷ []) s.row_is }
 
 single_is : (rows : List Row) (x : Replacement) → single_row rows ≡ Some x → (m : Made) → m.scale ≡ pos 1 → m.rows ≡ rows → IsDirect m x
 single_is [] x h m scale_is rows_are = absurd (cc)
 single_is (r ∷ (s ∷ rows)) x h m scale_is rows_are = absurd (cc)
-single_is (r ∷ []) x h m scale_is rows_are = go (nat_eq (length r.left) 0 && nat_eq (length r.right) 0) refl h
-  where
-    go : (b : Bool) → nat_eq (length r.left) 0 && nat_eq (length r.right) 0 ≡ b → cond b (signed_generator r.coef r.from) None ≡ Some x → IsDirect m x
-    go true empty e =
-        let both = and_both (nat_eq (length r.left) 0) (nat_eq (length r.right) 0) empty in
-        let s = signed_is r.coef r.left r.right r.from x (empty_is r.left both.0) (empty_is r.right both.1) e in
-        record { generator = s.generator; from_is = s.from_is; scale_is = scale_is; rows_are = rows_are ∙ ap (λ (y : Row). y ∷ []) s.row_is }
-    go false empty e = absurd (cc)
+single_is (r ∷ []) x h m scale_is rows_are =
+    let empty : nat_eq (length r.left) 0 && nat_eq (length r.right) 0 ≡ true = grind arith in
+    let both = and_parts (nat_eq (length r.left) 0) (nat_eq (length r.right) 0) empty in
+    let some : signed_generator r.coef r.from ≡ Some x = grind arith in
+    direct_from m r x scale_is rows_are (signed_is r.coef r.left r.right r.from x (empty_is r.left both.0) (empty_is r.right both.1) some)
 
 pub direct_is : (m : Made) (x : Replacement) → direct_of m ≡ Some x → IsDirect m x
-direct_is m x h = go (int_eq m.scale (pos 1)) refl h
-  where
-    go : (b : Bool) → int_eq m.scale (pos 1) ≡ b → cond b (single_row m.rows) None ≡ Some x → IsDirect m x
-    go true one e = single_is m.rows x e m (int_is m.scale (pos 1) one) refl
-    go false other e = absurd (cc)
+direct_is m x h =
+    let one : int_eq m.scale (pos 1) ≡ true = grind arith in
+    let some : single_row m.rows ≡ Some x = grind arith in
+    single_is m.rows x some m ((Decides-int_eq m.scale (pos 1)).0 one) refl
 
 -- the place of a rule among the lemmas
 pub number_positive : (n : ℕ) (es : List Numbered) → 1 ≤ lemma_number n es
 number_positive n [] = omega arith
-number_positive n (e ∷ es) = go (nat_eq n e.0)
-  where
-    go : (b : Bool) → 1 ≤ cond b 1 (suc (lemma_number n es))
-    go true = omega arith
-    go false = omega arith
+number_positive n (e ∷ es) = grind arith
 
 pub number_within : (n : ℕ) (done rest : List Numbered) → is_numbered n done ≡ true → lemma_number n (done ++ rest) ≤ length done
 number_within n [] rest h = absurd (cc)
-number_within n (e ∷ done) rest h = go (nat_eq n e.0) refl (number_within n done rest)
-  where
-    go : (b : Bool) → nat_eq n e.0 ≡ b → (is_numbered n done ≡ true → lemma_number n (done ++ rest) ≤ length done) → cond b 1 (suc (lemma_number n (done ++ rest))) ≤ suc (length done)
-    go true same later = omega arith
-    go false other later =
-        let there : is_numbered n done ≡ true = sym (ap (λ b. b || is_numbered n done) other) ∙ h in
-        omega (arith, later there)
+number_within n (e ∷ done) rest h = let later = number_within n done rest in grind arith
 
 -- ascending lists of rules
 module _ (target : Made) where
   above_filtered : (p : Numbered → Bool) (place : ℕ) (es : List Numbered) → Above target place es → Above target place (filter p es)
   above_filtered p place [] above = tt
-  above_filtered p place (e ∷ es) above = go (p e) (above_filtered p e.0 es above.1)
-    where
-      go : (b : Bool) → Above target e.0 (filter p es) → Above target place (cond b (e ∷ filter p es) (filter p es))
-      go true rest = (above.0, rest)
-      go false rest = above_lower target place e.0 (filter p es) (omega (arith, above.0)) rest
+  above_filtered p place (e ∷ es) above =
+      let rest = above_filtered p e.0 es above.1 in
+      cond_both (p e) _ _ (Above target place) (λ _. (above.0, rest)) (λ _. above_lower target place e.0 (filter p es) (omega (arith, above.0)) rest)
 
   stands_before : (place n : ℕ) (done : List Numbered) (e : Numbered) (rest : List Numbered) → Above target place (done ++ e ∷ rest) → n < e.0 → is_numbered n (done ++ e ∷ rest) ≡ true → is_numbered n done ≡ true
-  stands_before place n [] e rest above less listed = go (or_cases (nat_eq n e.0) (is_numbered n rest) listed)
-    where
-      go : (nat_eq n e.0 ≡ true) ⊎ (is_numbered n rest ≡ true) → is_numbered n [] ≡ true
-      go (inl same) = let number : n ≡ e.0 = eqb-true n e.0 same in absurd (omega (arith, number, less))
-      go (inr there) = let past = numbered_above target n e.0 rest above.1 there in absurd (omega (arith, past, less))
-  stands_before place n (d ∷ done) e rest above less listed =
-      go (or_cases (nat_eq n d.0) (is_numbered n (done ++ e ∷ rest)) listed) (stands_before d.0 n done e rest above.1 less)
-    where
-      go : (nat_eq n d.0 ≡ true) ⊎ (is_numbered n (done ++ e ∷ rest) ≡ true) → (is_numbered n (done ++ e ∷ rest) ≡ true → is_numbered n done ≡ true) → nat_eq n d.0 || is_numbered n done ≡ true
-      go (inl same) later = or_left (nat_eq n d.0) (is_numbered n done) same
-      go (inr there) later = or_right (nat_eq n d.0) (is_numbered n done) (later there)
+  stands_before place n [] e rest above less listed = let past = numbered_above target n e.0 rest above.1 in grind (arith, nat_tests)
+  stands_before place n (d ∷ done) e rest above less listed = let later = stands_before d.0 n done e rest above.1 less in grind arith
 
 module _ (made : List Made) (target : Made) (records : AreRecords made) (is_record : IsRecord (length made) target) where
   -- what is known of a needed rule
@@ -127,27 +99,19 @@ module _ (made : List Made) (target : Made) (records : AreRecords made) (is_reco
 
   has_record : (n : ℕ) (es : List Numbered) → AreNumbered made es → is_numbered n es ≡ true → HasRecord n es
   has_record n [] numbered listed = absurd (cc)
-  has_record n (e ∷ es) numbered listed = go (or_cases (nat_eq n e.0) (is_numbered n es) listed) (has_record n es numbered.1)
-    where
-      here : nat_eq n e.0 ≡ true → is_lemma e.1 ≡ true → is_numbered n (filter (λ (k : Numbered). is_lemma k.1) (e ∷ es)) ≡ true
-      here same lemma = ap (λ b. is_numbered n (cond b (e ∷ filter (λ (k : Numbered). is_lemma k.1) es) (filter (λ (k : Numbered). is_lemma k.1) es))) lemma ∙ or_left (nat_eq n e.0) _ same
-
-      there : is_numbered n (filter (λ (k : Numbered). is_lemma k.1) es) ≡ true → (b : Bool) → is_numbered n (cond b (e ∷ filter (λ (k : Numbered). is_lemma k.1) es) (filter (λ (k : Numbered). is_lemma k.1) es)) ≡ true
-      there h true = or_right (nat_eq n e.0) _ h
-      there h false = h
-
-      go : (nat_eq n e.0 ≡ true) ⊎ (is_numbered n es ≡ true) → (is_numbered n es ≡ true → HasRecord n es) → HasRecord n (e ∷ es)
-      go (inl same) later =
-          let number : e.0 ≡ n = sym (eqb-true n e.0 same) in
-          record {
-            m = e.1;
-            positive = subst (λ k. 1 ≤ k) number numbered.0.0;
-            item = subst (λ k. slice_get made (k - 1) ≡ Some e.1) number numbered.0.1;
-            kept = here same;
-          }
-      go (inr listed) later =
-          let r = later listed in
-          record { m = r.m; positive = r.positive; item = r.item; kept = λ lemma. there (r.kept lemma) (is_lemma e.1) }
+  has_record n (e ∷ es) numbered listed = elim (or_cases (nat_eq n e.0) (is_numbered n es) listed) [
+    | inl same ↦
+        let number : e.0 ≡ n = sym (eqb-true n e.0 same) in
+        record {
+          m = e.1;
+          positive = subst (λ k. 1 ≤ k) number numbered.0.0;
+          item = subst (λ k. slice_get made (k - 1) ≡ Some e.1) number numbered.0.1;
+          kept = λ lemma. grind arith;
+        }
+    | inr there ↦
+        let r = has_record n es numbered.1 there in
+        record { m = r.m; positive = r.positive; item = r.item; kept = λ lemma. let later = r.kept lemma in grind arith }
+  ]
 
   -- what a row names is needed, and a lemma that it names comes before it
   abbrev pub IsKnown : List Numbered → Origin → Type 0
@@ -162,13 +126,10 @@ module _ (made : List Made) (target : Made) (records : AreRecords made) (is_reco
   by_source P done rest whole generator direct lemma (origin.Generator n) known = generator n
   by_source P done rest whole generator direct lemma (origin.Rule n) known =
       let k = known n (eq-eqb n n refl) in
-      let r = has_record n (needed_rules made target) numbered k.0 in
+      let r = has_record n (needed_rules made target) (all_numbered made target) k.0 in
       subst (P (origin.Rule n)) (sym (ap (λ o. unwrap_or (option_and_then direct_of o) (lemma_at (lemma_number n (lemma_rules made target)))) r.item))
       (go r.m r.positive r.item r.kept k.1 (direct_of r.m) refl)
     where
-      numbered : AreNumbered made (needed_rules made target)
-      numbered = numbered_from made target 0 made (λ k m h. let same : k ≡ 0 + k = omega arith in subst (λ j. slice_get made j ≡ Some m) same h)
-
       go : (m : Made) → 1 ≤ n → slice_get made (n - 1) ≡ Some m → (is_lemma m ≡ true → is_numbered n (lemma_rules made target) ≡ true)
           → (is_numbered n (lemma_rules made target) ≡ true → is_numbered n done ≡ true) → (x : Option Replacement) → direct_of m ≡ x
           → P (origin.Rule n) (unwrap_or x (lemma_at (lemma_number n (lemma_rules made target))))
@@ -208,14 +169,9 @@ module _ (made : List Made) (target : Made) (records : AreRecords made) (is_reco
 
   entries_kept : (es : List Numbered) → AreNumbered made es → AllByRecursion (λ e. NamesNeeded made target records is_record e.1) es → AllByRecursion IsEntry (filter (λ e. is_lemma e.1) es)
   entries_kept [] numbered needed = tt
-  entries_kept (e ∷ es) numbered needed = go (is_lemma e.1) (entries_kept es numbered.1 needed.1)
-    where
-      go : (b : Bool) → AllByRecursion IsEntry (filter (λ (n : Numbered). is_lemma n.1) es) → AllByRecursion IsEntry (cond b (e ∷ filter (λ (n : Numbered). is_lemma n.1) es) (filter (λ (n : Numbered). is_lemma n.1) es))
-      go true rest = ((numbered.0.0, numbered.0.1, needed.0), rest)
-      go false rest = rest
+  entries_kept (e ∷ es) numbered needed =
+      let rest = entries_kept es numbered.1 needed.1 in
+      cond_both (is_lemma e.1) _ _ (AllByRecursion IsEntry) (λ _. ((numbered.0.0, numbered.0.1, needed.0), rest)) (λ _. rest)
 
   pub lemma_entries : AllByRecursion IsEntry (lemma_rules made target)
-  lemma_entries =
-      entries_kept (needed_rules made target)
-      (numbered_from made target 0 made (λ k m h. let same : k ≡ 0 + k = omega arith in subst (λ j. slice_get made j ≡ Some m) same h))
-      (needed_name made target records is_record)
+  lemma_entries = entries_kept (needed_rules made target) (all_numbered made target) (needed_name made target records is_record)

@@ -1,5 +1,6 @@
 -- An expansion is within the limits, and names the generators that the records name.
-use Rattle.std.proofs.Common.{◌≡◌, ℕ, ◌+◌, ◌≤◌, ◌*ℤ◌, Bool, true, false, ◌||◌, cond, List, [], ◌∷◌, length, nat_lt, Some, None, Result, Ok, Err, refl, subst, arith}
+use Rattle.std.proofs.Common.{◌≡◌, ◌+◌, ◌≤◌, ◌*ℤ◌, false, ◌||◌, List, [], ◌∷◌, length, nat_lt, None, Ok, Err, refl, subst, arith}
+use Rattle.std.proofs.lemmas.Bool.{ltb-false, or_parts}
 use Rattle.std.proofs.lemmas.Bool.Decides.{nat_tests}
 use Rattle.std.proofs.lemmas.List.Sums.{sum_by-cons}
 use Rattle.std.proofs.lemmas.List.Elements.{All-from_recursion}
@@ -10,8 +11,6 @@ use Rattle.traced_rows.specs.declared.Made.{Made}
 use Rattle.traced_rows.specs.declared.certificate.CertRow.{CertRow}
 use Rattle.traced_rows.specs.declared.certificate.Cofactors.{Cofactors}
 use Rattle.cofactor_trace.specs.declared.table.Multiple.{Multiple}
-use Rattle.cofactor_trace.specs.declared.fault.ExpandFault.{ExpandFault}
-use Rattle.cofactor_trace.specs.declared.fault.ExpandFault.TheVariants as fault
 use Rattle.cofactor_trace.specs.Gathered.{gathered}
 use Rattle.cofactor_trace.specs.Expansion.{Known, common_denominator, joined, has_long_word, letter_count, limit_fault, primitive, record_expansion}
 use Rattle.cofactor_trace.specs.Needed.{Numbered, Expansions, known_from, and_then, expansion_from, needed_rules}
@@ -26,16 +25,9 @@ IsShort m = (length m.left ≤ 500) × (length m.right ≤ 500)
 none_long : (rows : List CertRow) → has_long_word rows ≡ false → Each IsShort rows
 none_long [] h = tt
 none_long (r ∷ rows) h =
-    let parts = or_false (nat_lt 500 (length r.left) || nat_lt 500 (length r.right)) (has_long_word rows) h in
-    let words = or_false (nat_lt 500 (length r.left)) (nat_lt 500 (length r.right)) parts.0 in
-    ((at_most (length r.left) words.0, at_most (length r.right) words.1), none_long rows parts.1)
-  where
-    or_false : (a b : Bool) → a || b ≡ false → (a ≡ false) × (b ≡ false)
-    or_false true b e = absurd (cc)
-    or_false false b e = (refl, e)
-
-    at_most : (n : ℕ) → nat_lt 500 n ≡ false → n ≤ 500
-    at_most n e = grind (arith, nat_tests)
+    let parts = or_parts (nat_lt 500 (length r.left) || nat_lt 500 (length r.right)) (has_long_word rows) h in
+    let words = or_parts (nat_lt 500 (length r.left)) (nat_lt 500 (length r.right)) parts.0 in
+    ((ltb-false 500 (length r.left) words.0, ltb-false 500 (length r.right) words.1), none_long rows parts.1)
 
 -- a list that exceeds no limit
 record Passes (rows : List CertRow) : Type 0 where
@@ -44,17 +36,7 @@ record Passes (rows : List CertRow) : Type 0 where
   letters : letter_count rows ≤ 1000000
 
 passes : (rows : List CertRow) → limit_fault rows ≡ None → Passes rows
-passes rows h = go (has_long_word rows) (nat_lt 200000 (length rows)) (nat_lt 1000000 (letter_count rows)) refl refl refl h
-  where
-    below : (limit n : ℕ) → nat_lt limit n ≡ false → n ≤ limit
-    below limit n e = grind (arith, nat_tests)
-
-    go : (a b d : Bool) → has_long_word rows ≡ a → nat_lt 200000 (length rows) ≡ b → nat_lt 1000000 (letter_count rows) ≡ d
-        → cond a (Some fault.Size) (cond b (Some (fault.Rows false)) (cond d (Some (fault.Rows true)) None)) ≡ None → Passes rows
-    go true b d long many letters e = absurd (cc)
-    go false true d long many letters e = absurd (cc)
-    go false false true long many letters e = absurd (cc)
-    go false false false long many letters e = record { short = long; few = below 200000 (length rows) many; letters = below 1000000 (letter_count rows) letters }
+passes rows h = record { short = grind (arith, nat_tests); few = grind (arith, nat_tests); letters = grind (arith, nat_tests) }
 
 ones : (rows : List CertRow) → sum_by (λ (r : CertRow). 1) rows ≡ length rows
 ones [] = refl
@@ -81,12 +63,9 @@ record_fits known m c ends =
 
 fits_from : (expansions : Expansions) (rest : List Numbered) (target : Made) (c : Cofactors) → expansion_from expansions rest target ≡ Ok c → IsWithinLimits c.rows
 fits_from expansions [] target c ends = record_fits (known_from expansions) target c ends
-fits_from expansions (e ∷ rest) target c ends = go (record_expansion (known_from expansions) e.1) ends (λ x. fits_from (insert_entry nat_cmp expansions e.0 x) rest target c)
-  where
-    go : (r : Result Cofactors ExpandFault) → and_then r (λ x. expansion_from (insert_entry nat_cmp expansions e.0 x) rest target) ≡ Ok c
-        → ((x : Cofactors) → expansion_from (insert_entry nat_cmp expansions e.0 x) rest target ≡ Ok c → IsWithinLimits c.rows) → IsWithinLimits c.rows
-    go (Ok x) ends next = next x ends
-    go (Err f) ends next = absurd (cc)
+fits_from expansions (e ∷ rest) target c ends =
+    (elim (record_expansion (known_from expansions) e.1) as (λ r. and_then r (λ x. expansion_from (insert_entry nat_cmp expansions e.0 x) rest target) ≡ Ok c → IsWithinLimits c.rows)
+    [ Ok x ↦ λ ends. fits_from (insert_entry nat_cmp expansions e.0 x) rest target c ends | Err f ↦ λ ends. absurd (cc) ]) ends
 
 -- the law
 pub expansions_fit : ExpansionsFit

@@ -1,5 +1,6 @@
 -- An expansion is over the generators that the records name.
-use Rattle.std.proofs.Common.{◌≡◌, ℕ, ◌≤◌, ℤ, ◌*ℤ◌, Bool, true, false, cond, List, [], ◌∷◌, map, Some, Result, Ok, Err, unwrap_or, subst}
+use Rattle.std.proofs.Common.{refl, Option, ◌≡◌, ℕ, ◌≤◌, ℤ, ◌*ℤ◌, List, [], ◌∷◌, map, Ok, Err, unwrap_or, subst}
+use Rattle.std.proofs.lemmas.Bool.{cond_both}
 use Rattle.std.proofs.lemmas.List.Elements.{All-head, All-tail, All-from_recursion}
 use Rattle.std.specs.List.{All, AllByRecursion}
 use Rattle.std.specs.Map.{lookup}
@@ -12,7 +13,6 @@ use Rattle.traced_rows.specs.declared.Made.{Made}
 use Rattle.traced_rows.specs.declared.certificate.CertRow.{CertRow}
 use Rattle.traced_rows.specs.declared.certificate.Cofactors.{Cofactors}
 use Rattle.cofactor_trace.specs.declared.table.Multiple.{Multiple}
-use Rattle.cofactor_trace.specs.declared.fault.ExpandFault.{ExpandFault}
 use Rattle.cofactor_trace.specs.Expansion.{Known, common_denominator, joined, joined_rows, joined_row, share, record_expansion}
 use Rattle.cofactor_trace.specs.Laws.{IsUpTo, NamesUpTo, GeneratorsAreNamed}
 use Rattle.cofactor_trace.specs.Needed.{Numbered, Expansions, none, known_from, and_then, expansion_from, needed_rules}
@@ -45,11 +45,9 @@ module _ (count : ℕ) where
 
   found_over : (expansions : Expansions) (n : ℕ) → EachOver expansions → AreOver (unwrap_or (lookup (is_at (nat_cmp n)) expansions) none).rows
   found_over [] n h = tt
-  found_over (e ∷ expansions) n h = go (is_eq (nat_cmp n e.0)) (found_over expansions n h.1)
-    where
-      go : (b : Bool) → AreOver (unwrap_or (lookup (is_at (nat_cmp n)) expansions) none).rows → AreOver (unwrap_or (cond b (Some e.1) (lookup (is_at (nat_cmp n)) expansions)) none).rows
-      go true rest = h.0
-      go false rest = rest
+  found_over (e ∷ expansions) n h =
+      let rest = found_over expansions n h.1 in
+      cond_both (is_eq (nat_cmp n e.0)) _ _ (λ (o : Option Cofactors). AreOver (unwrap_or o none).rows) (λ _. h.0) (λ _. rest)
 
   known_over : (expansions : Expansions) → EachOver expansions → (rows : List Row) → All (λ r. IsUpTo count r.from) rows → AllByRecursion (λ r. AreOver (known_from expansions r.from).rows) rows
   known_over expansions each [] h = tt
@@ -71,14 +69,12 @@ module _ (count : ℕ) where
       → expansion_from expansions rest target ≡ Ok c → AreOver c.rows
   over_from expansions [] target c each rules names ends = record_over expansions target c each names ends
   over_from expansions (e ∷ rest) target c each rules names ends =
-      go (record_expansion (known_from expansions) e.1) (record_over expansions e.1) ends
-      (λ x over. over_from (insert_entry nat_cmp expansions e.0 x) rest target c (each_with (λ d. AreOver d.1.rows) expansions e.0 x each over) (All-tail (λ (d : Numbered). NamesUpTo count d.1) e rest rules) names)
-    where
-      go : (r : Result Cofactors ExpandFault) → ((x : Cofactors) → EachOver expansions → NamesUpTo count e.1 → r ≡ Ok x → AreOver x.rows)
-          → and_then r (λ x. expansion_from (insert_entry nat_cmp expansions e.0 x) rest target) ≡ Ok c
-          → ((x : Cofactors) → AreOver x.rows → expansion_from (insert_entry nat_cmp expansions e.0 x) rest target ≡ Ok c → AreOver c.rows) → AreOver c.rows
-      go (Ok x) over ends next = next x (over x each (All-head (λ (d : Numbered). NamesUpTo count d.1) e rest rules) (λ i. Ok x)) ends
-      go (Err f) over ends next = absurd (cc)
+      (elim (record_expansion (known_from expansions) e.1) as (λ r. record_expansion (known_from expansions) e.1 ≡ r → and_then r (λ x. expansion_from (insert_entry nat_cmp expansions e.0 x) rest target) ≡ Ok c → AreOver c.rows) [
+        | Ok x ↦ λ is ends.
+            let here = record_over expansions e.1 x each (All-head (λ (d : Numbered). NamesUpTo count d.1) e rest rules) is in
+            over_from (insert_entry nat_cmp expansions e.0 x) rest target c (each_with (λ d. AreOver d.1.rows) expansions e.0 x each here) (All-tail (λ (d : Numbered). NamesUpTo count d.1) e rest rules) names ends
+        | Err f ↦ λ is ends. absurd (cc)
+      ]) refl ends
 
 -- the law
 pub generators_are_named : GeneratorsAreNamed

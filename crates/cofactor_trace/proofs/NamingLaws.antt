@@ -1,7 +1,9 @@
 -- The rules are named one after another, and each lemma by its place among the lemmas.
-use Rattle.std.proofs.Common.{◌≡◌, ℕ, suc, ◌+◌, ◌-◌, ◌<◌, ◌≤◌, get_or, set, Bool, true, false, cond, List, [], ◌∷◌, ◌++◌, map, filter, reverse, length, nat_eq, eqb-true, Option, Some, None, unwrap_or, is_none, sym, refl, ap, subst, ◌∙◌, append_assoc, arith}
-use Rattle.std.proofs.lemmas.List.{get_or-set_same, get_or-set_other, length-set, reverse-append, append-nil, length-map, map-append}
-use Rattle.std.proofs.lemmas.List.Elements.{filter-append, All-nil, All-cons, All-weaker}
+use Rattle.std.proofs.Common.{◌≡◌, ℕ, suc, ◌+◌, ◌-◌, ◌<◌, ◌≤◌, get_or, set, Bool, true, false, cond, List, [], ◌∷◌, ◌++◌, map, filter, reverse, length, Option, Some, None, unwrap_or, is_none, sym, refl, ap, subst, ◌∙◌, append_assoc, arith}
+use Rattle.std.proofs.lemmas.List.{get_or-set_same, get_or-set_other, length-set, append-nil, length-map, map-append}
+use Rattle.std.proofs.lemmas.List.Elements.{filter-append, All-filter, All-nil, All-cons, All-weaker, All-from_recursion, recursion_from_All}
+use Rattle.std.proofs.lemmas.Bool.{cond_both}
+use Rattle.std.proofs.lemmas.Bool.Decides.{nat_tests}
 use Rattle.std.proofs.lemmas.Option.{slice_get_within, get_or_from_slice_get}
 use Rattle.std.specs.Option.{option_and_then}
 use Rattle.std.specs.List.{All, AllByRecursion, slice_get}
@@ -13,7 +15,7 @@ use Rattle.cofactor_trace.specs.declared.replacement.Replacement.{Replacement}
 use Rattle.cofactor_trace.specs.Needed.{IsAmongFirst, IsRecord, AreRecords, Numbered, needed_rules}
 use Rattle.cofactor_trace.specs.Lemmas.{direct_of, is_lemma, lemma_at, lemma_rules, lemma_number, naming_of}
 use Rattle.cofactor_trace.specs.Naming.{named_in, NamesRules}
-use Rattle.cofactor_trace.proofs.NeededLaws.{AreNumbered, numbered_from, among_more}
+use Rattle.cofactor_trace.proofs.NeededLaws.{AreNumbered, all_numbered, among_more, next_number, none_left}
 use Rattle.cofactor_trace.proofs.Closure.{Above, needed_ascend}
 
 -- the place of a rule among others
@@ -21,35 +23,17 @@ abbrev pub AreBelow : ℕ → List Numbered → Type 0
 AreBelow number = AllByRecursion (λ e. (1 ≤ e.0) × (e.0 < number))
 
 below_filtered : (p : Numbered → Bool) (number : ℕ) (xs : List Numbered) → AreBelow number xs → AreBelow number (filter p xs)
-below_filtered p number [] below = tt
-below_filtered p number (x ∷ xs) below = go (p x) (below_filtered p number xs below.1)
-  where
-    go : (b : Bool) → AreBelow number (filter p xs) → AreBelow number (cond b (x ∷ filter p xs) (filter p xs))
-    go true rest = (below.0, rest)
-    go false rest = rest
+below_filtered p number xs below =
+    let P = λ (e : Numbered). (1 ≤ e.0) × (e.0 < number) in
+    recursion_from_All P (filter p xs) (All-filter p P xs (All-from_recursion P xs below))
 
 number_behind : (number : ℕ) (m : Made) (xs ys : List Numbered) → AreBelow number xs → lemma_number number (xs ++ (number, m) ∷ ys) ≡ suc (length xs)
-number_behind number m [] ys below = go (nat_eq number number) (eq-itself number)
-  where
-    eq-itself : (n : ℕ) → nat_eq n n ≡ true
-    eq-itself n = search arith
-
-    go : (b : Bool) → b ≡ true → cond b 1 (suc (lemma_number number ys)) ≡ 1
-    go true e = refl
-    go false e = absurd (cc)
-number_behind number m (x ∷ xs) ys below = go (nat_eq number x.0) refl (number_behind number m xs ys below.1)
-  where
-    go : (b : Bool) → nat_eq number x.0 ≡ b → lemma_number number (xs ++ (number, m) ∷ ys) ≡ suc (length xs) → cond b 1 (suc (lemma_number number (xs ++ (number, m) ∷ ys))) ≡ suc (suc (length xs))
-    go true e rest = let same : number ≡ x.0 = eqb-true number x.0 e in absurd (omega (arith, below.0.1))
-    go false e rest = ap suc rest
+number_behind number m [] ys below = grind (arith, nat_tests)
+number_behind number m (x ∷ xs) ys below = let rest = number_behind number m xs ys below.1 in let first = below.0 in grind (arith, nat_tests)
 
 fewer : (p : Numbered → Bool) (xs : List Numbered) → length (filter p xs) ≤ length xs
 fewer p [] = omega arith
-fewer p (x ∷ xs) = go (p x) (fewer p xs)
-  where
-    go : (b : Bool) → length (filter p xs) ≤ length xs → length (cond b (x ∷ filter p xs) (filter p xs)) ≤ suc (length xs)
-    go true rest = omega (arith, rest)
-    go false rest = omega (arith, rest)
+fewer p (x ∷ xs) = let rest = fewer p xs in grind arith
 
 -- rules in ascending order
 module _ (made : List Made) (target : Made) where
@@ -99,40 +83,29 @@ module _ (made : List Made) (target : Made) where
   pub taken : (numbers front : List ℕ) (number : ℕ) (table : List Replacement) (lemmas : List Made) → numbers ≡ front ++ number ∷ [] → IsUnderWay numbers table lemmas
       → (1 ≤ number) × (number - 1 < length made) × ((m : Made) → m ≡ get_or made (number - 1) m → IsTaken front number m table lemmas)
   taken numbers front number table lemmas e u =
-      go u.rest (sym (ap reverse e ∙ reverse-append front (number ∷ [])) ∙ u.numbers_are) u.numbered u.whole
-    where
-      go : (rest : List Numbered) → number ∷ reverse front ≡ map (λ e. e.0) rest → AreNumbered made rest → u.done ++ rest ≡ needed_rules made target
-          → (1 ≤ number) × (number - 1 < length made) × ((m : Made) → m ≡ get_or made (number - 1) m → IsTaken front number m table lemmas)
-      go [] same numbered whole = absurd (cc)
-      go (x ∷ rest) same numbered whole =
-          let first : x.0 ≡ number = cc in
-          let later : reverse front ≡ map (λ e. e.0) rest = cc in
-          let positive : 1 ≤ number = subst (λ n. 1 ≤ n) first numbered.0.0 in
-          let inside : number - 1 < length made = subst (λ n. n - 1 < length made) first (slice_get_within made (x.0 - 1) x.1 numbered.0.1) in (
-            positive,
-            inside,
-            λ m item.
-                let stands : slice_get made (number - 1) ≡ Some x.1 = subst (λ n. slice_get made (n - 1) ≡ Some x.1) first numbered.0.1 in
-                let is : x.1 ≡ m = sym (item ∙ get_or_from_slice_get made (number - 1) x.1 m stands) in
-                let pair : ◌≡◌ {A = Numbered} x (number, m) = λ i. (first i, is i) in
-                let whole_is : u.done ++ (number, m) ∷ rest ≡ needed_rules made target = subst (λ (y : Numbered). u.done ++ y ∷ rest ≡ needed_rules made target) pair whole in
-                let above = above_first 0 u.done (number, m) rest (subst (Above target 0) (sym whole_is) (needed_ascend target 0 made)) in
-                record {
-                  done = u.done;
-                  rest = rest;
-                  whole = whole_is;
-                  numbers_are = later;
-                  numbered = numbered.1;
-                  sized = u.sized;
-                  named = u.named;
-                  lemmas_are = u.lemmas_are;
-                  positive = positive;
-                  inside = inside;
-                  item = stands ∙ ap Some is;
-                  below = above.1;
-                  later = omega (arith, above.0);
-                },
-          )
+      let n = next_number made target numbers front number u.rest e u.numbers_are u.numbered in (
+        n.positive,
+        slice_get_within made (number - 1) n.m n.item,
+        λ m item.
+            let is : n.m ≡ m = sym (item ∙ get_or_from_slice_get made (number - 1) n.m m n.item) in
+            let whole_is : u.done ++ (number, m) ∷ n.later ≡ needed_rules made target = ap (λ x. u.done ++ (number, x) ∷ n.later) (sym is) ∙ ap (λ l. u.done ++ l) (sym n.rest_is) ∙ u.whole in
+            let above = above_first 0 u.done (number, m) n.later (subst (Above target 0) (sym whole_is) (needed_ascend target 0 made)) in
+            record {
+              done = u.done;
+              rest = n.later;
+              whole = whole_is;
+              numbers_are = n.numbers_are;
+              numbered = n.numbered;
+              sized = u.sized;
+              named = u.named;
+              lemmas_are = u.lemmas_are;
+              positive = n.positive;
+              inside = slice_get_within made (number - 1) n.m n.item;
+              item = n.item ∙ ap Some is;
+              below = above.1;
+              later = omega (arith, above.0);
+            },
+      )
 
   -- there are fewer lemmas than the number says
   pub lemmas_before : (numbers : List ℕ) (number : ℕ) (m : Made) (table : List Replacement) (lemmas : List Made) → IsTaken numbers number m table lemmas → length lemmas < number
@@ -159,12 +132,10 @@ module _ (made : List Made) (target : Made) where
 
         place : is_lemma m ≡ true → lemma_number number (lemma_rules made target) ≡ length lemmas + 1
         place e =
+            let next : suc (length (lemmas_of t.done)) ≡ length lemmas + 1 = omega (arith, counted) in
             ap (lemma_number number) (parts ∙ ap (λ l. lemmas_of t.done ++ l) (first e))
             ∙ number_behind number m (lemmas_of t.done) (lemmas_of t.rest) (below_filtered (λ e. is_lemma e.1) number t.done t.below)
-            ∙ ap suc counted ∙ next (length lemmas)
-          where
-            next : (n : ℕ) → suc n ≡ n + 1
-            next n = omega arith
+            ∙ next
 
         go : (o : Option Replacement) → direct_of m ≡ o → unwrap_or o (lemma_at (lemma_number number (lemma_rules made target))) ≡ unwrap_or o (lemma_at (length lemmas + 1))
         go (Some x) e = refl
@@ -190,17 +161,11 @@ module _ (made : List Made) (target : Made) where
               (named_still table number x t.done t.below t.named) (here, tt));
           lemmas_are =
               pushed ∙ ap (λ l. l ++ filter is_lemma (m ∷ [])) t.lemmas_are
-              ∙ ap (λ l. map (λ (e : Numbered). e.1) (lemmas_of t.done) ++ l) (single (is_lemma m))
+              ∙ ap (λ l. map (λ (e : Numbered). e.1) (lemmas_of t.done) ++ l)
+              (elim (is_lemma m) as (λ b. cond b (m ∷ []) [] ≡ map (λ (e : Numbered). e.1) (cond b ((number, m) ∷ []) [])) [ true ↦ refl | false ↦ refl ])
               ∙ sym (map-append (λ (e : Numbered). e.1) (lemmas_of t.done) (lemmas_of ((number, m) ∷ [])))
               ∙ ap (map (λ (e : Numbered). e.1)) (sym (filter-append (λ (e : Numbered). is_lemma e.1) t.done ((number, m) ∷ [])));
         }
-      where
-        single : (b : Bool) → cond b (m ∷ []) [] ≡ map (λ (e : Numbered). e.1) (cond b ((number, m) ∷ []) [])
-        single true = refl
-        single false = refl
-
-  all_numbered : AreNumbered made (needed_rules made target)
-  all_numbered = numbered_from made target 0 made (λ k m h. let same : k ≡ 0 + k = omega arith in subst (λ n. slice_get made n ≡ Some m) same h)
 
   pub starts : (numbers : List ℕ) (table : List Replacement) (lemmas : List Made) → reverse numbers ≡ map (λ e. e.0) (needed_rules made target) → length table ≡ length made → lemmas ≡ [] → IsUnderWay numbers table lemmas
   starts numbers table lemmas e sized none = record {
@@ -208,7 +173,7 @@ module _ (made : List Made) (target : Made) where
     rest = needed_rules made target;
     whole = refl;
     numbers_are = e;
-    numbered = all_numbered;
+    numbered = all_numbered made target;
     sized = sized;
     named = tt;
     lemmas_are = none;
@@ -216,11 +181,7 @@ module _ (made : List Made) (target : Made) where
 
   -- with no number left all rules are named
   finished : (numbers : List ℕ) (table : List Replacement) (lemmas : List Made) → numbers ≡ [] → (u : IsUnderWay numbers table lemmas) → u.done ≡ needed_rules made target
-  finished numbers table lemmas e u = go u.rest (sym (ap reverse e) ∙ u.numbers_are) u.whole
-    where
-      go : (rest : List Numbered) → ◌≡◌ {A = List ℕ} [] (map (λ e. e.0) rest) → u.done ++ rest ≡ needed_rules made target → u.done ≡ needed_rules made target
-      go [] same whole = sym (append-nil u.done) ∙ whole
-      go (x ∷ rest) same whole = absurd (cc)
+  finished numbers table lemmas e u = sym (append-nil u.done) ∙ ap (λ r. u.done ++ r) (sym (none_left numbers u.rest e u.numbers_are)) ∙ u.whole
 
   pub all_named : (numbers : List ℕ) (table : List Replacement) (lemmas : List Made) → numbers ≡ [] → IsUnderWay numbers table lemmas → NamesRules made target table
   all_named numbers table lemmas e u = record { sized = u.sized; named = subst (AreNamed table) (finished numbers table lemmas e u) u.named }
@@ -239,17 +200,12 @@ module _ (made : List Made) (target : Made) where
 
   records_kept : (es : List Numbered) → AreRecords made → AreNumbered made es → All (IsRecord (length made)) (map (λ e. e.1) (filter (λ e. is_lemma e.1) es))
   records_kept [] records numbered = All-nil (IsRecord (length made))
-  records_kept (e ∷ es) records numbered = go (is_lemma e.1) (records_kept es records numbered.1)
-    where
-      here : IsRecord (length made) e.1
-      here =
-          let inside = slice_get_within made (e.0 - 1) e.1 numbered.0.1 in
-          wider (e.0 - 1) (length made) e.1 (omega (arith, inside)) (records.at (e.0 - 1) e.1 numbered.0.1)
-
-      go : (b : Bool) → All (IsRecord (length made)) (map (λ (n : Numbered). n.1) (filter (λ (n : Numbered). is_lemma n.1) es))
-          → All (IsRecord (length made)) (map (λ (n : Numbered). n.1) (cond b (e ∷ filter (λ (n : Numbered). is_lemma n.1) es) (filter (λ (n : Numbered). is_lemma n.1) es)))
-      go true rest = All-cons (IsRecord (length made)) e.1 (map (λ (n : Numbered). n.1) (filter (λ (n : Numbered). is_lemma n.1) es)) here rest
-      go false rest = rest
+  records_kept (e ∷ es) records numbered =
+      let rest = records_kept es records numbered.1 in
+      let inside = slice_get_within made (e.0 - 1) e.1 numbered.0.1 in
+      let here = wider (e.0 - 1) (length made) e.1 (omega (arith, inside)) (records.at (e.0 - 1) e.1 numbered.0.1) in
+      cond_both (is_lemma e.1) _ _ (λ (l : List Numbered). All (IsRecord (length made)) (map (λ n. n.1) l))
+      (λ _. All-cons (IsRecord (length made)) e.1 (map (λ (n : Numbered). n.1) (filter (λ (n : Numbered). is_lemma n.1) es)) here rest) (λ _. rest)
 
   pub are_records : AreRecords made → All (IsRecord (length made)) (map (λ e. e.1) (lemma_rules made target))
-  are_records records = records_kept (needed_rules made target) records all_numbered
+  are_records records = records_kept (needed_rules made target) records (all_numbered made target)

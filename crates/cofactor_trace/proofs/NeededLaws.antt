@@ -1,5 +1,7 @@
 -- The needed rules one by one, and their expansions.
 use Rattle.std.proofs.Common.{◌≡◌, ℕ, suc, ◌+◌, ◌-◌, ◌<◌, ◌≤◌, get_or, Bool, true, false, ◌||◌, cond, List, [], ◌∷◌, ◌++◌, map, reverse, length, drop, Some, Ok, refl, sym, ap, subst, ◌∙◌, arith}
+use Rattle.std.proofs.Math.Bool.{or-false}
+use Rattle.std.proofs.lemmas.Bool.{cond_both}
 use Rattle.std.specs.List.{AllByRecursion, list_any, slice_get}
 use Rattle.std.proofs.lemmas.List.{reverse-append, drop_all}
 use Rattle.nc_polynomial.proofs.Steps.{drop_next}
@@ -18,14 +20,7 @@ use Rattle.std.proofs.lemmas.Option.{slice_get_within, get_or_from_slice_get}
 
 -- what the records name, with one record more
 pub named_with : (n : ℕ) (target m : Made) (rest : List Made) → is_named n (target ∷ rest) || list_any (λ r. is_rule n r.from) m.rows ≡ is_named n (target ∷ (m ∷ rest))
-named_with n target m rest = go (list_any (λ r. is_rule n r.from) target.rows) (is_named n rest) (list_any (λ r. is_rule n r.from) m.rows)
-  where
-    go : (a b d : Bool) → (a || b) || d ≡ a || (d || b)
-    go true b d = refl
-    go false true true = refl
-    go false true false = refl
-    go false false true = refl
-    go false false false = refl
+named_with n target m rest = grind arith
 
 -- the needed rules after a place
 abbrev pub needed_behind : Made → List Made → ℕ → List Numbered
@@ -48,13 +43,9 @@ module _ (made : List Made) (target : Made) where
       let nothing : needed_behind target made (length made) ≡ [] = ap (needed_from target (suc (length made))) (drop_all (length made) made (omega arith)) in
       record {
         sized = sized;
-        marks = λ k h. marks k h ∙ or_nothing (list_any (λ r. is_rule (k + 1) r.from) target.rows) ∙ ap (λ l. is_named (k + 1) (target ∷ records_of l)) (sym nothing);
+        marks = λ k h. marks k h ∙ sym (or-false _) ∙ ap (λ l. is_named (k + 1) (target ∷ records_of l)) (sym nothing);
         found = ap reverse none ∙ ap (map (λ e. e.0)) (sym nothing);
       }
-    where
-      or_nothing : (b : Bool) → b ≡ b || false
-      or_nothing true = refl
-      or_nothing false = refl
 
   module _ (place : ℕ) (m : Made) (inside : place < length made) (item : m ≡ get_or made place m) where
     next_is : (behind : ℕ) → behind ≡ place + 1 → needed_behind target made place
@@ -97,6 +88,11 @@ module _ (made : List Made) (target : Made) where
 abbrev pub AreNumbered : List Made → List Numbered → Type 0
 AreNumbered made = AllByRecursion (λ e. (1 ≤ e.0) × (slice_get made (e.0 - 1) ≡ Some e.1))
 
+-- with no number left no rule is left
+pub none_left : (numbers : List ℕ) (rest : List Numbered) → numbers ≡ [] → reverse numbers ≡ map (λ e. e.0) rest → rest ≡ []
+none_left numbers [] e h = refl
+none_left numbers (x ∷ rest) e h = absurd (cc (sym (ap reverse e) ∙ h))
+
 module _ (made : List Made) (target : Made) where
   -- the rules that are left have the numbers, the last one first, and give what all give
   pub record IsUnderWay (numbers : List ℕ) (expansions : Expansions) : Type 0 where
@@ -114,33 +110,48 @@ module _ (made : List Made) (target : Made) where
     pub item : slice_get made (number - 1) ≡ Some m
     pub result : expansion_from expansions ((number, m) ∷ rest) target ≡ expansion_of made target
 
+  -- the last number is that of the first rule that is left
+  pub record IsNext (front : List ℕ) (number : ℕ) (rest : List Numbered) : Type 0 where
+    pub m : Made
+    pub later : List Numbered
+    pub rest_is : rest ≡ (number, m) ∷ later
+    pub numbers_are : reverse front ≡ map (λ e. e.0) later
+    pub numbered : AreNumbered made later
+    pub positive : 1 ≤ number
+    pub item : slice_get made (number - 1) ≡ Some m
+
+  pub next_number : (numbers front : List ℕ) (number : ℕ) (rest : List Numbered) → numbers ≡ front ++ number ∷ [] → reverse numbers ≡ map (λ e. e.0) rest → AreNumbered made rest → IsNext front number rest
+  next_number numbers front number [] e same numbered = absurd (cc (reverse-append front (number ∷ []), ap reverse e))
+  next_number numbers front number (x ∷ rest) e same numbered =
+      let both : number ∷ reverse front ≡ x.0 ∷ map (λ e. e.0) rest = sym (ap reverse e ∙ reverse-append front (number ∷ [])) ∙ same in
+      let first : x.0 ≡ number = cc in
+      record {
+        m = x.1;
+        later = rest;
+        rest_is = λ i. (first i, x.1) ∷ rest;
+        numbers_are = cc;
+        numbered = numbered.1;
+        positive = subst (λ n. 1 ≤ n) first numbered.0.0;
+        item = subst (λ n. slice_get made (n - 1) ≡ Some x.1) first numbered.0.1;
+      }
+
   pub taken_number : (numbers front : List ℕ) (number : ℕ) (expansions : Expansions) → numbers ≡ front ++ number ∷ [] → IsUnderWay numbers expansions → (1 ≤ number) × (number - 1 < length made)
-  taken_number numbers front number expansions e u = go u.rest (sym (ap reverse e ∙ reverse-append front (number ∷ [])) ∙ u.numbers_are) u.numbered
-    where
-      go : (rest : List Numbered) → number ∷ reverse front ≡ map (λ e. e.0) rest → AreNumbered made rest → (1 ≤ number) × (number - 1 < length made)
-      go [] same numbered = absurd (cc)
-      go (x ∷ rest) same numbered =
-          let first : x.0 ≡ number = cc in
-          (subst (λ n. 1 ≤ n) first numbered.0.0, subst (λ n. n - 1 < length made) first (slice_get_within made (x.0 - 1) x.1 numbered.0.1))
+  taken_number numbers front number expansions e u =
+      let n = next_number numbers front number u.rest e u.numbers_are u.numbered in
+      (n.positive, slice_get_within made (number - 1) n.m n.item)
 
   pub taken : (numbers front : List ℕ) (number : ℕ) (m : Made) (expansions : Expansions) → numbers ≡ front ++ number ∷ [] → m ≡ get_or made (number - 1) m → IsUnderWay numbers expansions → IsTaken front number m expansions
-  taken numbers front number m expansions e item u = go u.rest (sym (ap reverse e ∙ reverse-append front (number ∷ [])) ∙ u.numbers_are) u.numbered u.result
-    where
-      go : (rest : List Numbered) → number ∷ reverse front ≡ map (λ e. e.0) rest → AreNumbered made rest → expansion_from expansions rest target ≡ expansion_of made target → IsTaken front number m expansions
-      go [] same numbered result = absurd (cc)
-      go (x ∷ rest) same numbered result =
-          let first : number ≡ x.0 = cc in
-          let later : reverse front ≡ map (λ e. e.0) rest = cc in
-          let stands : slice_get made (number - 1) ≡ Some x.1 = subst (λ n. slice_get made (n - 1) ≡ Some x.1) (sym first) numbered.0.1 in
-          let is : m ≡ x.1 = item ∙ get_or_from_slice_get made (number - 1) x.1 m stands in
-          record {
-            rest = rest;
-            numbers_are = later;
-            numbered = numbered.1;
-            positive = subst (λ n. 1 ≤ n) (sym first) numbered.0.0;
-            item = stands ∙ ap Some (sym is);
-            result = (λ i. expansion_from expansions ((first i, is i) ∷ rest) target) ∙ result;
-          }
+  taken numbers front number m expansions e item u =
+      let n = next_number numbers front number u.rest e u.numbers_are u.numbered in
+      let is : m ≡ n.m = item ∙ get_or_from_slice_get made (number - 1) n.m m n.item in
+      record {
+        rest = n.later;
+        numbers_are = n.numbers_are;
+        numbered = n.numbered;
+        positive = n.positive;
+        item = n.item ∙ ap Some (sym is);
+        result = (λ i. expansion_from expansions ((number, is i) ∷ n.later) target) ∙ ap (λ es. expansion_from expansions es target) (sym n.rest_is) ∙ u.result;
+      }
 
   -- the expansion of the rule that was taken is put in
   pub goes_on : (numbers : List ℕ) (number : ℕ) (m : Made) (expansions new : Expansions) (c : Cofactors) → IsTaken numbers number m expansions
@@ -162,29 +173,24 @@ module _ (made : List Made) (target : Made) where
 
   -- with no number left it is the target's turn
   pub last_turn : (numbers : List ℕ) (expansions : Expansions) → numbers ≡ [] → IsUnderWay numbers expansions → record_expansion (known_from expansions) target ≡ expansion_of made target
-  last_turn numbers expansions e u = go u.rest (sym (ap reverse e) ∙ u.numbers_are) u.result
-    where
-      go : (rest : List Numbered) → ◌≡◌ {A = List ℕ} [] (map (λ e. e.0) rest) → expansion_from expansions rest target ≡ expansion_of made target → record_expansion (known_from expansions) target ≡ expansion_of made target
-      go [] same result = result
-      go (x ∷ rest) same result = absurd (cc)
+  last_turn numbers expansions e u = ap (λ es. expansion_from expansions es target) (sym (none_left numbers u.rest e u.numbers_are)) ∙ u.result
 
   pub numbered_from : (place : ℕ) (xs : List Made) → ((k : ℕ) (m : Made) → slice_get xs k ≡ Some m → slice_get made (place + k) ≡ Some m) → AreNumbered made (needed_from target (suc place) xs)
   numbered_from place [] h = tt
   numbered_from place (m ∷ xs) h =
       let place_is : place + 0 ≡ suc place - 1 = omega arith in
+      let first : (1 ≤ suc place) × (slice_get made (suc place - 1) ≡ Some m) = (omega arith, subst (λ n. slice_get made n ≡ Some m) place_is (h 0 m refl)) in
       let later = numbered_from (suc place) xs (λ k x e. let next : place + suc k ≡ suc place + k = omega arith in subst (λ n. slice_get made n ≡ Some x) next (h (suc k) x e)) in
-      go (is_named (suc place) (target ∷ records_of (needed_from target (suc (suc place)) xs))) (omega arith, subst (λ n. slice_get made n ≡ Some m) place_is (h 0 m refl)) later
-    where
-      go : (b : Bool) → (1 ≤ suc place) × (slice_get made (suc place - 1) ≡ Some m) → AreNumbered made (needed_from target (suc (suc place)) xs)
-          → AreNumbered made (cond b ((suc place, m) ∷ needed_from target (suc (suc place)) xs) (needed_from target (suc (suc place)) xs))
-      go true first later = (first, later)
-      go false first later = later
+      cond_both (is_named (suc place) (target ∷ records_of (needed_from target (suc (suc place)) xs))) _ _ (AreNumbered made) (λ _. (first, later)) (λ _. later)
+
+  pub all_numbered : AreNumbered made (needed_rules made target)
+  all_numbered = numbered_from 0 made (λ k m h. let same : k ≡ 0 + k = omega arith in subst (λ n. slice_get made n ≡ Some m) same h)
 
   pub starts : (numbers : List ℕ) (expansions : Expansions) → reverse numbers ≡ map (λ e. e.0) (needed_rules made target) → expansions ≡ [] → IsUnderWay numbers expansions
   starts numbers expansions e none = record {
     rest = needed_rules made target;
     numbers_are = e;
-    numbered = numbered_from 0 made (λ k m h. let same : k ≡ 0 + k = omega arith in subst (λ n. slice_get made n ≡ Some m) same h);
+    numbered = all_numbered;
     result = ap (λ es. expansion_from es (needed_rules made target) target) none;
   }
 

@@ -1,9 +1,11 @@
 -- Expansions one after another balance, since each stands on balanced ones.
-use Rattle.std.proofs.Common.{◌≡◌, ◌⊎◌, inl, inr, ℕ, zero, suc, ◌+◌, ◌-◌, ◌≤◌, ℤ, pos, ◌<ℤ◌, Bool, true, false, ◌||◌, List, [], ◌∷◌, nat_eq, eqb-true, eq-eqb, Some, Result, Ok, Err, unwrap_or, sym, refl, ap, subst, ◌∙◌, arith, cond}
+use Rattle.std.proofs.Common.{◌≡◌, ℕ, suc, ◌-◌, ℤ, pos, ◌<ℤ◌, Bool, true, ◌||◌, List, [], ◌∷◌, nat_eq, eqb-true, eq-eqb, Result, Ok, Err, unwrap_or, sym, refl, ap, subst, ◌∙◌, arith}
+use Rattle.std.proofs.lemmas.Bool.{cond_both, or_left, or_right}
+use Rattle.std.proofs.lemmas.Bool.Decides.{nat_tests}
 use Rattle.std.proofs.lemmas.Int.{ints}
-use Rattle.std.proofs.lemmas.Cmp.{ranked, tied_itself, nat_cmp_total}
+use Rattle.std.proofs.lemmas.Cmp.{ranked}
 use Rattle.std.proofs.lemmas.List.{append-nil}
-use Rattle.std.specs.List.{AllByRecursion, list_any, slice_get}
+use Rattle.std.specs.List.{AllByRecursion, list_any}
 use Rattle.std.specs.Map.{lookup}
 use Rattle.std.specs.BTreeMap.{insert_entry, is_at}
 use Rattle.std.specs.Ordering.{nat_cmp, is_eq, match_ordering}
@@ -23,34 +25,20 @@ use Rattle.cofactor_trace.specs.Laws.{Traces, ExpansionsBalance}
 use Rattle.cofactor_trace.specs.Needed.{IsRecord, is_rule, is_named, Numbered, needed_rules, Expansions, none, known_from, and_then, expansion_from}
 use Rattle.cofactor_trace.proofs.Balance.{IsKnown, record_balances}
 use Rattle.traced_rows.proofs.Between.{between-nothing}
-use Rattle.cofactor_trace.proofs.Closure.{or_cases, or_left, or_right, names, record_names, records_from, is_numbered, named_is_needed, Above, needed_ascend, numbered_above}
-use Rattle.cofactor_trace.proofs.NeededLaws.{records_of, AreNumbered, numbered_from}
+use Rattle.cofactor_trace.proofs.Closure.{names, record_names, is_numbered, named_is_needed, Above, needed_ascend, numbered_above}
+use Rattle.cofactor_trace.proofs.NeededLaws.{records_of, AreNumbered, all_numbered}
 
 -- whether the rule is listed
 abbrev is_key : ℕ → Expansions → Bool
 is_key n entries = list_any (λ e. is_eq (nat_cmp n e.0)) entries
 
 key_new : (entries : Expansions) (k : ℕ) (c : Cofactors) → is_key k (insert_entry nat_cmp entries k c) ≡ true
-key_new [] k c = or_left (is_eq (nat_cmp k k)) false (ap is_eq (tied_itself nat_cmp_total k))
-key_new (e ∷ entries) k c = go (nat_cmp k e.0) refl (key_new entries k c)
-  where
-    go : (o : Ordering) → nat_cmp k e.0 ≡ o → is_key k (insert_entry nat_cmp entries k c) ≡ true → is_key k (match_ordering o ((k, c) ∷ (e ∷ entries)) ((e.0, c) ∷ entries) (e ∷ insert_entry nat_cmp entries k c)) ≡ true
-    go Less same rest = or_left (is_eq (nat_cmp k k)) (is_key k (e ∷ entries)) (ap is_eq (tied_itself nat_cmp_total k))
-    go Equal same rest = or_left (is_eq (nat_cmp k e.0)) (is_key k entries) (ap is_eq same)
-    go Greater same rest = or_right (is_eq (nat_cmp k e.0)) (is_key k (insert_entry nat_cmp entries k c)) rest
+key_new [] k c = grind (arith, nat_tests)
+key_new (e ∷ entries) k c = let rest = key_new entries k c in grind (arith, nat_tests)
 
 key_kept : (entries : Expansions) (k n : ℕ) (c : Cofactors) → is_key n entries ≡ true → is_key n (insert_entry nat_cmp entries k c) ≡ true
 key_kept [] k n c h = absurd (cc)
-key_kept (e ∷ entries) k n c h = go (nat_cmp k e.0) (key_kept entries k n c)
-  where
-    go : (o : Ordering) → (is_key n entries ≡ true → is_key n (insert_entry nat_cmp entries k c) ≡ true) → is_key n (match_ordering o ((k, c) ∷ (e ∷ entries)) ((e.0, c) ∷ entries) (e ∷ insert_entry nat_cmp entries k c)) ≡ true
-    go Less rest = or_right (is_eq (nat_cmp n k)) (is_key n (e ∷ entries)) h
-    go Equal rest = h
-    go Greater rest = by (or_cases (is_eq (nat_cmp n e.0)) (is_key n entries) h)
-      where
-        by : (is_eq (nat_cmp n e.0) ≡ true) ⊎ (is_key n entries ≡ true) → is_eq (nat_cmp n e.0) || is_key n (insert_entry nat_cmp entries k c) ≡ true
-        by (inl here) = or_left (is_eq (nat_cmp n e.0)) (is_key n (insert_entry nat_cmp entries k c)) here
-        by (inr there) = or_right (is_eq (nat_cmp n e.0)) (is_key n (insert_entry nat_cmp entries k c)) (rest there)
+key_kept (e ∷ entries) k n c h = let rest = key_kept entries k n c in grind (arith, nat_tests)
 
 module _ (P : ℕ × Cofactors → Type 0) where
   pub each_with : (entries : Expansions) (k : ℕ) (c : Cofactors) → AllByRecursion P entries → P (k, c) → AllByRecursion P (insert_entry nat_cmp entries k c)
@@ -64,13 +52,10 @@ module _ (P : ℕ × Cofactors → Type 0) where
 
   found : (entries : Expansions) (n : ℕ) → is_key n entries ≡ true → AllByRecursion P entries → P (n, unwrap_or (lookup (is_at (nat_cmp n)) entries) none)
   found [] n h each = absurd (cc)
-  found (e ∷ entries) n h each = go (nat_cmp n e.0) refl h (λ there. found entries n there each.1)
-    where
-      go : (o : Ordering) → nat_cmp n e.0 ≡ o → is_eq o || is_key n entries ≡ true → (is_key n entries ≡ true → P (n, unwrap_or (lookup (is_at (nat_cmp n)) entries) none))
-          → P (n, unwrap_or (cond (is_eq o) (Some e.1) (lookup (is_at (nat_cmp n)) entries)) none)
-      go Less same listed rest = rest listed
-      go Equal same listed rest = let number : e.0 ≡ n = sym (ranked n e.0 Equal (sym same)) in subst (λ k. P (k, e.1)) number each.0
-      go Greater same listed rest = rest listed
+  found (e ∷ entries) n h each =
+      cond_both (is_eq (nat_cmp n e.0)) _ _ (λ o. P (n, unwrap_or o none))
+      (λ same. let number : e.0 ≡ n = grind (arith, nat_tests) in subst (λ k. P (k, e.1)) number each.0)
+      (λ other. found entries n (grind (arith, nat_tests)) each.1)
 
 -- one expansion after another
 module _ (generators rules : List (List (ℤ × List ℕ))) (target : Made) (p : List Term) where
@@ -103,48 +88,26 @@ module _ (generators rules : List (List (ℤ × List ℕ))) (target : Made) (p :
       → expansion_from expansions rest target ≡ Ok c → IsCombination generators (rows_of c.rows) c.denominator p
   passes expansions place [] c each covered above traces scale_in traced ends =
       record_balances generators rules (known_from expansions) target p c scale_in
-      (rows_known expansions target.rows each (λ n e. listed n (or_cases (is_key n expansions) false (covered n (or_left (names n target.rows) false e)))))
-      traced ends
-    where
-      listed : (n : ℕ) → (is_key n expansions ≡ true) ⊎ (false ≡ true) → is_key n expansions ≡ true
-      listed n (inl e) = e
-      listed n (inr e) = absurd (cc)
+      (rows_known expansions target.rows each (λ n e. let here = covered n (or_left _ _ e) in grind arith)) traced ends
   passes expansions place (e ∷ rest) c each covered above traces scale_in traced ends =
       go (record_expansion (known_from expansions) e.1) refl ends
       (λ c1 known. passes (insert_entry nat_cmp expansions e.0 c1) e.0 rest c (each_with IsExpansion expansions e.0 c1 each known) (covered_then c1) above.1 traces.1 scale_in traced)
     where
       -- the rule's own rows name rules that are listed
       own : (n : ℕ) → names n e.1.rows ≡ true → is_key n expansions ≡ true
-      own n named = by (or_cases (is_key n expansions) (nat_eq n e.0 || is_numbered n rest) (covered n (or_right (names n target.rows) (names n e.1.rows || is_named n (records_of rest)) (or_left (names n e.1.rows) (is_named n (records_of rest)) named))))
-        where
-          range : (1 ≤ n) × (n ≤ e.0 - 1)
-          range = record_names (e.0 - 1) n e.1 traces.0.0 named
-
-          late : (nat_eq n e.0 ≡ true) ⊎ (is_numbered n rest ≡ true) → is_key n expansions ≡ true
-          late (inl same) = let number : n ≡ e.0 = eqb-true n e.0 same in absurd (omega (arith, range.0, range.1))
-          late (inr there) = let past = numbered_above target n e.0 rest above.1 there in absurd (omega (arith, range.0, range.1))
-
-          by : (is_key n expansions ≡ true) ⊎ (nat_eq n e.0 || is_numbered n rest ≡ true) → is_key n expansions ≡ true
-          by (inl listed) = listed
-          by (inr there) = late (or_cases (nat_eq n e.0) (is_numbered n rest) there)
+      own n named =
+          let range = record_names (e.0 - 1) n e.1 traces.0.0 named in
+          let past = numbered_above target n e.0 rest above.1 in
+          let listed = covered n (or_right _ _ (or_left _ _ named)) in
+          grind (arith, nat_tests)
 
       covered_then : (c1 : Cofactors) (n : ℕ) → is_named n (target ∷ records_of rest) ≡ true → is_key n (insert_entry nat_cmp expansions e.0 c1) || is_numbered n rest ≡ true
-      covered_then c1 n named = by (or_cases (is_key n expansions) (nat_eq n e.0 || is_numbered n rest) (covered n (more (or_cases (names n target.rows) (is_named n (records_of rest)) named))))
-        where
-          more : (names n target.rows ≡ true) ⊎ (is_named n (records_of rest) ≡ true) → is_named n (target ∷ (e.1 ∷ records_of rest)) ≡ true
-          more (inl h) = or_left (names n target.rows) (names n e.1.rows || is_named n (records_of rest)) h
-          more (inr h) = or_right (names n target.rows) (names n e.1.rows || is_named n (records_of rest)) (or_right (names n e.1.rows) (is_named n (records_of rest)) h)
-
-          new_keys : Expansions
-          new_keys = insert_entry nat_cmp expansions e.0 c1
-
-          last : (nat_eq n e.0 ≡ true) ⊎ (is_numbered n rest ≡ true) → is_key n (insert_entry nat_cmp expansions e.0 c1) || is_numbered n rest ≡ true
-          last (inl same) = or_left (is_key n (insert_entry nat_cmp expansions e.0 c1)) (is_numbered n rest) (subst (λ k. is_key k (insert_entry nat_cmp expansions e.0 c1) ≡ true) (sym (eqb-true n e.0 same)) (key_new expansions e.0 c1))
-          last (inr there) = or_right (is_key n (insert_entry nat_cmp expansions e.0 c1)) (is_numbered n rest) there
-
-          by : (is_key n expansions ≡ true) ⊎ (nat_eq n e.0 || is_numbered n rest ≡ true) → is_key n (insert_entry nat_cmp expansions e.0 c1) || is_numbered n rest ≡ true
-          by (inl listed) = or_left (is_key n (insert_entry nat_cmp expansions e.0 c1)) (is_numbered n rest) (key_kept expansions e.0 n c1 listed)
-          by (inr there) = last (or_cases (nat_eq n e.0) (is_numbered n rest) there)
+      covered_then c1 n named =
+          let new = λ (same : nat_eq n e.0 ≡ true). subst (λ k. is_key k (insert_entry nat_cmp expansions e.0 c1) ≡ true) (sym (eqb-true n e.0 same)) (key_new expansions e.0 c1) in
+          let kept = key_kept expansions e.0 n c1 in
+          let covers : is_named n (target ∷ (e.1 ∷ records_of rest)) ≡ true = grind arith in
+          let listed = covered n covers in
+          grind arith
 
       go : (r : Result Cofactors ExpandFault) → record_expansion (known_from expansions) e.1 ≡ r → and_then r (λ c. expansion_from (insert_entry nat_cmp expansions e.0 c) rest target) ≡ Ok c
           → ((c1 : Cofactors) → IsExpansion (e.0, c1) → expansion_from (insert_entry nat_cmp expansions e.0 c1) rest target ≡ Ok c → IsCombination generators (rows_of c.rows) c.denominator p)
@@ -156,12 +119,9 @@ module _ (generators rules : List (List (ℤ × List ℕ))) (target : Made) (p :
 pub expansions_balance : ExpansionsBalance
 expansions_balance generators rules made target p c records is_record traces traced ends =
     passes generators rules target p [] 0 (needed_rules made target) c tt
-    (λ n named. named_is_needed target made (records_from made records 0 made whole) is_record n named)
-    (needed_ascend target 0 made) (each (needed_rules made target) (numbered_from made target 0 made whole)) is_record.positive traced ends
+    (λ n named. named_is_needed target made records is_record n named)
+    (needed_ascend target 0 made) (each (needed_rules made target) (all_numbered made target)) is_record.positive traced ends
   where
-    whole : (k : ℕ) (m : Made) → slice_get made k ≡ Some m → slice_get made (zero + k) ≡ Some m
-    whole k m h = let same : k ≡ zero + k = omega arith in subst (λ n. slice_get made n ≡ Some m) same h
-
     each : (rest : List Numbered) → AreNumbered made rest → AllByRecursion (λ e. IsRecord (e.0 - 1) e.1 × Traces generators rules e.1 (generator_at rules e.0)) rest
     each [] h = tt
     each (e ∷ rest) h =

@@ -1,10 +1,10 @@
 -- Where the expansion of a record ends.
-use Rattle.std.proofs.Common.{◌≡◌, ℤ, pos, ◌*ℤ◌, List, [], ◌∷◌, ◌++◌, Option, Some, None, Result, Ok, refl, sym, ap, subst, ◌∙◌}
+use Rattle.std.proofs.Common.{◌≡◌, ℤ, pos, ◌*ℤ◌, List, [], ◌∷◌, ◌++◌, Option, Some, None, Ok, refl, sym, ap, subst, ◌∙◌}
 use Rattle.std.specs.Option.{option_map}
 use Rattle.coef_int.specs.declared.Overflow.{Overflow}
 use Rattle.coef_int.specs.Range.{IsCoefficient}
 use Rattle.coef_int.specs.Operations.{product_of, first_overflow}
-use Rattle.nc_polynomial.proofs.Chains.{first-fits}
+use Rattle.nc_polynomial.proofs.Chains.{first-fits, first-fails}
 use Rattle.traced_rows.specs.declared.Row.{Row}
 use Rattle.traced_rows.specs.declared.Made.{Made}
 use Rattle.traced_rows.specs.declared.certificate.CertRow.{CertRow}
@@ -12,11 +12,11 @@ use Rattle.traced_rows.specs.declared.certificate.Cofactors.{Cofactors}
 use Rattle.cofactor_trace.specs.declared.fault.ExpandFault.{ExpandFault}
 use Rattle.cofactor_trace.specs.declared.fault.ExpandFault.TheVariants as fault
 use Rattle.cofactor_trace.specs.Gathered.{gathered, sums_of_gathering}
-use Rattle.cofactor_trace.specs.Expansion.{Known, multiple_products, denominators, common_denominator, denominator_products, joined, joined_products, limit_fault, primitive, unless, overflow_in, record_expansion}
+use Rattle.cofactor_trace.specs.Expansion.{Known, multiple_products, denominators, common_denominator, denominator_products, joined, joined_products, limit_fault, primitive, overflow_in, record_expansion}
 use Rattle.cofactor_trace.specs.Faults.{Explains, IsFirst, IsOverflowOf}
 use Rattle.cofactor_trace.specs.Table.{Entries, with_rows, rows_in}
-use Rattle.cofactor_trace.proofs.Operations.{first-fails, first-behind}
-use Rattle.cofactor_trace.proofs.Halts.{explains-first, explains-later, ok-later, is_first-append, overflow-none}
+use Rattle.cofactor_trace.proofs.Operations.{first-behind}
+use Rattle.cofactor_trace.proofs.Halts.{explains-first, explains-later, ok-later, is_first-append, unless_ok, unmapped-none}
 use Rattle.cofactor_trace.proofs.TableLaws.{unless_overflow, rows_in-with_rows}
 
 module _ (known : Known) (m : Made) where
@@ -41,7 +41,7 @@ module _ (known : Known) (m : Made) where
   common_is rows common h = h.value ∙ ap (common_denominator known) h.same_rows
 
   none_before : (rows : List Row) (common : ℤ) → IsCommon rows common → first_overflow first_products ≡ None
-  none_before rows common h = overflow-none first_products (ap (λ l. overflow_in (multiple_products (pos 1) (denominators known l))) (sym h.same_rows) ∙ h.products)
+  none_before rows common h = unmapped-none fault.Overflow (first_overflow first_products) (ap (λ l. overflow_in (multiple_products (pos 1) (denominators known l))) (sym h.same_rows) ∙ h.products)
 
   -- the denominator
   pub at_common : (rows : List Row) (e : ExpandFault) → rows ≡ m.rows → IsFirst (overflow_in (multiple_products (pos 1) (denominators known rows))) e → Explains (record_expansion known m) e
@@ -104,14 +104,13 @@ module _ (known : Known) (m : Made) where
   no_product : (rows : List Row) (common : ℤ) (entries : Entries) → AddsUp rows common entries → first_overflow operations ≡ first_overflow (sums_of_gathering (joined known whole m.rows))
   no_product rows common entries h =
       first-behind (joined_products known whole m.rows) (sums_of_gathering (joined known whole m.rows))
-      (overflow-none (joined_products known whole m.rows) (here rows common h.begins (λ z l. overflow_in (joined_products known z l) ≡ None) h.products))
+      (unmapped-none fault.Overflow (first_overflow (joined_products known whole m.rows)) (here rows common h.begins (λ z l. overflow_in (joined_products known z l) ≡ None) h.products))
 
   first_of : (f : Option Overflow) (rows : List CertRow) (e : ExpandFault) → IsOverflowOf (unless_overflow f rows) e → IsFirst (option_map fault.Overflow f) e
   first_of None rows (fault.Overflow o) h = absurd (cc)
   first_of (Some p) rows (fault.Overflow o) h = ap (λ (o : Overflow). Some (fault.Overflow o)) (cc)
-  first_of f rows (fault.Rows letters) h = absurd h
-  first_of f rows fault.Size h = absurd h
   first_of f rows (fault.Memory e) h = tt
+  first_of f rows _ h = absurd h
 
   pub at_gathering : (rows : List Row) (common : ℤ) (entries : Entries) (e : ExpandFault) → AddsUp rows common entries → IsOverflowOf (rows_in entries) e → Explains (record_expansion known m) e
   at_gathering rows common entries e h stopped =
@@ -133,13 +132,9 @@ module _ (known : Known) (m : Made) where
       ∙ ap (λ l. Ok (primitive (m.scale *ℤ whole) l)) parts.1 ∙ ap (λ z. Ok (primitive (m.scale *ℤ z) out)) (sym (common_is rows common h.begins.found))
 
   -- a result has no fault before it
-  behind_fault : {A : Type 0} (first : Option ExpandFault) (r : Result A ExpandFault) (x : A) → unless first r ≡ Ok x → (first ≡ None) × (r ≡ Ok x)
-  behind_fault None r x h = (refl, h)
-  behind_fault (Some e) r x h = absurd (cc)
-
   pub primitive_is : (c : Cofactors) → record_expansion known m ≡ Ok c → (limit_fault (joined known whole m.rows) ≡ None) × (primitive (m.scale *ℤ whole) (gathered (joined known whole m.rows)) ≡ c)
   primitive_is c ends =
       let out = primitive (m.scale *ℤ whole) (gathered (joined known whole m.rows)) in
-      let limits = behind_fault (limit_fault (joined known whole m.rows)) _ c (behind_fault (overflow_in (denominator_products known m)) _ c ends).1 in
-      let last : Ok out ≡ Ok c = (behind_fault (overflow_in operations) (Ok out) c limits.1).1 in
+      let limits = unless_ok (limit_fault (joined known whole m.rows)) _ c (unless_ok (overflow_in (denominator_products known m)) _ c ends).1 in
+      let last : Ok out ≡ Ok c = (unless_ok (overflow_in operations) (Ok out) c limits.1).1 in
       (limits.0, cc)

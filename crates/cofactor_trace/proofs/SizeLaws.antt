@@ -1,5 +1,6 @@
 -- Counts that stop at the greatest number say which limit is exceeded.
-use Rattle.std.proofs.Common.{◌≡◌, ℕ, ◌+◌, ◌-◌, ◌^◌, ◌≤◌, ◌||◌, min, Bool, true, false, List, [], ◌∷◌, length, nat_lt, Option, Some, None, refl, ap, ◌∙◌, arith}
+use Rattle.std.proofs.Common.{sym, ◌<◌, ◌≡◌, ℕ, ◌+◌, ◌-◌, ◌^◌, ◌≤◌, ◌||◌, min, Bool, true, false, List, [], ◌∷◌, length, nat_lt, Option, Some, None, ap, ◌∙◌, arith}
+use Rattle.std.proofs.Math.Bool.{or-false}
 use Rattle.std.specs.Prelude.{if◌then◌else◌}
 use Rattle.std.proofs.lemmas.Bool.Decides.{nat_tests}
 use Rattle.std.proofs.lemmas.List.Sums.{sum_by-cons}
@@ -14,18 +15,10 @@ use Rattle.cofactor_trace.specs.Sizes.{measured, measured_all, limit_of}
 abbrev pub no_size : Size
 no_size = record { long = false; rows = 0; letters = 0 }
 
-or_nothing : (b : Bool) → b ≡ b || false
-or_nothing true = refl
-or_nothing false = refl
-
-or_later : (a b c : Bool) → (a || b) || c ≡ a || (b || c)
-or_later true b c = refl
-or_later false b c = refl
-
 -- what is measured of rows, from any size on
 long_is : (size : Size) (rows : List CertRow) → (measured_all size rows).long ≡ size.long || has_long_word rows
-long_is size [] = or_nothing size.long
-long_is size (r ∷ rows) = long_is (measured size r) rows ∙ or_later size.long (nat_lt 500 (length r.left) || nat_lt 500 (length r.right)) (has_long_word rows)
+long_is size [] = sym (or-false size.long)
+long_is size (r ∷ rows) = let rest = long_is (measured size r) rows in grind arith
 
 rows_is : (size : Size) (rows : List CertRow) → size.rows ≤ 2 ^ 64 - 1 → (measured_all size rows).rows ≡ min (size.rows + length rows) (2 ^ 64 - 1)
 rows_is size [] h = omega arith
@@ -44,17 +37,14 @@ letters_is size (r ∷ rows) h =
 limits : Bool → Bool → Bool → Option ExpandFault
 limits long rows letters = if long then Some fault.Size else (if rows then Some (fault.Rows false) else (if letters then Some (fault.Rows true) else None))
 
-above_rows : (n : ℕ) → nat_lt 200000 (min (0 + n) (2 ^ 64 - 1)) ≡ nat_lt 200000 n
-above_rows n = grind (arith, nat_tests)
-
-above_letters : (n : ℕ) → nat_lt 1000000 (min (0 + n) (2 ^ 64 - 1)) ≡ nat_lt 1000000 n
-above_letters n = grind (arith, nat_tests)
+pub below_cap : (limit n : ℕ) → limit < 2 ^ 64 - 1 → nat_lt limit (min (0 + n) (2 ^ 64 - 1)) ≡ nat_lt limit n
+below_cap limit n h = grind (arith, nat_tests)
 
 pub limit_of-measured : (rows : List CertRow) → limit_of (measured_all no_size rows) ≡ limit_fault rows
 unfolding limits
 limit_of-measured rows =
     let size = measured_all no_size rows in
     let a = long_is no_size rows in
-    let b = ap (nat_lt 200000) (rows_is no_size rows (omega arith)) ∙ above_rows (length rows) in
-    let c = ap (nat_lt 1000000) (letters_is no_size rows (omega arith)) ∙ above_letters (letter_count rows) in
+    let b = ap (nat_lt 200000) (rows_is no_size rows (omega arith)) ∙ below_cap 200000 (length rows) (omega arith) in
+    let c = ap (nat_lt 1000000) (letters_is no_size rows (omega arith)) ∙ below_cap 1000000 (letter_count rows) (omega arith) in
     λ i. limits (a i) (b i) (c i)

@@ -1,5 +1,5 @@
 -- The table of rows lists each multiple once, ascending, with the sum of its coefficients or the first overflow on the way to it.
-use Rattle.std.proofs.Common.{◌≡◌, ℤ, pos, ◌+ℤ◌, Bool, true, false, ◌||◌, cond, List, [], ◌∷◌, ◌++◌, map, filter, Option, Some, None, Result, Ok, Err, unwrap_or, refl, sym, ap, ap₂, subst, ◌∙◌, arith, append_assoc}
+use Rattle.std.proofs.Common.{◌≡◌, ℤ, pos, ◌+ℤ◌, Bool, true, false, ◌||◌, cond, List, [], ◌∷◌, ◌++◌, map, Option, Some, None, Result, Ok, Err, unwrap_or, refl, sym, ap, ap₂, subst, ◌∙◌, arith, append_assoc}
 use Rattle.std.proofs.lemmas.Cmp.{ranked, tied_itself}
 use Rattle.std.proofs.lemmas.List.{append-nil, map-append}
 use Rattle.std.proofs.lemmas.List.Sums.{fold-append}
@@ -13,7 +13,10 @@ use Rattle.std.specs.BTreeSet.{insert_key}
 use Rattle.std.specs.Ordering.{is_eq, match_ordering, ordering_reverse, ordering_then, nat_cmp}
 use Rattle.std.specs.declared.cmp.Ordering.{Ordering}
 use Rattle.std.specs.declared.cmp.Ordering.TheVariants.{Less, Equal, Greater}
+use Rattle.std.proofs.lemmas.Bool.{cond_both}
 use Rattle.std.proofs.lemmas.Bool.Decides.{nat_tests}
+use Rattle.std.proofs.lemmas.List.Elements.{All-from_recursion, All-weaker, recursion_from_All}
+use Rattle.std.proofs.lemmas.Map.Views.{All-insert_key}
 use Rattle.coef_int.specs.declared.Overflow.{Overflow}
 use Rattle.coef_int.specs.Range.{is_coefficient}
 use Rattle.coef_int.specs.Operations.{sum_of, first_overflow}
@@ -26,11 +29,7 @@ use Rattle.cofactor_trace.specs.Table.{Sum, IsInRange, added, Entries, sum_in, w
 
 pub added-in_range : (s : Sum) (c : ℤ) → IsInRange (added s c)
 added-in_range (Err o) c = tt
-added-in_range (Ok so_far) c = go (is_coefficient (so_far +ℤ c)) refl
-  where
-    go : (b : Bool) → is_coefficient (so_far +ℤ c) ≡ b → IsInRange (cond b (Ok (so_far +ℤ c)) (Err (sum_of so_far c)))
-    go true e = grind (arith, nat_tests)
-    go false e = tt
+added-in_range (Ok so_far) c = cond_both (is_coefficient (so_far +ℤ c)) _ _ IsInRange (λ e. grind (arith, nat_tests)) (λ e. tt)
 
 -- sums
 abbrev pub sum_from : Sum → List ℤ → Sum
@@ -47,12 +46,10 @@ stays o (c ∷ cs) = stays o cs
 
 pub sum_from-running : (z : ℤ) (cs : List ℤ) → sum_from (Ok z) cs ≡ unless_overflow (first_overflow (running_sums z cs)) (fold ◌+ℤ◌ z cs)
 sum_from-running z [] = refl
-sum_from-running z (c ∷ cs) = go (is_coefficient (z +ℤ c)) (sum_from-running (z +ℤ c) cs)
-  where
-    go : (b : Bool) → sum_from (Ok (z +ℤ c)) cs ≡ unless_overflow (first_overflow (running_sums (z +ℤ c) cs)) (fold ◌+ℤ◌ (z +ℤ c) cs)
-        → sum_from (cond b (Ok (z +ℤ c)) (Err (sum_of z c))) cs ≡ unless_overflow (cond b (first_overflow (running_sums (z +ℤ c) cs)) (Some (sum_of z c))) (fold ◌+ℤ◌ (z +ℤ c) cs)
-    go true h = h
-    go false h = stays (sum_of z c) cs
+sum_from-running z (c ∷ cs) =
+    elim (is_coefficient (z +ℤ c)) as (λ b. sum_from (cond b (Ok (z +ℤ c)) (Err (sum_of z c))) cs
+    ≡ unless_overflow (cond b (first_overflow (running_sums (z +ℤ c) cs)) (Some (sum_of z c))) (fold ◌+ℤ◌ (z +ℤ c) cs))
+    [ true ↦ sum_from-running (z +ℤ c) cs | false ↦ stays (sum_of z c) cs ]
 
 -- the sum of each of some multiples
 abbrev pub sums_at : (Multiple → Sum) → List Multiple → Entries
@@ -85,9 +82,7 @@ abbrev pub is_among : List Multiple → Multiple → Bool
 is_among ms m = list_any (is_at (multiple_cmp m)) ms
 
 both_equal : (o p : Ordering) → ordering_then o p ≡ Equal → (o ≡ Equal) × (p ≡ Equal)
-both_equal Less p h = absurd (cc)
-both_equal Equal p h = (refl, h)
-both_equal Greater p h = absurd (cc)
+both_equal o p h = grind arith
 
 -- equal in the order is equal
 pub equal : (m n : Multiple) → multiple_cmp m n ≡ Equal → m ≡ n
@@ -104,37 +99,26 @@ itself m = tied_itself multiple_cmp_total m
 
 sum_in-sums : (f : Multiple → Sum) (ms : List Multiple) (m : Multiple) → sum_in (sums_at f ms) m ≡ cond (is_among ms m) (f m) (Ok (pos 0))
 sum_in-sums f [] m = refl
-sum_in-sums f (k ∷ ks) m = go (multiple_cmp m k) refl (sum_in-sums f ks m)
-  where
-    go : (o : Ordering) → multiple_cmp m k ≡ o → unwrap_or (lookup (is_at (multiple_cmp m)) (sums_at f ks)) (Ok (pos 0)) ≡ cond (is_among ks m) (f m) (Ok (pos 0))
-        → unwrap_or (cond (is_eq o) (Some (f k)) (lookup (is_at (multiple_cmp m)) (sums_at f ks))) (Ok (pos 0)) ≡ cond (is_eq o || is_among ks m) (f m) (Ok (pos 0))
-    go Less e h = h
-    go Equal e h = ap f (sym (equal m k e))
-    go Greater e h = h
+sum_in-sums f (k ∷ ks) m =
+    (elim (multiple_cmp m k) as (λ o. multiple_cmp m k ≡ o → unwrap_or (cond (is_eq o) (Some (f k)) (lookup (is_at (multiple_cmp m)) (sums_at f ks))) (Ok (pos 0)) ≡ cond (is_eq o || is_among ks m) (f m) (Ok (pos 0)))
+    [ Less ↦ λ e. sum_in-sums f ks m | Equal ↦ λ e. ap f (sym (equal m k e)) | Greater ↦ λ e. sum_in-sums f ks m ]) refl
 
 -- ascending lists of multiples
 pub all_inserted : (P : Multiple → Type 0) (ms : List Multiple) (m : Multiple) → AllByRecursion P ms → P m → AllByRecursion P (insert_key multiple_cmp ms m)
-all_inserted P [] m h p = (p, tt)
-all_inserted P (k ∷ ks) m h p = go (multiple_cmp m k) (all_inserted P ks m h.1 p)
-  where
-    go : (o : Ordering) → AllByRecursion P (insert_key multiple_cmp ks m) → AllByRecursion P (match_ordering o (m ∷ (k ∷ ks)) (k ∷ ks) (k ∷ insert_key multiple_cmp ks m))
-    go Less rest = (p, h)
-    go Equal rest = h
-    go Greater rest = (h.0, rest)
+all_inserted P ms m h p = recursion_from_All P _ (All-insert_key multiple_cmp m P ms (All-from_recursion P ms h) p)
 
 pub all_below : (m k : Multiple) (ks : List Multiple) → multiple_cmp m k ≡ Less → AllByRecursion (λ q. multiple_cmp k q ≡ Less) ks → AllByRecursion (λ q. multiple_cmp m q ≡ Less) ks
-all_below m k [] e h = tt
-all_below m k (q ∷ ks) e h = (multiple_cmp_total.trans m k q e h.0, all_below m k ks e h.1)
+all_below m k ks e h = recursion_from_All _ ks (All-weaker _ _ (λ q. multiple_cmp_total.trans m k q e) ks (All-from_recursion _ ks h))
 
 sorted_inserted : (ms : List Multiple) (m : Multiple) → IsStrictlySortedBy multiple_cmp ms → IsStrictlySortedBy multiple_cmp (insert_key multiple_cmp ms m)
 unfolding IsStrictlySortedBy
 sorted_inserted [] m h = (tt, tt)
-sorted_inserted (k ∷ ks) m h = go (multiple_cmp m k) refl (sorted_inserted ks m h.1)
-  where
-    go : (o : Ordering) → multiple_cmp m k ≡ o → IsStrictlySortedBy multiple_cmp (insert_key multiple_cmp ks m) → IsStrictlySortedBy multiple_cmp (match_ordering o (m ∷ (k ∷ ks)) (k ∷ ks) (k ∷ insert_key multiple_cmp ks m))
-    go Less e rest = ((e, all_below m k ks e h.0), h)
-    go Equal e rest = h
-    go Greater e rest = (all_inserted (λ q. multiple_cmp k q ≡ Less) ks m h.0 (multiple_cmp_total.antisymm k m ∙ ap ordering_reverse e), rest)
+sorted_inserted (k ∷ ks) m h =
+    (elim (multiple_cmp m k) as (λ o. multiple_cmp m k ≡ o → IsStrictlySortedBy multiple_cmp (match_ordering o (m ∷ (k ∷ ks)) (k ∷ ks) (k ∷ insert_key multiple_cmp ks m))) [
+      | Less ↦ λ e. ((e, all_below m k ks e h.0), h)
+      | Equal ↦ λ e. h
+      | Greater ↦ λ e. (all_inserted (λ q. multiple_cmp k q ≡ Less) ks m h.0 (multiple_cmp_total.antisymm k m ∙ ap ordering_reverse e), sorted_inserted ks m h.1)
+    ]) refl
 
 sorted_all : (ms : List Multiple) (keys : List Multiple) → IsStrictlySortedBy multiple_cmp ms → IsStrictlySortedBy multiple_cmp (fold (insert_key multiple_cmp) ms keys)
 sorted_all ms [] h = h
@@ -165,67 +149,32 @@ inserted f g m (k ∷ ks) h other = go (multiple_cmp m k) refl (inserted f g m k
     go Greater e rest = ap₂ (λ s es. (k, s) ∷ es) (sym (other k (ap is_eq e))) rest
 
 -- which multiples are listed
-or_swap : (a b c : Bool) → a || (b || c) ≡ b || (a || c)
-or_swap true true c = refl
-or_swap true false c = refl
-or_swap false b c = refl
-
-or_twice : (a b : Bool) → a || b ≡ a || (a || b)
-or_twice true b = refl
-or_twice false b = refl
-
 pub among_inserted : (ms : List Multiple) (m q : Multiple) → is_among (insert_key multiple_cmp ms m) q ≡ is_eq (multiple_cmp q m) || is_among ms q
 among_inserted [] m q = refl
-among_inserted (k ∷ ks) m q = go (multiple_cmp m k) refl (among_inserted ks m q)
-  where
-    go : (o : Ordering) → multiple_cmp m k ≡ o → is_among (insert_key multiple_cmp ks m) q ≡ is_eq (multiple_cmp q m) || is_among ks q
-        → is_among (match_ordering o (m ∷ (k ∷ ks)) (k ∷ ks) (k ∷ insert_key multiple_cmp ks m)) q ≡ is_eq (multiple_cmp q m) || (is_eq (multiple_cmp q k) || is_among ks q)
-    go Less e rest = refl
-    go Equal e rest =
-        or_twice (is_eq (multiple_cmp q k)) (is_among ks q)
-        ∙ ap (λ x. is_eq (multiple_cmp q x) || (is_eq (multiple_cmp q k) || is_among ks q)) (sym (equal m k e))
-    go Greater e rest = ap (λ b. is_eq (multiple_cmp q k) || b) rest ∙ or_swap (is_eq (multiple_cmp q k)) (is_eq (multiple_cmp q m)) (is_among ks q)
+among_inserted (k ∷ ks) m q =
+    let rest = among_inserted ks m q in
+    (elim (multiple_cmp m k) as (λ o. multiple_cmp m k ≡ o → is_among (match_ordering o (m ∷ (k ∷ ks)) (k ∷ ks) (k ∷ insert_key multiple_cmp ks m)) q ≡ is_eq (multiple_cmp q m) || (is_eq (multiple_cmp q k) || is_among ks q)) [
+      | Less ↦ λ e. refl
+      | Equal ↦ λ e. rw (equal m k e) (grind arith)
+      | Greater ↦ λ e. grind arith
+    ]) refl
 
 pub among_all : (rows : List CertRow) (ms : List Multiple) (q : Multiple)
     → is_among (fold (insert_key multiple_cmp) ms (map multiple_of rows)) q ≡ is_among ms q || list_any (λ r. is_eq (multiple_cmp q (multiple_of r))) rows
-among_all [] ms q = or_nothing (is_among ms q)
-  where
-    or_nothing : (b : Bool) → b ≡ b || false
-    or_nothing true = refl
-    or_nothing false = refl
+among_all [] ms q = grind arith
 among_all (r ∷ rows) ms q =
-    among_all rows (insert_key multiple_cmp ms (multiple_of r)) q
-    ∙ ap (λ b. b || list_any (λ s. is_eq (multiple_cmp q (multiple_of s))) rows) (among_inserted ms (multiple_of r) q)
-    ∙ turned (is_eq (multiple_cmp q (multiple_of r))) (is_among ms q) (list_any (λ s. is_eq (multiple_cmp q (multiple_of s))) rows)
-  where
-    turned : (a b c : Bool) → (a || b) || c ≡ b || (a || c)
-    turned true true c = refl
-    turned true false c = refl
-    turned false b c = refl
+    let rest = among_all rows (insert_key multiple_cmp ms (multiple_of r)) q in
+    let here = among_inserted ms (multiple_of r) q in
+    grind arith
 
 none_listed : (q : Multiple) (rows : List CertRow) → list_any (λ r. is_eq (multiple_cmp q (multiple_of r))) rows ≡ false → coefficients_at q rows ≡ []
 none_listed q [] h = refl
-none_listed q (r ∷ rows) h = go (is_eq (multiple_cmp q (multiple_of r))) h (none_listed q rows)
-  where
-    go : (b : Bool) → b || list_any (λ s. is_eq (multiple_cmp q (multiple_of s))) rows ≡ false → (list_any (λ s. is_eq (multiple_cmp q (multiple_of s))) rows ≡ false → coefficients_at q rows ≡ [])
-        → map (λ s. s.coef) (cond b (r ∷ filter (λ s. is_eq (multiple_cmp q (multiple_of s))) rows) (filter (λ s. is_eq (multiple_cmp q (multiple_of s))) rows)) ≡ []
-    go true e later = absurd (cc)
-    go false e later = later e
+none_listed q (r ∷ rows) h = let rest = none_listed q rows in grind arith
 
 -- one more row
 coefficients_more : (q : Multiple) (done : List CertRow) (r : CertRow) → coefficients_at q (done ++ r ∷ []) ≡ coefficients_at q done ++ cond (is_eq (multiple_cmp q (multiple_of r))) (r.coef ∷ []) []
-coefficients_more q [] r = go (is_eq (multiple_cmp q (multiple_of r)))
-  where
-    go : (b : Bool) → map (λ s. s.coef) (cond b (r ∷ []) []) ≡ cond b (r.coef ∷ []) []
-    go true = refl
-    go false = refl
-coefficients_more q (d ∷ done) r = go (is_eq (multiple_cmp q (multiple_of d))) (coefficients_more q done r)
-  where
-    go : (b : Bool) → coefficients_at q (done ++ r ∷ []) ≡ coefficients_at q done ++ cond (is_eq (multiple_cmp q (multiple_of r))) (r.coef ∷ []) []
-        → map (λ s. s.coef) (cond b (d ∷ filter (λ s. is_eq (multiple_cmp q (multiple_of s))) (done ++ r ∷ [])) (filter (λ s. is_eq (multiple_cmp q (multiple_of s))) (done ++ r ∷ [])))
-        ≡ map (λ s. s.coef) (cond b (d ∷ filter (λ s. is_eq (multiple_cmp q (multiple_of s))) done) (filter (λ s. is_eq (multiple_cmp q (multiple_of s))) done)) ++ cond (is_eq (multiple_cmp q (multiple_of r))) (r.coef ∷ []) []
-    go true h = ap (λ cs. d.coef ∷ cs) h
-    go false h = h
+coefficients_more q [] r = grind arith
+coefficients_more q (d ∷ done) r = let rest = coefficients_more q done r in grind arith
 
 -- the sum that a multiple has in rows
 abbrev pub sum_of_rows : List CertRow → Multiple → Sum
@@ -239,18 +188,13 @@ sum_more : (q : Multiple) (done : List CertRow) (r : CertRow) → sum_of_rows (d
 sum_more q done r =
     ap (sum_from (Ok (pos 0))) (coefficients_more q done r)
     ∙ fold-append added (Ok (pos 0)) (coefficients_at q done) (cond (is_eq (multiple_cmp q (multiple_of r))) (r.coef ∷ []) [])
-    ∙ go (is_eq (multiple_cmp q (multiple_of r)))
-  where
-    go : (b : Bool) → fold added (sum_of_rows done q) (cond b (r.coef ∷ []) []) ≡ cond b (added (sum_of_rows done q) r.coef) (sum_of_rows done q)
-    go true = refl
-    go false = refl
+    ∙ elim (is_eq (multiple_cmp q (multiple_of r))) as (λ b. fold added (sum_of_rows done q) (cond b (r.coef ∷ []) []) ≡ cond b (added (sum_of_rows done q) r.coef) (sum_of_rows done q))
+    [ true ↦ refl | false ↦ refl ]
 
 sum_in-table : (done : List CertRow) (m : Multiple) → sum_in (table_of done) m ≡ sum_of_rows done m
-sum_in-table done m = sum_in-sums (sum_of_rows done) (multiples_of done) m ∙ go (is_among (multiples_of done) m) refl
-  where
-    go : (b : Bool) → is_among (multiples_of done) m ≡ b → cond b (sum_of_rows done m) (Ok (pos 0)) ≡ sum_of_rows done m
-    go true e = refl
-    go false e = ap (sum_from (Ok (pos 0))) (sym (none_listed m done (sym (among_all done [] m) ∙ e)))
+sum_in-table done m =
+    sum_in-sums (sum_of_rows done) (multiples_of done) m
+    ∙ cond_both (is_among (multiples_of done) m) _ _ (λ s. s ≡ sum_of_rows done m) (λ e. refl) (λ e. ap (sum_from (Ok (pos 0))) (sym (none_listed m done (sym (among_all done [] m) ∙ e))))
 
 multiples_more : (done : List CertRow) (r : CertRow) → multiples_of (done ++ r ∷ []) ≡ insert_key multiple_cmp (multiples_of done) (multiple_of r)
 multiples_more done r =
@@ -258,12 +202,7 @@ multiples_more done r =
     ∙ fold-append (insert_key multiple_cmp) [] (map multiple_of done) (multiple_of r ∷ [])
 
 pub turned_round : (m k : Multiple) → is_eq (multiple_cmp m k) ≡ false → is_eq (multiple_cmp k m) ≡ false
-turned_round m k h = go (multiple_cmp m k) refl h
-  where
-    go : (o : Ordering) → multiple_cmp m k ≡ o → is_eq o ≡ false → is_eq (multiple_cmp k m) ≡ false
-    go Less e _ = ap is_eq (multiple_cmp_total.antisymm k m ∙ ap ordering_reverse e)
-    go Equal e n = absurd (cc)
-    go Greater e _ = ap is_eq (multiple_cmp_total.antisymm k m ∙ ap ordering_reverse e)
+turned_round m k h = let other = multiple_cmp_total.antisymm k m in grind arith
 
 table-more : (done : List CertRow) (r : CertRow) → with_row (table_of done) r ≡ table_of (done ++ r ∷ [])
 table-more done r =

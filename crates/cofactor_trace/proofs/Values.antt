@@ -1,5 +1,6 @@
 -- The coefficient of a word in a sum of rows, and what gathering leaves of it.
-use Rattle.std.proofs.Common.{◌≡◌, ℕ, zero, suc, ℤ, pos, negsuc, ◌+ℤ◌, ◌*ℤ◌, Bool, true, false, ◌||◌, cond, List, [], ◌∷◌, ◌++◌, map, filter, sym, refl, ap, ap₂, subst, ◌∙◌, arith}
+use Rattle.std.proofs.Common.{◌≡◌, ℕ, zero, suc, ℤ, pos, negsuc, ◌+ℤ◌, ◌*ℤ◌, true, false, ◌||◌, cond, List, [], ◌∷◌, ◌++◌, map, filter, sym, refl, ap, ap₂, subst, ◌∙◌, arith}
+use Rattle.std.proofs.lemmas.Bool.{or_left, or_parts}
 use Rattle.std.proofs.lemmas.Int.{ints}
 use Rattle.std.proofs.Math.IntN.{+ℤ_assoc, +ℤ_idl, +ℤ_idr, zero-*ℤ, *ℤ-zero}
 use Rattle.std.specs.List.{AllByRecursion, fold, flat_map}
@@ -66,24 +67,18 @@ module _ (generators : List (List (ℤ × List ℕ))) (w : List ℕ) where
       omega (arith, ints)
 
   total-more : (m : Multiple) (r : CertRow) (rows : List CertRow) → total_at m (r ∷ rows) ≡ cond (is_eq (multiple_cmp m (multiple_of r))) (r.coef +ℤ total_at m rows) (total_at m rows)
-  total-more m r rows = go (is_eq (multiple_cmp m (multiple_of r)))
-    where
-      go : (b : Bool) → fold ◌+ℤ◌ (pos 0) (map (λ (s : CertRow). s.coef) (cond b (r ∷ filter (λ s. is_eq (multiple_cmp m (multiple_of s))) rows) (filter (λ s. is_eq (multiple_cmp m (multiple_of s))) rows)))
-          ≡ cond b (r.coef +ℤ total_at m rows) (total_at m rows)
-      go true = fold_start (pos 0 +ℤ r.coef) (coefficients_at m rows) ∙ ap (λ z. z +ℤ total_at m rows) (+ℤ_idl r.coef)
-      go false = refl
+  total-more m r rows =
+      elim (is_eq (multiple_cmp m (multiple_of r))) as (λ b. fold ◌+ℤ◌ (pos 0) (map (λ (s : CertRow). s.coef) (cond b (r ∷ filter (λ s. is_eq (multiple_cmp m (multiple_of s))) rows) (filter (λ s. is_eq (multiple_cmp m (multiple_of s))) rows)))
+      ≡ cond b (r.coef +ℤ total_at m rows) (total_at m rows))
+      [ true ↦ fold_start (pos 0 +ℤ r.coef) (coefficients_at m rows) ∙ ap (λ z. z +ℤ total_at m rows) (+ℤ_idl r.coef) | false ↦ refl ]
 
   -- a row adds nothing where its multiple isn't listed
   totals-other : (r : CertRow) (rows : List CertRow) (ms : List Multiple) → is_among ms (multiple_of r) ≡ false → totals (r ∷ rows) ms ≡ totals rows ms
   totals-other r rows [] h = refl
-  totals-other r rows (m ∷ ms) h = go (is_eq (multiple_cmp (multiple_of r) m)) refl h (totals-other r rows ms)
-    where
-      go : (b : Bool) → is_eq (multiple_cmp (multiple_of r) m) ≡ b → b || is_among ms (multiple_of r) ≡ false → (is_among ms (multiple_of r) ≡ false → totals (r ∷ rows) ms ≡ totals rows ms)
-          → totals (r ∷ rows) (m ∷ ms) ≡ totals rows (m ∷ ms)
-      go true e unlisted rest = absurd (cc)
-      go false e unlisted rest =
-          ap₂ (λ z y. z *ℤ weight m +ℤ y)
-          (total-more m r rows ∙ ap (λ b. cond b (r.coef +ℤ total_at m rows) (total_at m rows)) (turned_round (multiple_of r) m e)) (rest unlisted)
+  totals-other r rows (m ∷ ms) h =
+      let parts = or_parts (is_eq (multiple_cmp (multiple_of r) m)) (is_among ms (multiple_of r)) h in
+      ap₂ (λ z y. z *ℤ weight m +ℤ y)
+      (total-more m r rows ∙ ap (λ b. cond b (r.coef +ℤ total_at m rows) (total_at m rows)) (turned_round (multiple_of r) m parts.0)) (totals-other r rows ms parts.1)
 
   not_among : (m : Multiple) (ms : List Multiple) → AllByRecursion (λ q. multiple_cmp m q ≡ Less) ms → is_among ms m ≡ false
   not_among m [] h = refl
@@ -96,9 +91,6 @@ module _ (generators : List (List (ℤ × List ℕ))) (w : List ℕ) where
   totals-one r rows [] sorted h = absurd (cc)
   totals-one r rows (k ∷ ks) sorted h = go (multiple_cmp (multiple_of r) k) refl h (totals-one r rows ks sorted.1)
     where
-      m : Multiple
-      m = multiple_of r
-
       apart : is_eq (multiple_cmp (multiple_of r) k) ≡ false → is_among ks (multiple_of r) ≡ true → (is_among ks (multiple_of r) ≡ true → totals (r ∷ rows) ks ≡ r.coef *ℤ weight (multiple_of r) +ℤ totals rows ks)
           → totals (r ∷ rows) (k ∷ ks) ≡ r.coef *ℤ weight (multiple_of r) +ℤ totals rows (k ∷ ks)
       apart e listed rest =
@@ -132,15 +124,11 @@ module _ (generators : List (List (ℤ × List ℕ))) (w : List ℕ) where
 
   all_listed : (ms : List Multiple) (rows : List CertRow) → AllByRecursion (λ r. is_among (fold (insert_key multiple_cmp) ms (map multiple_of rows)) (multiple_of r) ≡ true) rows
   all_listed ms [] = tt
-  all_listed ms (r ∷ rows) = (here, all_listed (insert_key multiple_cmp ms (multiple_of r)) rows)
-    where
-      or_true : (a b : Bool) → a ≡ true → a || b ≡ true
-      or_true a b e = ap (λ x. x || b) e
-
-      here : is_among (fold (insert_key multiple_cmp) (insert_key multiple_cmp ms (multiple_of r)) (map multiple_of rows)) (multiple_of r) ≡ true
-      here =
-          among_all rows (insert_key multiple_cmp ms (multiple_of r)) (multiple_of r)
-          ∙ or_true _ _ (among_inserted ms (multiple_of r) (multiple_of r) ∙ or_true _ _ (ap is_eq (itself (multiple_of r))))
+  all_listed ms (r ∷ rows) = (
+    among_all rows (insert_key multiple_cmp ms (multiple_of r)) (multiple_of r)
+        ∙ or_left _ _ (among_inserted ms (multiple_of r) (multiple_of r) ∙ or_left _ _ (ap is_eq (itself (multiple_of r)))),
+    all_listed (insert_key multiple_cmp ms (multiple_of r)) rows,
+  )
 
   -- gathering keeps the sum
   pub value-gathered : (rows : List CertRow) → value (gathered rows) ≡ value rows

@@ -1,7 +1,6 @@
 -- Adjoints of words and polynomials by a list of letters.
-use Rattle.std.proofs.Common.{◌≡◌, ◌≢◌, ℕ, ◌<◌, ◌≤◌, ℤ, pos, ◌+ℤ◌, Bool, true, false, cond, ◌⊎◌, inl, inr, List, [], ◌∷◌, ◌++◌, length, map, nat_le, sym, refl, ap, ap₂, subst, ◌∙◌, arith, append_assoc}
-use Rattle.std.proofs.lemmas.Bool.Decides.{nat_tests}
-use Rattle.std.proofs.lemmas.Bool.{cases_lt, and_from}
+use Rattle.std.proofs.Common.{◌≡◌, ◌≢◌, ℕ, ◌≤◌, ℤ, pos, ◌+ℤ◌, true, false, cond, inl, inr, List, [], ◌∷◌, ◌++◌, length, map, nat_le, sym, refl, ap, ap₂, subst, ◌∙◌, arith, append_assoc}
+use Rattle.std.proofs.lemmas.Bool.{cases_lt, and_from, leb-true, le-leb}
 use Rattle.std.proofs.lemmas.List.{append-nil, get_or_past, length-append}
 use Rattle.std.proofs.lemmas.List.Elements.{All-tail}
 use Rattle.std.proofs.Math.IntN.{+ℤ_comm}
@@ -53,13 +52,10 @@ length-reversed_star stars (a ∷ w) =
 
 module _ (stars : List ℕ) (involution : IsInvolution stars) where
   star_star : (a : ℕ) → star_in stars (star_in stars a) ≡ a
-  star_star a = go (cases_lt a (length stars))
-    where
-      go : (a < length stars) ⊎ (length stars ≤ a) → star_in stars (star_in stars a) ≡ a
-      go (inl h) = involution.twice a h
-      go (inr h) =
-          let same : star_in stars a ≡ a = get_or_past stars a a h in
-          ap (star_in stars) same ∙ same
+  star_star a = elim (cases_lt a (length stars)) [
+    | inl h ↦ involution.twice a h
+    | inr h ↦ let same : star_in stars a ≡ a = get_or_past stars a a h in ap (star_in stars) same ∙ same
+  ]
 
   twice : (w : List ℕ) → reversed_star stars (reversed_star stars w) ≡ w
   twice [] = refl
@@ -84,24 +80,15 @@ module _ (stars : List ℕ) (involution : IsInvolution stars) where
   in_range-adjoint p d h w = subst IsCoefficient (sym (coefficient_of-adjoint_terms p w)) (coefficient-ranged p (distinct-descending p d) h (reversed_star stars w))
 
   pub short-adjoint : (p out : List Term) → All (λ t. length t.1 ≤ 500) p → Descends out → All (λ t. t.0 ≢ pos 0) out → ((w : List ℕ) → coefficient_of out w ≡ coefficient_of (adjoint_terms stars p) w) → All (λ t. length t.1 ≤ 500) out
-  short-adjoint p out short d h same = words_listed (λ w. length w ≤ 500) out (distinct-descending out d) h (λ w there. go w there (at_word is_short p (reversed_star stars w) (each_short p short)))
+  short-adjoint p out short d h same = words_listed (λ w. length w ≤ 500) out (distinct-descending out d) h (λ w there.
+      elim (at_word (λ w. nat_le (length w) 500) p (reversed_star stars w) (each_short p short)) [
+        | inl k ↦ subst (λ n. n ≤ 500) (length-reversed_star stars w) (leb-true (length (reversed_star stars w)) 500 k)
+        | inr k ↦ absurd (there (same w ∙ coefficient_of-adjoint_terms p w ∙ k))
+      ])
     where
-      is_short : List ℕ → Bool
-      is_short w = nat_le (length w) 500
-
-      within : (n : ℕ) → n ≤ 500 → nat_le n 500 ≡ true
-      within n k = grind (arith, nat_tests)
-
-      told : (n : ℕ) → nat_le n 500 ≡ true → n ≤ 500
-      told n k = grind (arith, nat_tests)
-
       each_short : (q : List Term) → All (λ t. length t.1 ≤ 500) q → list_all (λ (t : Term). nat_le (length t.1) 500) q ≡ true
       each_short [] k = refl
-      each_short (t ∷ q) k = and_from (nat_le (length t.1) 500) (list_all (λ (u : Term). nat_le (length u.1) 500) q) (within (length t.1) (k 0 t (omega arith))) (each_short q (All-tail (λ (u : Term). length u.1 ≤ 500) t q k))
-
-      go : (w : List ℕ) → coefficient_of out w ≢ pos 0 → (nat_le (length (reversed_star stars w)) 500 ≡ true) ⊎ (coefficient_of p (reversed_star stars w) ≡ pos 0) → length w ≤ 500
-      go w there (inl k) = subst (λ n. n ≤ 500) (length-reversed_star stars w) (told (length (reversed_star stars w)) k)
-      go w there (inr k) = absurd (there (same w ∙ coefficient_of-adjoint_terms p w ∙ k))
+      each_short (t ∷ q) k = and_from (nat_le (length t.1) 500) (list_all (λ (u : Term). nat_le (length u.1) 500) q) (le-leb (length t.1) 500 (k 0 t (omega arith))) (each_short q (All-tail (λ (u : Term). length u.1 ≤ 500) t q k))
 
 -- a list of terms more
 pub adjoint_terms-next : (stars : List ℕ) (p : List Term) (t : Term) (w : List ℕ) → coefficient_of (adjoint_terms stars (p ++ t ∷ [])) w ≡ coefficient_of ((t.0, reversed_star stars t.1) ∷ []) w +ℤ coefficient_of (adjoint_terms stars p) w

@@ -1,21 +1,17 @@
 -- The words of two multiples side by side: those of the two lists, with each coefficient multiplied.
 use Rattle.std.proofs.Common.{◌≡◌, ℤ, pos, ◌+ℤ◌, ◌*ℤ◌, List, [], ◌∷◌, ◌++◌, map, Err, sym, refl, ap, ap₂, subst, ◌∙◌, arith}
-use Rattle.std.proofs.lemmas.Bool.Decides.{nat_tests}
 use Rattle.std.proofs.Math.IntN.{*ℤ-zero}
 use Rattle.std.proofs.lemmas.List.Elements.{All-tail}
 use Rattle.std.specs.List.{All, AllByRecursion}
-use Rattle.std.specs.declared.cmp.Ordering.{Ordering}
 use Rattle.std.specs.declared.cmp.Ordering.TheVariants.{Less, Equal, Greater}
-use Rattle.coef_int.specs.declared.Overflow.{Overflow}
 use Rattle.coef_int.specs.Range.{IsCoefficient}
-use Rattle.coef_int.specs.Operations.{exact_value, sum_of}
+use Rattle.coef_int.specs.Operations.{sum_of}
 use Rattle.definitions.specs.Poly.{Term, poly_multiple}
 use Rattle.word_core.specs.Canonical.{word_cmp}
 use Rattle.nc_polynomial.specs.declared.fault.PolyFault.TheVariants as fault
 use Rattle.nc_polynomial.specs.Terms.{Pair, only_right, aligned, aligned_at, by_order, keep, totals, total_operations}
-use Rattle.nc_polynomial.specs.Faults.{checked}
 use Rattle.nc_polynomial.proofs.Shapes.{IsInRange}
-use Rattle.nc_polynomial.proofs.Checked.{join, total_from, one-fits}
+use Rattle.nc_polynomial.proofs.Checked.{join, total_from, one-fits, one-fails}
 
 module _ (a b : ℤ) where
   abbrev pub multiplied_pairs : List Pair → List Pair
@@ -28,14 +24,13 @@ module _ (a b : ℤ) where
   at-term : (x : Term) (rest more : List Term → List Pair) → ((q : List Term) → more (poly_multiple b q) ≡ multiplied_pairs (rest q)) → (q : List Term)
       → aligned_at (a *ℤ x.0, x.1) (poly_multiple b q) more ≡ multiplied_pairs (aligned_at x q rest)
   at-term x rest more h [] = ap₂ (λ (z : ℤ) (l : List Pair). (a *ℤ x.0, z, x.1) ∷ l) (sym (*ℤ-zero b)) (h [])
-  at-term x rest more h (y ∷ q) = go (word_cmp x.1 y.1) (at-term x rest more h q)
-    where
-      go : (o : Ordering) → aligned_at (a *ℤ x.0, x.1) (poly_multiple b q) more ≡ multiplied_pairs (aligned_at x q rest)
-          → by_order o ((pos 0, b *ℤ y.0, y.1) ∷ aligned_at (a *ℤ x.0, x.1) (poly_multiple b q) more) ((a *ℤ x.0, b *ℤ y.0, x.1) ∷ more (poly_multiple b q)) ((a *ℤ x.0, pos 0, x.1) ∷ more (poly_multiple b (y ∷ q)))
-          ≡ multiplied_pairs (by_order o ((pos 0, y.0, y.1) ∷ aligned_at x q rest) ((x.0, y.0, x.1) ∷ rest q) ((x.0, pos 0, x.1) ∷ rest (y ∷ q)))
-      go Less k = ap₂ (λ (z : ℤ) (l : List Pair). (z, b *ℤ y.0, y.1) ∷ l) (sym (*ℤ-zero a)) k
-      go Equal k = ap (λ l. (a *ℤ x.0, b *ℤ y.0, x.1) ∷ l) (h q)
-      go Greater k = ap₂ (λ (z : ℤ) (l : List Pair). (a *ℤ x.0, z, x.1) ∷ l) (sym (*ℤ-zero b)) (h (y ∷ q))
+  at-term x rest more h (y ∷ q) =
+      elim (word_cmp x.1 y.1) as (λ o. by_order o ((pos 0, b *ℤ y.0, y.1) ∷ aligned_at (a *ℤ x.0, x.1) (poly_multiple b q) more) ((a *ℤ x.0, b *ℤ y.0, x.1) ∷ more (poly_multiple b q)) ((a *ℤ x.0, pos 0, x.1) ∷ more (poly_multiple b (y ∷ q)))
+      ≡ multiplied_pairs (by_order o ((pos 0, y.0, y.1) ∷ aligned_at x q rest) ((x.0, y.0, x.1) ∷ rest q) ((x.0, pos 0, x.1) ∷ rest (y ∷ q)))) [
+        | Less ↦ ap₂ (λ (z : ℤ) (l : List Pair). (z, b *ℤ y.0, y.1) ∷ l) (sym (*ℤ-zero a)) (at-term x rest more h q)
+        | Equal ↦ ap (λ l. (a *ℤ x.0, b *ℤ y.0, x.1) ∷ l) (h q)
+        | Greater ↦ ap₂ (λ (z : ℤ) (l : List Pair). (a *ℤ x.0, z, x.1) ∷ l) (sym (*ℤ-zero b)) (h (y ∷ q))
+      ]
 
   pub aligned-multiples : (p q : List Term) → aligned (poly_multiple a p) (poly_multiple b q) ≡ multiplied_pairs (aligned p q)
   aligned-multiples [] q = only-right q
@@ -51,19 +46,16 @@ in_range-right (y ∷ q) h = ((omega arith, h 0 y (omega arith)), in_range-right
 
 in_range-at : (x : Term) (rest : List Term → List Pair) → IsCoefficient x.0 → ((q : List Term) → All IsInRange q → AreInRange (rest q)) → (q : List Term) → All IsInRange q → AreInRange (aligned_at x q rest)
 in_range-at x rest h r [] k = ((h, omega arith), r [] k)
-in_range-at x rest h r (y ∷ q) k = go (word_cmp x.1 y.1) (in_range-at x rest h r q (All-tail IsInRange y q k))
-  where
-    go : (o : Ordering) → AreInRange (aligned_at x q rest) → AreInRange (by_order o ((pos 0, y.0, y.1) ∷ aligned_at x q rest) ((x.0, y.0, x.1) ∷ rest q) ((x.0, pos 0, x.1) ∷ rest (y ∷ q)))
-    go Less m = ((omega arith, k 0 y (omega arith)), m)
-    go Equal m = ((h, k 0 y (omega arith)), r q (All-tail IsInRange y q k))
-    go Greater m = ((h, omega arith), r (y ∷ q) k)
+in_range-at x rest h r (y ∷ q) k =
+    elim (word_cmp x.1 y.1) as (λ o. AreInRange (by_order o ((pos 0, y.0, y.1) ∷ aligned_at x q rest) ((x.0, y.0, x.1) ∷ rest q) ((x.0, pos 0, x.1) ∷ rest (y ∷ q)))) [
+      | Less ↦ ((omega arith, k 0 y (omega arith)), in_range-at x rest h r q (All-tail IsInRange y q k))
+      | Equal ↦ ((h, k 0 y (omega arith)), r q (All-tail IsInRange y q k))
+      | Greater ↦ ((h, omega arith), r (y ∷ q) k)
+    ]
 
 pub in_range-aligned : (p q : List Term) → All (λ t. IsCoefficient t.0) p → All (λ t. IsCoefficient t.0) q → AreInRange (aligned p q)
 in_range-aligned [] q h k = in_range-right q k
 in_range-aligned (x ∷ p) q h k = in_range-at x (aligned p) (h 0 x (omega arith)) (λ s m. in_range-aligned p s (All-tail IsInRange x p h) m) q k
-
-first-overflows : (o : Overflow) (os : List Overflow) (out xs : List Term) → (IsCoefficient (exact_value o) → ⊥) → join out (checked (o ∷ os) xs) ≡ Err (fault.Overflow o)
-first-overflows o os out xs h = grind (arith, nat_tests)
 
 -- one step of the loop that adds two multiples, where the next pair is n
 module _ (a b : ℤ) (pairs rest : List Pair) (n : Pair) (next : pairs ≡ n ∷ rest) where
@@ -81,4 +73,4 @@ module _ (a b : ℤ) (pairs rest : List Pair) (n : Pair) (next : pairs ≡ n ∷
   next-overflows out misses =
       let later = multiplied_pairs a b rest in
       ap (λ l. join out (total_from (multiplied_pairs a b l))) next
-      ∙ first-overflows (sum_of (a *ℤ n.0) (b *ℤ n.1)) (total_operations later) out (keep (a *ℤ n.0 +ℤ b *ℤ n.1) n.2 (totals later)) misses
+      ∙ one-fails (sum_of (a *ℤ n.0) (b *ℤ n.1)) (total_operations later) out (keep (a *ℤ n.0 +ℤ b *ℤ n.1) n.2 (totals later)) misses

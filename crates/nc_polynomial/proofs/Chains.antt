@@ -1,6 +1,6 @@
 -- Operations in several parts: a fault of an earlier part is that of the whole.
-use Rattle.std.proofs.Common.{◌≡◌, ℕ, ℤ, Bool, true, false, List, [], ◌∷◌, ◌++◌, length, nat_lt, Option, Some, None, Result, Ok, Err, sym, refl, ap, ap₂, subst, ◌∙◌, cond}
-use Rattle.std.specs.List.{All, list_any}
+use Rattle.std.proofs.Common.{◌≡◌, ℕ, ℤ, true, false, List, [], ◌∷◌, ◌++◌, Option, Some, None, Result, Ok, Err, refl, ap, ap₂, subst, ◌∙◌, cond}
+use Rattle.std.specs.List.{All}
 use Rattle.coef_int.specs.Range.{IsCoefficient, is_coefficient}
 use Rattle.std.proofs.Common.{arith}
 use Rattle.std.proofs.lemmas.Bool.Decides.{nat_tests}
@@ -11,7 +11,7 @@ use Rattle.nc_polynomial.specs.declared.fault.PolyFault.TheVariants as fault
 use Rattle.coef_int.specs.Operations.{exact_value, first_overflow}
 use Rattle.nc_polynomial.specs.Terms.{scaled, products, multiplied, multiplications, shifted, added, sums}
 use Rattle.definitions.specs.Poly.{Term}
-use Rattle.nc_polynomial.specs.Faults.{checked, unless_overflow, sized, size_fault, finished, Explains}
+use Rattle.nc_polynomial.specs.Faults.{checked, unless_overflow, sized, finished, Explains}
 use Rattle.nc_polynomial.specs.Arithmetic.{combined, sum_result}
 use Rattle.nc_polynomial.specs.Shape.{IsShaped}
 use Rattle.nc_polynomial.proofs.Shapes.{shaped-scaled, shaped-added, in_range-scaled, in_range-multiplied, in_range-shifted, in_range-added}
@@ -22,11 +22,9 @@ or_first (Some o) later = Some o
 
 pub first-append : (os more : List Overflow) → first_overflow (os ++ more) ≡ or_first (first_overflow os) (first_overflow more)
 first-append [] more = refl
-first-append (o ∷ os) more = go (is_coefficient (exact_value o)) (first-append os more)
-  where
-    go : (b : Bool) → first_overflow (os ++ more) ≡ or_first (first_overflow os) (first_overflow more) → cond b (first_overflow (os ++ more)) (Some o) ≡ or_first (cond b (first_overflow os) (Some o)) (first_overflow more)
-    go true h = h
-    go false h = refl
+first-append (o ∷ os) more =
+    elim (is_coefficient (exact_value o)) as (λ b. cond b (first_overflow (os ++ more)) (Some o) ≡ or_first (cond b (first_overflow os) (Some o)) (first_overflow more))
+    [ true ↦ first-append os more | false ↦ refl ]
 
 -- an operation that fits is passed over
 pub first-fits : (o : Overflow) (os : List Overflow) → IsCoefficient (exact_value o) → first_overflow (o ∷ os) ≡ first_overflow os
@@ -41,40 +39,26 @@ no_error x e h = cc
 
 -- no operation of an Ok overflowed, and its value is that of the definition
 pub none_overflows : {A : Type 0} (os : List Overflow) (x v : A) → checked os x ≡ Ok v → first_overflow os ≡ None
-none_overflows os x v h = go (first_overflow os) refl h
-  where
-    go : (f : Option Overflow) → first_overflow os ≡ f → unless_overflow f (Ok x) ≡ Ok v → first_overflow os ≡ None
-    go None e k = e
-    go (Some o) e k = absurd (no_error v (fault.Overflow o) (sym k))
+none_overflows os x v h = (elim (first_overflow os) as (λ f. unless_overflow f (Ok x) ≡ Ok v → f ≡ None) [ None ↦ λ k. refl | Some o ↦ λ k. absurd (cc) ]) h
 
 pub value_is : {A : Type 0} (os : List Overflow) (x v : A) → checked os x ≡ Ok v → x ≡ v
-value_is os x v h = go (first_overflow os) h
-  where
-    go : (f : Option Overflow) → unless_overflow f (Ok x) ≡ Ok v → x ≡ v
-    go None k = cc
-    go (Some o) k = absurd (no_error v (fault.Overflow o) (sym k))
+value_is os x v h = (elim (first_overflow os) as (λ f. unless_overflow f (Ok x) ≡ Ok v → x ≡ v) [ None ↦ λ k. cc | Some o ↦ λ k. absurd (cc) ]) h
 
 -- a first part that went well is passed over
 pub passes : {A B : Type 0} (os more : List Overflow) (x v : A) (r : Result B PolyFault) → checked os x ≡ Ok v → unless_overflow (first_overflow (os ++ more)) r ≡ unless_overflow (first_overflow more) r
 passes os more x v r h = ap (λ f. unless_overflow f r) (first-append os more ∙ ap (λ f. or_first f (first_overflow more)) (none_overflows os x v h))
 
 pub explains-itself : {A : Type 0} (r : Result A PolyFault) (e : PolyFault) → r ≡ Err e → Explains r e
-explains-itself r (fault.Overflow o) h = h
-explains-itself r (fault.Size s) h = h
 explains-itself r (fault.Memory m) h = tt
+explains-itself r _ h = h
 
 -- a fault of the first part is that of the whole
 pub explains-first : {A B : Type 0} (os more : List Overflow) (x : A) (r : Result B PolyFault) (e : PolyFault) → Explains (checked os x) e → Explains (unless_overflow (first_overflow (os ++ more)) r) e
-explains-first os more x r (fault.Overflow o) h = ap (λ f. unless_overflow f r) (first-append os more) ∙ go (first_overflow os) h
-  where
-    go : (f : Option Overflow) → unless_overflow f (Ok x) ≡ Err (fault.Overflow o) → unless_overflow (or_first f (first_overflow more)) r ≡ Err (fault.Overflow o)
-    go None k = absurd (no_error x (fault.Overflow o) k)
-    go (Some n) k = cc
-explains-first os more x r (fault.Size s) h = absurd (go (first_overflow os) h)
-  where
-    go : (f : Option Overflow) → unless_overflow f (Ok x) ≡ Err (fault.Size s) → ⊥
-    go None k = no_error x (fault.Size s) k
-    go (Some n) k = cc
+explains-first os more x r (fault.Overflow o) h =
+    ap (λ f. unless_overflow f r) (first-append os more)
+    ∙ (elim (first_overflow os) as (λ f. unless_overflow f (Ok x) ≡ Err (fault.Overflow o) → unless_overflow (or_first f (first_overflow more)) r ≡ Err (fault.Overflow o))
+    [ None ↦ λ k. absurd (cc) | Some n ↦ λ k. cc ]) h
+explains-first os more x r (fault.Size s) h = absurd ((elim (first_overflow os) as (λ f. unless_overflow f (Ok x) ≡ Err (fault.Size s) → ⊥) [ None ↦ λ k. cc | Some n ↦ λ k. cc ]) h)
 explains-first os more x r (fault.Memory m) h = tt
 
 pub explains-last : {A B : Type 0} (os : List Overflow) (x : A) (r : Result B PolyFault) (e : PolyFault) → Explains (checked os x) e → Explains (unless_overflow (first_overflow os) r) e
@@ -100,19 +84,10 @@ passed_sum a p b q l r h k = passed a p b q l r h k ∙ ap₂ sum_result (value_
 
 -- a polynomial within the limits is returned
 pub sized-value : (x v : List Term) → sized x ≡ Ok v → x ≡ v
-sized-value x v h = go (list_any (λ t. nat_lt 500 (length t.1)) x) (nat_lt 20000 (length x)) h
-  where
-    go : (long many : Bool) → cond long (Err (size_fault true)) (cond many (Err (size_fault false)) (Ok x)) ≡ Ok v → x ≡ v
-    go true many k = absurd (no_error v (size_fault true) (sym k))
-    go false true k = absurd (no_error v (size_fault false) (sym k))
-    go false false k = cc
+sized-value x v h = grind arith
 
 pub finished-value : (os : List Overflow) (x v : List Term) → finished os x ≡ Ok v → x ≡ v
-finished-value os x v h = go (first_overflow os) h
-  where
-    go : (o : Option Overflow) → unless_overflow o (sized x) ≡ Ok v → x ≡ v
-    go None k = sized-value x v k
-    go (Some o) k = absurd (no_error v (fault.Overflow o) (sym k))
+finished-value os x v h = (elim (first_overflow os) as (λ o. unless_overflow o (sized x) ≡ Ok v → x ≡ v) [ None ↦ sized-value x v | Some o ↦ λ k. absurd (cc) ]) h
 
 pub ranged_multiply : (p : List Term) (k : ℤ) (v : List Term) → checked (multiplications p k) (multiplied p k) ≡ Ok v → All (λ t. IsCoefficient t.0) v
 ranged_multiply p k v e = subst (All (λ t. IsCoefficient t.0)) (value_is (multiplications p k) (multiplied p k) v e) (in_range-multiplied p k (none_overflows (multiplications p k) (multiplied p k) v e))

@@ -1,7 +1,7 @@
 -- The coefficients of multiples and of sums.
 use Rattle.std.proofs.Common.{◌≡◌, ℕ, zero, suc, ℤ, pos, negsuc, ◌+ℤ◌, ◌*ℤ◌, Bool, true, false, cond, List, [], ◌∷◌, map, sym, refl, ap, ap₂, ◌∙◌, arith}
 use Rattle.std.proofs.lemmas.Int.{ints}
-use Rattle.std.proofs.Math.IntN.{*ℤ-zero, +ℤ_idl}
+use Rattle.std.proofs.Math.IntN.{*ℤ-zero}
 use Rattle.std.specs.declared.cmp.Ordering.{Ordering}
 use Rattle.std.specs.declared.cmp.Ordering.TheVariants.{Less, Equal, Greater}
 use Rattle.word_core.specs.Canonical.{word_cmp}
@@ -17,8 +17,7 @@ abbrev pub rights : List Pair → List Term
 rights pairs = map (λ a. (a.1, a.2)) pairs
 
 no_term : (b : Bool) (z : ℤ) → cond b (pos 0) (pos 0) +ℤ z ≡ z
-no_term true z = +ℤ_idl z
-no_term false z = +ℤ_idl z
+no_term b z = grind (arith, ints)
 
 pub coefficient_of-keep : (z : ℤ) (v : List ℕ) (p : List Term) (w : List ℕ) → coefficient_of (keep z v p) w ≡ cond (word_eq v w) z (pos 0) +ℤ coefficient_of p w
 coefficient_of-keep (pos zero) v p w = sym (no_term (word_eq v w) (coefficient_of p w))
@@ -28,12 +27,9 @@ coefficient_of-keep (negsuc n) v p w = refl
 pub coefficient_of-scaled : (k : ℤ) (p : List Term) (w : List ℕ) → coefficient_of (scaled k p) w ≡ k *ℤ coefficient_of p w
 coefficient_of-scaled k [] w = sym (*ℤ-zero k)
 coefficient_of-scaled k (t ∷ p) w =
+    let inside = elim (word_eq t.1 w) as (λ b. cond b (k *ℤ t.0) (pos 0) ≡ k *ℤ cond b t.0 (pos 0)) [ true ↦ refl | false ↦ sym (*ℤ-zero k) ] in
     coefficient_of-keep (k *ℤ t.0) t.1 (scaled k p) w
-    ∙ ap₂ ◌+ℤ◌ (inside (word_eq t.1 w)) (coefficient_of-scaled k p w) ∙ sym (*ℤ-+ℤ k (cond (word_eq t.1 w) t.0 (pos 0)) (coefficient_of p w))
-  where
-    inside : (b : Bool) → cond b (k *ℤ t.0) (pos 0) ≡ k *ℤ cond b t.0 (pos 0)
-    inside true = refl
-    inside false = sym (*ℤ-zero k)
+    ∙ ap₂ ◌+ℤ◌ inside (coefficient_of-scaled k p w) ∙ sym (*ℤ-+ℤ k (cond (word_eq t.1 w) t.0 (pos 0)) (coefficient_of p w))
 
 pub coefficient_of-totals : (pairs : List Pair) (w : List ℕ) → coefficient_of (totals pairs) w ≡ coefficient_of (lefts pairs) w +ℤ coefficient_of (rights pairs) w
 coefficient_of-totals [] w = refl

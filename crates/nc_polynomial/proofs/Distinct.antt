@@ -1,5 +1,6 @@
 -- Terms with different words.
-use Rattle.std.proofs.Common.{◌≡◌, ◌≢◌, ◌++◌, ℕ, pos, ◌+ℤ◌, Bool, true, false, List, [], ◌∷◌, get_or, sym, refl, ap, subst, ◌∙◌, arith}
+use Rattle.std.proofs.lemmas.Bool.{cases_Bool}
+use Rattle.std.proofs.Common.{◌≡◌, ◌≢◌, ◌++◌, ℕ, pos, ◌+ℤ◌, false, List, [], ◌∷◌, get_or, sym, refl, ap, subst, ◌∙◌, arith, inl, inr}
 use Rattle.std.proofs.Math.IntN.{+ℤ_idr}
 use Rattle.std.specs.List.{All}
 use Rattle.std.proofs.lemmas.List.Elements.{All-nil, All-cons, All-tail}
@@ -26,16 +27,13 @@ first_coefficient t p h = coefficient_at t.1 t p (word_eq-same t.1) ∙ ap (λ k
 -- where the coefficient of each word is in range, so is the integer beside each word
 pub ranged-distinct : (p : List Term) → AreDistinct p → ((w : List ℕ) → IsCoefficient (coefficient_of p w)) → All (λ t. IsCoefficient t.0) p
 ranged-distinct [] d h = All-nil IsInRange
-ranged-distinct (t ∷ p) d h = All-cons IsInRange t p (subst IsCoefficient (first_coefficient t p d.0) (h t.1)) (ranged-distinct p d.1 (λ w. rest w (word_eq t.1 w) refl))
-  where
-    rest : (w : List ℕ) (b : Bool) → word_eq t.1 w ≡ b → IsCoefficient (coefficient_of p w)
-    rest w true e =
-        let none : coefficient_of p w ≡ pos 0 = ap (coefficient_of p) (sym (word_eq-true t.1 w e)) ∙ none_listed t.1 p d.0 in
-        subst IsCoefficient (sym none) in_range-zero
-      where
-        in_range-zero : IsCoefficient (pos 0)
-        in_range-zero = omega arith
-    rest w false e = subst IsCoefficient (coefficient_other w t p e) (h w)
+ranged-distinct (t ∷ p) d h = All-cons IsInRange t p (subst IsCoefficient (first_coefficient t p d.0) (h t.1)) (ranged-distinct p d.1 (λ w. elim (cases_Bool (word_eq t.1 w)) [
+  | inl e ↦
+      let none : coefficient_of p w ≡ pos 0 = ap (coefficient_of p) (sym (word_eq-true t.1 w e)) ∙ none_listed t.1 p d.0 in
+      let zero_in : IsCoefficient (pos 0) = omega arith in
+      subst IsCoefficient (sym none) zero_in
+  | inr e ↦ subst IsCoefficient (coefficient_other w t p e) (h w)
+]))
 
 pub distinct-descending : (p : List Term) → Descends p → AreDistinct p
 distinct-descending [] d = tt
@@ -50,19 +48,17 @@ apart-before front t rest d i x h = word_eq-cmp (get_or front i x).1 t.1 ∙ ap 
 -- where the integers beside the words are in range, so is each coefficient
 pub coefficient-ranged : (p : List Term) → AreDistinct p → All (λ t. IsCoefficient t.0) p → (w : List ℕ) → IsCoefficient (coefficient_of p w)
 coefficient-ranged [] d h w = omega arith
-coefficient-ranged (t ∷ p) d h w = go (word_eq t.1 w) refl (coefficient-ranged p d.1 (All-tail IsInRange t p h) w)
-  where
-    go : (b : Bool) → word_eq t.1 w ≡ b → IsCoefficient (coefficient_of p w) → IsCoefficient (coefficient_of (t ∷ p) w)
-    go true e rest = subst IsCoefficient (sym (ap (coefficient_of (t ∷ p)) (sym (word_eq-true t.1 w e)) ∙ first_coefficient t p d.0)) (h 0 t (omega arith))
-    go false e rest = subst IsCoefficient (sym (coefficient_other w t p e)) rest
+coefficient-ranged (t ∷ p) d h w = elim (cases_Bool (word_eq t.1 w)) [
+  | inl e ↦ subst IsCoefficient (sym (ap (coefficient_of (t ∷ p)) (sym (word_eq-true t.1 w e)) ∙ first_coefficient t p d.0)) (h 0 t (omega arith))
+  | inr e ↦ subst IsCoefficient (sym (coefficient_other w t p e)) (coefficient-ranged p d.1 (All-tail IsInRange t p h) w)
+]
 
 -- what holds of each word with a coefficient holds of each word in the list
 pub words_listed : (P : List ℕ → Type 0) (p : List Term) → AreDistinct p → All (λ t. t.0 ≢ pos 0) p → ((w : List ℕ) → coefficient_of p w ≢ pos 0 → P w) → All (λ t. P t.1) p
 words_listed P [] d h each = All-nil (λ (t : Term). P t.1)
 words_listed P (t ∷ p) d h each =
     All-cons (λ (u : Term). P u.1) t p (each t.1 (λ e. h 0 t (omega arith) (sym (first_coefficient t p d.0) ∙ e)))
-    (words_listed P p d.1 (All-tail IsNonzero t p h) (λ w there. each w (λ e. there (go w (word_eq t.1 w) refl e))))
-  where
-    go : (w : List ℕ) (b : Bool) → word_eq t.1 w ≡ b → coefficient_of (t ∷ p) w ≡ pos 0 → coefficient_of p w ≡ pos 0
-    go w true same e = ap (coefficient_of p) (sym (word_eq-true t.1 w same)) ∙ none_listed t.1 p d.0
-    go w false other e = sym (coefficient_other w t p other) ∙ e
+    (words_listed P p d.1 (All-tail IsNonzero t p h) (λ w there. each w (λ e. there (elim (cases_Bool (word_eq t.1 w)) [
+      | inl same ↦ ap (coefficient_of p) (sym (word_eq-true t.1 w same)) ∙ none_listed t.1 p d.0
+      | inr other ↦ sym (coefficient_other w t p other) ∙ e
+    ]))))

@@ -1,6 +1,6 @@
 -- Products with one term: the words stay in their order, so that each step puts its term after the sum so far.
-use Rattle.std.proofs.Common.{◌≡◌, ◌≢◌, ℕ, ◌+◌, ◌<◌, ◌≤◌, pos, ◌+ℤ◌, ◌*ℤ◌, true, false, cond, ◌||◌, nat_lt, List, [], ◌∷◌, ◌++◌, length, get_or, map, None, Result, Ok, Err, sym, refl, ap, subst, ◌∙◌, arith, append-nil}
-use Rattle.std.proofs.lemmas.Bool.Decides.{nat_tests}
+use Rattle.std.proofs.lemmas.Bool.{lt-ltb}
+use Rattle.std.proofs.Common.{◌≡◌, ◌≢◌, ℕ, ◌+◌, ◌<◌, ◌≤◌, pos, ◌+ℤ◌, ◌*ℤ◌, true, false, cond, ◌||◌, List, [], ◌∷◌, ◌++◌, length, get_or, map, None, Result, Ok, Err, sym, refl, ap, subst, ◌∙◌, arith, append-nil}
 use Rattle.std.proofs.lemmas.List.{length-append, length-map, map-append}
 use Rattle.std.proofs.lemmas.List.Elements.{All-nil, All-cons, All-tail, All-push, All-map}
 use Rattle.std.proofs.Math.IntN.{+ℤ_idl}
@@ -89,9 +89,8 @@ module _ (sum : List Term) (m : Term) (canonical : IsCanonical sum) (fits : IsCo
 
 -- a step that fails ends the product
 pub from-step_fault : (sum : List Term) (t : Term) (more q : List Term) (e : PolyFault) → Explains (product_step sum t q) e → Explains (product_from sum (t ∷ more) q) e
-from-step_fault sum t more q (fault.Overflow o) why = ap (λ r. and_then r (λ next. product_from next more q)) why
-from-step_fault sum t more q (fault.Size s) why = ap (λ r. and_then r (λ next. product_from next more q)) why
 from-step_fault sum t more q (fault.Memory m) why = tt
+from-step_fault sum t more q _ why = ap (λ r. and_then r (λ next. product_from next more q)) why
 
 abbrev pub behind : Term → Term → Term
 behind y t = (t.0 *ℤ y.0, t.1 ++ y.1)
@@ -117,10 +116,7 @@ module _ (y : Term) (nonzero : y.0 ≢ pos 0) where
   pub long_word : (t : Term) → 500 < length t.1 + length y.1 → sized (poly_between t.1 (y ∷ []) []) ≡ Err (size_fault true)
   long_word t long =
       let count : length (t.1 ++ y.1) ≡ length t.1 + length y.1 = length-append t.1 y.1 in
-      ap sized (one_moved t.1) ∙ ap (λ b. cond (b || false) (Err (size_fault true)) (Ok ((y.0, t.1 ++ y.1) ∷ []))) (over (length (t.1 ++ y.1)) (omega (arith, count, long)))
-    where
-      over : (n : ℕ) → 500 < n → nat_lt 500 n ≡ true
-      over n h = grind (arith, nat_tests)
+      ap sized (one_moved t.1) ∙ ap (λ b. cond (b || false) (Err (size_fault true)) (Ok ((y.0, t.1 ++ y.1) ∷ []))) (lt-ltb 500 (length (t.1 ++ y.1)) (omega (arith, count, long)))
 
   short-behind : (t : Term) → length t.1 + length y.1 ≤ 500 → length (t.1 ++ y.1) ≤ 500
   short-behind t short =

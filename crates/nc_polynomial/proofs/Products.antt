@@ -1,23 +1,22 @@
 -- Products of polynomials.
-use Rattle.std.proofs.Common.{◌≡◌, ℕ, ◌≤◌, ℤ, pos, ◌+ℤ◌, ◌*ℤ◌, Bool, true, false, cond, ◌||◌, nat_lt, List, [], ◌∷◌, ◌++◌, length, map, Option, Some, None, Result, Ok, Err, sym, refl, ap, ap₂, subst, ◌∙◌, arith}
+use Rattle.std.proofs.lemmas.Bool.{or_parts, ltb-false}
+use Rattle.std.proofs.Common.{◌≡◌, ℕ, ◌≤◌, ℤ, pos, ◌+ℤ◌, ◌*ℤ◌, false, nat_lt, List, [], ◌∷◌, ◌++◌, length, map, Some, None, Ok, Err, sym, refl, ap, ap₂, subst, ◌∙◌, arith}
 use Rattle.std.proofs.lemmas.Bool.Decides.{nat_tests}
 use Rattle.std.proofs.Math.IntN.{+ℤ_idl, +ℤ_idr, +ℤ_assoc}
 use Rattle.std.proofs.lemmas.List.{append-nil}
 use Rattle.std.proofs.lemmas.List.Elements.{All-nil, All-cons}
 use Rattle.std.specs.List.{All}
-use Rattle.coef_int.specs.declared.Overflow.{Overflow}
 use Rattle.coef_int.specs.Operations.{product_of, first_overflow}
 use Rattle.definitions.specs.Poly.{Term, SamePolynomial, coefficient_of, poly_multiple, poly_between, poly_product}
 use Rattle.definitions.proofs.Coefficients.{coefficient_of-append, coefficient_of-multiple}
 use Rattle.nc_polynomial.specs.declared.fault.PolyFault.{PolyFault}
-use Rattle.nc_polynomial.specs.declared.fault.PolyFault.TheVariants as fault
 use Rattle.nc_polynomial.specs.Terms.{keep, scaled, products, shifted, added, sums}
 use Rattle.nc_polynomial.specs.Shape.{IsShaped, IsCanonical}
-use Rattle.nc_polynomial.specs.Faults.{Explains, checked, unless_overflow, finished, sized, size_fault, has_long_word}
+use Rattle.nc_polynomial.specs.Faults.{Explains, checked, unless_overflow, finished, sized, has_long_word}
 use Rattle.nc_polynomial.specs.Arithmetic.{combined, sum_result}
 use Rattle.nc_polynomial.specs.Product.{and_then, product_step, product_from}
 use Rattle.nc_polynomial.proofs.Around.{shaped-between}
-use Rattle.nc_polynomial.proofs.Chains.{first-append, or_first, no_error, none_overflows, value_is, passes, explains-itself, explains-first, sized-value, finished-value}
+use Rattle.nc_polynomial.proofs.Chains.{first-append, or_first, none_overflows, value_is, passes, explains-itself, explains-first, sized-value, finished-value}
 use Rattle.nc_polynomial.proofs.CoefficientLaws.{coefficient_of-added, coefficient_of-scaled}
 use Rattle.nc_polynomial.proofs.Shapes.{all-scaled, shaped-scaled, shaped-added}
 use Rattle.nc_polynomial.proofs.Units.{one-*ℤ, once_fits}
@@ -57,34 +56,19 @@ IsShort t = length t.1 ≤ 500
 
 short_words : (p : List Term) → has_long_word p ≡ false → All IsShort p
 short_words [] e = All-nil IsShort
-short_words (t ∷ p) e = go (nat_lt 500 (length t.1)) refl e (short_words p)
-  where
-    go : (b : Bool) → nat_lt 500 (length t.1) ≡ b → (b || has_long_word p) ≡ false → (has_long_word p ≡ false → All IsShort p) → All IsShort (t ∷ p)
-    go true long k rest = absurd (cc)
-    go false long k rest = All-cons IsShort t p (within (length t.1) long) (rest k)
-      where
-        within : (n : ℕ) → nat_lt 500 n ≡ false → n ≤ 500
-        within n h = grind (arith, nat_tests)
+short_words (t ∷ p) e = let parts = or_parts (nat_lt 500 (length t.1)) (has_long_word p) e in All-cons IsShort t p (ltb-false 500 (length t.1) parts.0) (short_words p parts.1)
 
 -- what is left as it is by the limits is within them
 pub canonical_sized : (p v : List Term) → IsShaped p → sized p ≡ Ok v → IsCanonical p
-canonical_sized p v h e = go (has_long_word p) (nat_lt 20000 (length p)) refl refl e
-  where
-    within : (n : ℕ) → nat_lt 20000 n ≡ false → n ≤ 20000
-    within n k = grind (arith, nat_tests)
-
-    go : (long many : Bool) → has_long_word p ≡ long → nat_lt 20000 (length p) ≡ many → cond long (Err (size_fault true)) (cond many (Err (size_fault false)) (Ok p)) ≡ Ok v → IsCanonical p
-    go true many a b k = absurd (no_error v (size_fault true) (sym k))
-    go false true a b k = absurd (no_error v (size_fault false) (sym k))
-    go false false a b k = record { shaped = h; short = short_words p a; few = within (length p) b }
+canonical_sized p v h e = record { shaped = h; short = short_words p (grind arith); few = grind (arith, nat_tests) }
 
 -- a sum within the limits is canonical
 pub canonical_sum : (p q v : List Term) → IsShaped p → IsShaped q → sum_result p q ≡ Ok v → IsCanonical v
-canonical_sum p q v h k e = go (first_overflow (sums p q)) refl e
-  where
-    go : (o : Option Overflow) → first_overflow (sums p q) ≡ o → unless_overflow o (sized (added p q)) ≡ Ok v → IsCanonical v
-    go None fits limits = subst IsCanonical (sized-value (added p q) v limits) (canonical_sized (added p q) v (shaped-added p q fits h k) limits)
-    go (Some o) over limits = absurd (no_error v (fault.Overflow o) (sym limits))
+canonical_sum p q v h k e =
+    (elim (first_overflow (sums p q)) as (λ o. first_overflow (sums p q) ≡ o → unless_overflow o (sized (added p q)) ≡ Ok v → IsCanonical v) [
+      | None ↦ λ fits limits. subst IsCanonical (sized-value (added p q) v limits) (canonical_sized (added p q) v (shaped-added p q fits h k) limits)
+      | Some o ↦ λ over limits. absurd (cc)
+    ]) refl e
 
 -- the multiple of a moved polynomial within the limits has short words
 pub short_shift : (k : ℤ) (w : List ℕ) (q v : List Term) → IsShaped q → sized (poly_between w q []) ≡ Ok (poly_between w q []) → checked (products k q) (shifted k w q []) ≡ Ok v → All (λ t. length t.1 ≤ 500) v
@@ -120,39 +104,34 @@ moved-row : (t : Term) (q : List Term) → map (λ u. (t.0 *ℤ u.0, t.1 ++ u.1)
 moved-row t [] = refl
 moved-row t (u ∷ q) = ap₂ (λ v (rest : List Term). (t.0 *ℤ u.0, t.1 ++ v) ∷ rest) (sym (append-nil u.1)) (moved-row t q)
 
-same_value : (p r : List Term) → ◌≡◌ {A = Result (List Term) PolyFault} (Ok p) (Ok r) → p ≡ r
-same_value p r h = cc
-
 combined-coefficient : (a : ℤ) (p : List Term) (b : ℤ) (q r : List Term) → combined a p b q ≡ Ok r → (w : List ℕ) → coefficient_of r w ≡ a *ℤ coefficient_of p w +ℤ b *ℤ coefficient_of q w
 combined-coefficient a p b q r h w =
     ap (λ s. coefficient_of s w) (sym (finished-value (products a p ++ (products b q ++ sums (scaled a p) (scaled b q))) (added (scaled a p) (scaled b q)) r h))
     ∙ coefficient_of-added w (scaled a p) (scaled b q) ∙ ap₂ ◌+ℤ◌ (coefficient_of-scaled a p w) (coefficient_of-scaled b q w)
 
 step-coefficient : (sum : List Term) (t : Term) (q v : List Term) → product_step sum t q ≡ Ok v → (w : List ℕ) → coefficient_of v w ≡ coefficient_of sum w +ℤ t.0 *ℤ coefficient_of (poly_between t.1 q []) w
-step-coefficient sum t q v h w = go (sized (poly_between t.1 q [])) refl h
-  where
-    go : (r : Result (List Term) PolyFault) → sized (poly_between t.1 q []) ≡ r → and_then r (λ moved. combined (pos 1) sum t.0 moved) ≡ Ok v → coefficient_of v w ≡ coefficient_of sum w +ℤ t.0 *ℤ coefficient_of (poly_between t.1 q []) w
-    go (Err e) limits k = absurd (no_error v e (sym k))
-    go (Ok moved) limits k =
-        let moved_is = sized-value (poly_between t.1 q []) moved limits in
-        combined-coefficient (pos 1) sum t.0 moved v k w
-        ∙ ap₂ (λ a b. a +ℤ t.0 *ℤ b) (one-*ℤ (coefficient_of sum w)) (ap (λ p. coefficient_of p w) (sym moved_is))
+step-coefficient sum t q v h w =
+    (elim (sized (poly_between t.1 q [])) as (λ r. sized (poly_between t.1 q []) ≡ r → and_then r (λ moved. combined (pos 1) sum t.0 moved) ≡ Ok v → coefficient_of v w ≡ coefficient_of sum w +ℤ t.0 *ℤ coefficient_of (poly_between t.1 q []) w) [
+      | Ok moved ↦ λ limits k.
+          combined-coefficient (pos 1) sum t.0 moved v k w
+          ∙ ap₂ (λ a b. a +ℤ t.0 *ℤ b) (one-*ℤ (coefficient_of sum w)) (ap (λ p. coefficient_of p w) (sym (sized-value (poly_between t.1 q []) moved limits)))
+      | Err e ↦ λ limits k. absurd (cc)
+    ]) refl h
 
 pub coefficient_of-product_from : (sum p q r : List Term) → product_from sum p q ≡ Ok r → (w : List ℕ) → coefficient_of r w ≡ coefficient_of sum w +ℤ coefficient_of (poly_product p q) w
-coefficient_of-product_from sum [] q r h w = ap (λ p. coefficient_of p w) (sym (same_value sum r h)) ∙ sym (+ℤ_idr (coefficient_of sum w))
-coefficient_of-product_from sum (t ∷ p) q r h w = go (product_step sum t q) refl h (λ next k. coefficient_of-product_from next p q r k w)
-  where
-    go : (s : Result (List Term) PolyFault) → product_step sum t q ≡ s → and_then s (λ next. product_from next p q) ≡ Ok r
-        → ((next : List Term) → product_from next p q ≡ Ok r → coefficient_of r w ≡ coefficient_of next w +ℤ coefficient_of (poly_product p q) w) → coefficient_of r w ≡ coefficient_of sum w +ℤ coefficient_of (poly_product (t ∷ p) q) w
-    go (Err e) step k more = absurd (no_error r e (sym k))
-    go (Ok next) step k more =
-        let rest : coefficient_of r w ≡ coefficient_of next w +ℤ coefficient_of (poly_product p q) w = more next k in
-        let here : coefficient_of next w ≡ coefficient_of sum w +ℤ t.0 *ℤ coefficient_of (poly_between t.1 q []) w = step-coefficient sum t q next step w in
-        let row : coefficient_of (map (λ u. (t.0 *ℤ u.0, t.1 ++ u.1)) q) w ≡ t.0 *ℤ coefficient_of (poly_between t.1 q []) w = ap (λ x. coefficient_of x w) (moved-row t q) ∙ coefficient_of-multiple t.0 (poly_between t.1 q []) w in
-        let whole : coefficient_of (poly_product (t ∷ p) q) w ≡ coefficient_of (map (λ u. (t.0 *ℤ u.0, t.1 ++ u.1)) q) w +ℤ coefficient_of (poly_product p q) w = coefficient_of-append (map (λ u. (t.0 *ℤ u.0, t.1 ++ u.1)) q) (poly_product p q) w in
-        rest ∙ ap (λ x. x +ℤ coefficient_of (poly_product p q) w) here
-        ∙ +ℤ_assoc (coefficient_of sum w) (t.0 *ℤ coefficient_of (poly_between t.1 q []) w) (coefficient_of (poly_product p q) w)
-        ∙ ap (λ x. coefficient_of sum w +ℤ x) (ap (λ x. x +ℤ coefficient_of (poly_product p q) w) (sym row) ∙ sym whole)
+coefficient_of-product_from sum [] q r h w = let same : sum ≡ r = cc in ap (λ p. coefficient_of p w) (sym same) ∙ sym (+ℤ_idr (coefficient_of sum w))
+coefficient_of-product_from sum (t ∷ p) q r h w =
+    (elim (product_step sum t q) as (λ s. product_step sum t q ≡ s → and_then s (λ next. product_from next p q) ≡ Ok r → coefficient_of r w ≡ coefficient_of sum w +ℤ coefficient_of (poly_product (t ∷ p) q) w) [
+      | Ok next ↦ λ step k.
+          let rest = coefficient_of-product_from next p q r k w in
+          let here : coefficient_of next w ≡ coefficient_of sum w +ℤ t.0 *ℤ coefficient_of (poly_between t.1 q []) w = step-coefficient sum t q next step w in
+          let row : coefficient_of (map (λ u. (t.0 *ℤ u.0, t.1 ++ u.1)) q) w ≡ t.0 *ℤ coefficient_of (poly_between t.1 q []) w = ap (λ x. coefficient_of x w) (moved-row t q) ∙ coefficient_of-multiple t.0 (poly_between t.1 q []) w in
+          let whole : coefficient_of (poly_product (t ∷ p) q) w ≡ coefficient_of (map (λ u. (t.0 *ℤ u.0, t.1 ++ u.1)) q) w +ℤ coefficient_of (poly_product p q) w = coefficient_of-append (map (λ u. (t.0 *ℤ u.0, t.1 ++ u.1)) q) (poly_product p q) w in
+          rest ∙ ap (λ x. x +ℤ coefficient_of (poly_product p q) w) here
+          ∙ +ℤ_assoc (coefficient_of sum w) (t.0 *ℤ coefficient_of (poly_between t.1 q []) w) (coefficient_of (poly_product p q) w)
+          ∙ ap (λ x. coefficient_of sum w +ℤ x) (ap (λ x. x +ℤ coefficient_of (poly_product p q) w) (sym row) ∙ sym whole)
+      | Err e ↦ λ step k. absurd (cc)
+    ]) refl h
 
 pub product_value : (p q r : List Term) → product_from [] p q ≡ Ok r → SamePolynomial r (poly_product p q)
 product_value p q r h = record { at = λ w. coefficient_of-product_from [] p q r h w ∙ +ℤ_idl (coefficient_of (poly_product p q) w) }

@@ -1,6 +1,6 @@
 -- A table to which descending terms are added, as a sum of two descending lists.
+use Rattle.std.proofs.lemmas.Bool.{le-ltb, lt-ltb}
 use Rattle.std.proofs.Common.{◌≡◌, ℕ, ◌<◌, ◌≤◌, ℤ, pos, ◌+ℤ◌, true, false, cond, ◌||◌, nat_lt, List, [], ◌∷◌, ◌++◌, length, None, Ok, Err, sym, refl, ap, ap₂, subst, ◌∙◌, arith}
-use Rattle.std.proofs.lemmas.Bool.Decides.{nat_tests}
 use Rattle.std.specs.BTreeMap.{BTreeMap, IsOrdered}
 use Rattle.std.specs.List.{All}
 use Rattle.std.proofs.Math.IntN.{+ℤ_idl}
@@ -54,10 +54,7 @@ module _ (table : BTreeMap (List ℕ) ℤ) (sorted : IsOrdered word_cmp table) (
 -- limits
 pub not_long : (p : List Term) → All (λ t. length t.1 ≤ 500) p → has_long_word p ≡ false
 not_long [] h = refl
-not_long (t ∷ p) h = ap₂ ◌||◌ (within (length t.1) (h 0 t (omega arith))) (not_long p (All-tail (λ (u : Term). length u.1 ≤ 500) t p h))
-  where
-    within : (n : ℕ) → n ≤ 500 → nat_lt 500 n ≡ false
-    within n k = grind (arith, nat_tests)
+not_long (t ∷ p) h = ap₂ ◌||◌ (le-ltb 500 (length t.1) (h 0 t (omega arith))) (not_long p (All-tail (λ (u : Term). length u.1 ≤ 500) t p h))
 
 -- a sum of short words has short words, so that only the number of its terms can be too large
 module _ (p q v : List Term) (short_p : All (λ t. length t.1 ≤ 500) p) (short_q : All (λ t. length t.1 ≤ 500) q) (total : checked (sums p q) (added p q) ≡ Ok v) where
@@ -70,16 +67,10 @@ module _ (p q v : List Term) (short_p : All (λ t. length t.1 ≤ 500) p) (short
   by_count = ends (sums p q) (added p q) v total ∙ ap (λ b. cond b (Err (size_fault true)) (cond (nat_lt 20000 (length v)) (Err (size_fault false)) (Ok v))) short_sum
 
   pub too_many : 20000 < length v → sum_result p q ≡ Err (size_fault false)
-  too_many large = by_count ∙ ap (λ b. cond b (Err (size_fault false)) (Ok v)) (over (length v) large)
-    where
-      over : (n : ℕ) → 20000 < n → nat_lt 20000 n ≡ true
-      over n k = grind (arith, nat_tests)
+  too_many large = by_count ∙ ap (λ b. cond b (Err (size_fault false)) (Ok v)) (lt-ltb 20000 (length v) large)
 
   pub few_enough : length v ≤ 20000 → sum_result p q ≡ Ok v
-  few_enough small = by_count ∙ ap (λ b. cond b (Err (size_fault false)) (Ok v)) (within (length v) small)
-    where
-      within : (n : ℕ) → n ≤ 20000 → nat_lt 20000 n ≡ false
-      within n k = grind (arith, nat_tests)
+  few_enough small = by_count ∙ ap (λ b. cond b (Err (size_fault false)) (Ok v)) (le-ltb 20000 (length v) small)
 
 -- a sum that begins with zero
 fits-alone : (q : List Term) → All (λ t. IsCoefficient t.0) q → first_overflow (sums [] q) ≡ None

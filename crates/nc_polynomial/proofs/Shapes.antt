@@ -1,5 +1,5 @@
 -- Sums and multiples of polynomials are descending, have no zero coefficient, and are in range where nothing overflows.
-use Rattle.std.proofs.Common.{◌≡◌, ◌≢◌, ℕ, zero, suc, ℤ, pos, negsuc, ◌+ℤ◌, ◌*ℤ◌, Bool, true, false, List, [], ◌∷◌, ◌++◌, get_or, map, Option, Some, None, neg_ℤ, sym, refl, ap, ◌∙◌, subst, arith}
+use Rattle.std.proofs.Common.{◌≡◌, ◌≢◌, ℕ, zero, suc, ℤ, pos, negsuc, ◌+ℤ◌, ◌*ℤ◌, true, List, [], ◌∷◌, ◌++◌, get_or, map, None, neg_ℤ, sym, refl, ap, ◌∙◌, subst, arith}
 use Rattle.std.proofs.lemmas.Bool.Decides.{nat_tests}
 use Rattle.std.proofs.Math.IntN.{neg_ℤ-neg_ℤ}
 use Rattle.std.specs.List.{All}
@@ -53,12 +53,12 @@ module _ (P : List ℕ → Type 0) where
 
   all-at : (x : Term) (rest : List Term → List Pair) → P x.1 → ((q : List Term) → All (λ t. P t.1) q → All (λ a. P a.2) (rest q)) → (q : List Term) → All (λ t. P t.1) q → All (λ a. P a.2) (aligned_at x q rest)
   all-at x rest h r [] k = All-cons OfPair (x.0, pos 0, x.1) (rest []) h (r [] k)
-  all-at x rest h r (y ∷ q) k = go (word_cmp x.1 y.1) (all-at x rest h r q (All-tail OfTerm y q k))
-    where
-      go : (o : Ordering) → All (λ a. P a.2) (aligned_at x q rest) → All (λ a. P a.2) (by_order o ((pos 0, y.0, y.1) ∷ aligned_at x q rest) ((x.0, y.0, x.1) ∷ rest q) ((x.0, pos 0, x.1) ∷ rest (y ∷ q)))
-      go Less m = All-cons OfPair (pos 0, y.0, y.1) (aligned_at x q rest) (k 0 y (omega arith)) m
-      go Equal m = All-cons OfPair (x.0, y.0, x.1) (rest q) h (r q (All-tail OfTerm y q k))
-      go Greater m = All-cons OfPair (x.0, pos 0, x.1) (rest (y ∷ q)) h (r (y ∷ q) k)
+  all-at x rest h r (y ∷ q) k =
+      elim (word_cmp x.1 y.1) as (λ o. All (λ a. P a.2) (by_order o ((pos 0, y.0, y.1) ∷ aligned_at x q rest) ((x.0, y.0, x.1) ∷ rest q) ((x.0, pos 0, x.1) ∷ rest (y ∷ q)))) [
+        | Less ↦ All-cons OfPair (pos 0, y.0, y.1) (aligned_at x q rest) (k 0 y (omega arith)) (all-at x rest h r q (All-tail OfTerm y q k))
+        | Equal ↦ All-cons OfPair (x.0, y.0, x.1) (rest q) h (r q (All-tail OfTerm y q k))
+        | Greater ↦ All-cons OfPair (x.0, pos 0, x.1) (rest (y ∷ q)) h (r (y ∷ q) k)
+      ]
 
   pub all-aligned : (p q : List Term) → All (λ t. P t.1) p → All (λ t. P t.1) q → All (λ a. P a.2) (aligned p q)
   all-aligned [] q h k = all-right q k
@@ -143,15 +143,8 @@ pub nonzero-added : (p q : List Term) → All (λ t. t.0 ≢ pos 0) (added p q)
 nonzero-added p q = nonzero-totals (aligned p q)
 
 -- where no operation overflows, each value is a coefficient
-first_fits : (o : Overflow) (os : List Overflow) → first_overflow (o ∷ os) ≡ None → IsCoefficient (exact_value o) × (first_overflow os ≡ None)
-first_fits o os e = go (is_coefficient (exact_value o)) refl
-  where
-    go : (b : Bool) → is_coefficient (exact_value o) ≡ b → IsCoefficient (exact_value o) × (first_overflow os ≡ None)
-    go true h = (grind (arith, nat_tests), rw h at e)
-    go false h = absurd (clash (rw h at e))
-      where
-        clash : ◌≡◌ {A = Option Overflow} (Some o) None → ⊥
-        clash k = cc
+pub first_fits : (o : Overflow) (os : List Overflow) → first_overflow (o ∷ os) ≡ None → IsCoefficient (exact_value o) × (first_overflow os ≡ None)
+first_fits o os e = let inside : is_coefficient (exact_value o) ≡ true = grind arith in (grind (arith, nat_tests), grind arith)
 
 pub in_range-scaled : (k : ℤ) (p : List Term) → first_overflow (products k p) ≡ None → All (λ t. IsCoefficient t.0) (scaled k p)
 in_range-scaled k [] e = All-nil IsInRange

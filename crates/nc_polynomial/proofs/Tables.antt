@@ -1,5 +1,6 @@
 -- The terms of a table of words.
-use Rattle.std.proofs.Common.{◌≡◌, ◌≢◌, ℕ, zero, suc, ◌+◌, ◌≤◌, ℤ, pos, negsuc, ◌+ℤ◌, length, Bool, true, false, cond, List, [], ◌∷◌, get_or, ◌++◌, map, Some, None, unwrap_or, sym, refl, ap, subst, ◌∙◌, arith, append_assoc}
+use Rattle.std.proofs.lemmas.Bool.{cases_Bool, cond_both}
+use Rattle.std.proofs.Common.{◌≡◌, ◌≢◌, ℕ, zero, suc, ◌+◌, ◌≤◌, ℤ, pos, negsuc, ◌+ℤ◌, length, false, cond, List, [], ◌∷◌, get_or, ◌++◌, map, Some, None, unwrap_or, sym, refl, ap, subst, ◌∙◌, arith, append_assoc, inl, inr}
 use Rattle.std.proofs.lemmas.Int.{ints}
 use Rattle.std.proofs.Math.IntN.{+ℤ_idr}
 use Rattle.std.specs.List.{All, AllByRecursion as ByRecursion}
@@ -88,12 +89,10 @@ apart v entries h = All-map (λ (u : Term). word_eq u.1 v ≡ false) term_of ent
 -- what is listed at a word is its coefficient
 pub lookup-coefficient : (w : List ℕ) (entries : List Entry) → Ascends entries → unwrap_or (lookup (λ k. is_eq (word_cmp w k)) entries) (pos 0) ≡ coefficient_of (map term_of entries) w
 lookup-coefficient w [] up = refl
-lookup-coefficient w (e ∷ entries) up = go (is_eq (word_cmp w e.0)) (word_eq-cmp w e.0) (lookup-coefficient w entries up.1)
-  where
-    go : (b : Bool) → word_eq w e.0 ≡ b → unwrap_or (lookup (λ k. is_eq (word_cmp w k)) entries) (pos 0) ≡ coefficient_of (map term_of entries) w
-        → unwrap_or (cond b (Some e.1) (lookup (λ k. is_eq (word_cmp w k)) entries)) (pos 0) ≡ coefficient_of (map term_of (e ∷ entries)) w
-    go true same rest = sym (ap (coefficient_of (map term_of (e ∷ entries))) (word_eq-true w e.0 same) ∙ first_coefficient (term_of e) (map term_of entries) (apart e.0 entries up.0))
-    go false other rest = rest ∙ sym (coefficient_other w (term_of e) (map term_of entries) (word_eq-turned e.0 w ∙ other))
+lookup-coefficient w (e ∷ entries) up =
+    cond_both (is_eq (word_cmp w e.0)) _ _ (λ o. unwrap_or o (pos 0) ≡ coefficient_of (map term_of (e ∷ entries)) w)
+    (λ same. sym (ap (coefficient_of (map term_of (e ∷ entries))) (word_eq-true w e.0 (word_eq-cmp w e.0 ∙ same)) ∙ first_coefficient (term_of e) (map term_of entries) (apart e.0 entries up.0)))
+    (λ other. lookup-coefficient w entries up.1 ∙ sym (coefficient_other w (term_of e) (map term_of entries) (word_eq-turned e.0 w ∙ word_eq-cmp w e.0 ∙ other)))
 
 -- the whole table
 module _ (table : BTreeMap (List ℕ) ℤ) (sorted : IsOrdered word_cmp table) where
@@ -117,7 +116,7 @@ module _ (table : BTreeMap (List ℕ) ℤ) (sorted : IsOrdered word_cmp table) w
     in_range = ranged-descending (reversed table.entries []) descending-table (λ w. subst IsCoefficient (sym (coefficient_of-table w)) (in_range w));
   }
 
-length-keep : (z : ℤ) (w : List ℕ) (p : List Term) → length (keep z w p) ≤ length p + 1
+pub length-keep : (z : ℤ) (w : List ℕ) (p : List Term) → length (keep z w p) ≤ length p + 1
 length-keep (pos zero) w p = omega arith
 length-keep (pos (suc n)) w p = omega arith
 length-keep (negsuc n) w p = omega arith
@@ -138,14 +137,13 @@ nonzero-entries : (entries : List Entry) → Ascends entries → ((w : List ℕ)
 nonzero-entries [] up h = All-nil (λ (x : Entry). x.1 ≢ pos 0)
 nonzero-entries (e ∷ entries) up h = All-cons (λ (x : Entry). x.1 ≢ pos 0) e entries
     (λ zero. h e.0 (ap (λ b. cond b (Some e.1) (lookup (λ k. is_eq (word_cmp e.0 k)) entries)) (ap is_eq (word_cmp-itself e.0)) ∙ ap Some zero))
-    (nonzero-entries entries up.1 (λ w there. go w (is_eq (word_cmp w e.0)) refl there))
-  where
-    go : (w : List ℕ) (b : Bool) → is_eq (word_cmp w e.0) ≡ b → lookup (λ k. is_eq (word_cmp w k)) entries ≡ Some (pos 0) → ⊥
-    go w true same there =
-        let word = word_cmp-same w e.0 ((Equal-is (word_cmp w e.0)).0 same) in
-        let none = lookup-below w entries (subst (λ v. All (λ (x : Entry). word_cmp v x.0 ≡ Less) entries) (sym word) up.0) in
-        (cc)
-    go w false other there = h w (ap (λ b. cond b (Some e.1) (lookup (λ k. is_eq (word_cmp w k)) entries)) other ∙ there)
+    (nonzero-entries entries up.1 (λ w there. elim (cases_Bool (is_eq (word_cmp w e.0))) [
+      | inl same ↦
+          let word = word_cmp-same w e.0 ((Equal-is (word_cmp w e.0)).0 same) in
+          let none = lookup-below w entries (subst (λ v. All (λ (x : Entry). word_cmp v x.0 ≡ Less) entries) (sym word) up.0) in
+          cc
+      | inr other ↦ h w (ap (λ b. cond b (Some e.1) (lookup (λ k. is_eq (word_cmp w k)) entries)) other ∙ there)
+    ]))
 
 length-all : (entries : List Entry) (later : List Term) → All (λ e. e.1 ≢ pos 0) entries → length (reversed entries later) ≡ length entries + length later
 length-all [] later h = omega arith

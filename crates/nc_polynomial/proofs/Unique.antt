@@ -9,7 +9,7 @@ use Rattle.definitions.specs.Poly.{Term, SamePolynomial}
 use Rattle.definitions.proofs.Canonical.{IsStrictOrder}
 use Rattle.definitions.proofs.Canonical.{IsCanonical as IsCanonicalBy, canonical_unique as unique_by}
 use Rattle.word_core.specs.Canonical.{word_cmp, word_cmp_total}
-use Rattle.word_core.proofs.Order.{word_cmp-same}
+use Rattle.word_core.proofs.Order.{word_cmp-same, word_cmp-itself}
 use Rattle.nc_polynomial.specs.Shape.{IsShaped, IsCanonical}
 use Rattle.nc_polynomial.proofs.Shapes.{Descends, IsNonzero, recursion_from_IsDescending}
 
@@ -18,25 +18,18 @@ abbrev pub is_below : List ℕ → List ℕ → Bool
 is_below v w = is_lt (word_cmp v w)
 
 less_from_test : (o : Ordering) → is_lt o ≡ true → o ≡ Less
-less_from_test Less e = refl
-less_from_test Equal e = cc
-less_from_test Greater e = cc
+less_from_test o h = grind arith
 
 itself : (w : List ℕ) → is_lt (word_cmp w w) ≡ false
-itself w = go (word_cmp w w) (word_cmp_total.antisymm w w)
-  where
-    go : (o : Ordering) → o ≡ ordering_reverse o → is_lt o ≡ false
-    go Less e = cc
-    go Equal e = refl
-    go Greater e = refl
+itself w = ap is_lt (word_cmp-itself w)
 
 three_ways : (v w : List ℕ) → (v ≡ w) ⊎ ((is_below v w ≡ true) ⊎ (is_below w v ≡ true))
-three_ways v w = go (word_cmp v w) refl
-  where
-    go : (o : Ordering) → word_cmp v w ≡ o → (v ≡ w) ⊎ ((is_below v w ≡ true) ⊎ (is_below w v ≡ true))
-    go Less e = inr (inl (ap is_lt e))
-    go Equal e = inl (word_cmp-same v w e)
-    go Greater e = inr (inr (ap is_lt (word_cmp_total.antisymm w v ∙ ap ordering_reverse e)))
+three_ways v w =
+    (elim (word_cmp v w) as (λ o. word_cmp v w ≡ o → (v ≡ w) ⊎ ((is_below v w ≡ true) ⊎ (is_below w v ≡ true))) [
+      | Less ↦ λ e. inr (inl (ap is_lt e))
+      | Equal ↦ λ e. inl (word_cmp-same v w e)
+      | Greater ↦ λ e. inr (inr (ap is_lt (word_cmp_total.antisymm w v ∙ ap ordering_reverse e)))
+    ]) refl
 
 pub below_is_strict : IsStrictOrder is_below
 below_is_strict = record {

@@ -1,6 +1,6 @@
 -- Sums and differences are combinations with the factors 1 and -1.
-use Rattle.std.proofs.Common.{◌≡◌, ◌≢◌, suc, ◌*◌, ℤ, pos, negsuc, neg_ℤ, ◌*ℤ◌, List, [], ◌∷◌, None, Ok, sym, refl, ap, ap₂, subst, ◌∙◌, arith}
-use Rattle.std.proofs.Math.IntN.{pos-*ℤ-pos, pos-*ℤ-negsuc}
+use Rattle.std.proofs.lemmas.Int.{ints}
+use Rattle.std.proofs.Common.{◌≡◌, ◌≢◌, ℤ, pos, negsuc, ◌*ℤ◌, List, [], ◌∷◌, None, Ok, sym, refl, ap, ap₂, subst, ◌∙◌, arith}
 use Rattle.std.proofs.lemmas.List.Elements.{All-tail}
 use Rattle.std.specs.List.{All}
 use Rattle.coef_int.specs.Range.{IsCoefficient}
@@ -16,12 +16,7 @@ use Rattle.nc_polynomial.proofs.Shapes.{IsInRange, shaped-negated}
 use Rattle.nc_polynomial.proofs.Values.{SamePolynomial-added, negated-multiple}
 
 pub one-*ℤ : (z : ℤ) → pos 1 *ℤ z ≡ z
-one-*ℤ (pos n) =
-    let once : 1 * n ≡ n = omega arith in
-    pos-*ℤ-pos 1 n ∙ ap pos once
-one-*ℤ (negsuc n) =
-    let once : 1 * suc n ≡ suc n = omega arith in
-    pos-*ℤ-negsuc 1 n ∙ ap (λ m. neg_ℤ (pos m)) once
+one-*ℤ z = omega (arith, ints)
 
 multiple-one : (p : List Term) → poly_multiple (pos 1) p ≡ p
 multiple-one [] = refl

@@ -1,6 +1,6 @@
 -- What the calls return, as polynomials.
-use Rattle.std.proofs.Common.{◌≡◌, suc, ℤ, pos, negsuc, neg_ℤ, ◌*ℤ◌, ◌*◌, arith, List, [], ◌∷◌, Ok, sym, refl, ap, ap₂, subst, ◌∙◌}
-use Rattle.std.proofs.Math.IntN.{negsuc-*ℤ-pos, negsuc-*ℤ-negsuc}
+use Rattle.std.proofs.lemmas.Int.{ints}
+use Rattle.std.proofs.Common.{◌≡◌, ℤ, negsuc, neg_ℤ, ◌*ℤ◌, arith, List, [], ◌∷◌, Ok, sym, refl, ap₂, subst, ◌∙◌}
 use Rattle.definitions.specs.Poly.{Term, SamePolynomial, poly_sum, poly_multiple}
 use Rattle.definitions.proofs.Coefficients.{Same_trans, SamePolynomial-append, coefficient_of-append, coefficient_of-multiple}
 use Rattle.nc_polynomial.specs.Terms.{scaled, products, negated, added, sums}
@@ -15,12 +15,7 @@ pub SamePolynomial-scaled : (k : ℤ) (p : List Term) → SamePolynomial (scaled
 SamePolynomial-scaled k p = record { at = λ w. coefficient_of-scaled k p w ∙ sym (coefficient_of-multiple k p w) }
 
 negsuc-zero-*ℤ : (z : ℤ) → neg_ℤ z ≡ negsuc 0 *ℤ z
-negsuc-zero-*ℤ (pos n) =
-    let once : n ≡ 1 * n = omega arith in
-    ap (λ m. neg_ℤ (pos m)) once ∙ sym (negsuc-*ℤ-pos 0 n)
-negsuc-zero-*ℤ (negsuc n) =
-    let once : suc n ≡ 1 * suc n = omega arith in
-    ap pos once ∙ sym (negsuc-*ℤ-negsuc 0 n)
+negsuc-zero-*ℤ z = omega (arith, ints)
 
 -- the sign of each coefficient is turned by the factor -1
 pub negated-multiple : (p : List Term) → negated p ≡ poly_multiple (negsuc 0) p

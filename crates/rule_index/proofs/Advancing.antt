@@ -20,14 +20,13 @@ module _ (nodes : List Node) (letter : ℕ) (initial now : List ℕ) (place kept
     few = omega (arith, h.few);
     rest = λ i later. h.rest i (omega arith);
     sound = h.sound;
-    complete = λ j k before child. go j k child (cases_lt j place) before;
-  }
-    where
-      go : (j k : ℕ) → IsChild nodes (get_or initial j 0) letter k → (j < place) ⊎ (place ≤ j) → j < place + 1 → ListsBelow kept now k
-      go j k child (inl below) before = h.complete j k below child
-      go j k child (inr above) before =
+    complete = λ j k before child. elim (cases_lt j place) [
+      | inl below ↦ h.complete j k below child
+      | inr above ↦
           let here : j ≡ place = omega arith in
           absurd (none k (subst (λ p. IsChild nodes p letter k) (ap (λ i. get_or initial i 0) here ∙ sym (h.rest place (omega arith))) child))
+    ];
+  }
 
   pub advance-keep : (node : ℕ) → place < length initial → ((p j k : ℕ) → IsChild nodes p letter j → IsChild nodes p letter k → j ≡ k) → IsChild nodes (get_or now place 0) letter node
       → IsAdvancing nodes letter initial (set now kept node) (place + 1) (kept + 1)

@@ -1,38 +1,17 @@
 -- How many words are prefixes of the first entries.
-use Rattle.std.proofs.Common.{◌≡◌, ◌⊎◌, inl, inr, ℕ, zero, suc, ◌+◌, ◌<◌, ◌≤◌, ◌≢◌, Bool, true, false, cond, nat_lt, List, [], ◌∷◌, ◌++◌, length, get_or, take, Option, Some, None, refl, sym, ap, ◌∙◌, subst, arith}
+use Rattle.std.proofs.Common.{◌≡◌, ℕ, zero, suc, ◌+◌, ◌<◌, ◌≤◌, ◌≢◌, Bool, true, false, cond, List, [], ◌∷◌, ◌++◌, length, get_or, take, Option, Some, None, refl, sym, ap, ◌∙◌, subst, arith}
 use Rattle.std.specs.List.{All}
 use Rattle.std.specs.Option.{option_map}
 use Rattle.std.proofs.lemmas.List.{length_push, length-take-le, get_or-take, take-append-le, take_all}
+use Rattle.std.proofs.lemmas.Bool.Decides.{nat_tests}
 use Rattle.rule_index.specs.Prefixes.{has, word_at}
 use Rattle.rule_index.specs.Automaton.{ends_with, first_of, IsMarked, IsWithin}
 use Rattle.rule_index.specs.Cuts.{earlier, IsCounted}
 use Rattle.rule_index.proofs.Fronts.{take-take, front-short}
-use Rattle.rule_index.proofs.Relinking.{lt_cases}
 use Rattle.rule_index.proofs.Pushing.{Same, is_same, is_other, same_or, push-old, push-new}
 
-lt-true : (x y : ℕ) → x < y → nat_lt x y ≡ true
-lt-true x y below = go (lt_cases x y)
-  where
-    go : ((nat_lt x y ≡ true) × (x < y)) ⊎ ((nat_lt x y ≡ false) × (y ≤ x)) → nat_lt x y ≡ true
-    go (inl t) = t.0
-    go (inr f) = absurd (omega (arith, f.1))
-
-lt-false : (x y : ℕ) → y ≤ x → nat_lt x y ≡ false
-lt-false x y past = go (lt_cases x y)
-  where
-    go : ((nat_lt x y ≡ true) × (x < y)) ⊎ ((nat_lt x y ≡ false) × (y ≤ x)) → nat_lt x y ≡ false
-    go (inl t) = absurd (omega (arith, t.1))
-    go (inr f) = f.0
-
-at_test : (x : ℕ) (b c : Bool) → b ≡ c → cond b (Some x) None ≡ cond c (Some x) None
-at_test x b c same = ap (λ d. cond d (Some x) None) same
-
 earlier-suc : (n x : ℕ) → earlier (suc n) (Some (suc x)) ≡ option_map suc (earlier n (Some x))
-earlier-suc n x = go (lt_cases x n)
-  where
-    go : ((nat_lt x n ≡ true) × (x < n)) ⊎ ((nat_lt x n ≡ false) × (n ≤ x)) → earlier (suc n) (Some (suc x)) ≡ option_map suc (earlier n (Some x))
-    go (inl t) = at_test (suc x) (nat_lt (suc x) (suc n)) true (lt-true (suc x) (suc n) (omega (arith, t.1))) ∙ sym (ap (option_map suc) (at_test x (nat_lt x n) true t.0))
-    go (inr f) = at_test (suc x) (nat_lt (suc x) (suc n)) false (lt-false (suc x) (suc n) (omega (arith, f.1))) ∙ sym (ap (option_map suc) (at_test x (nat_lt x n) false f.0))
+earlier-suc n x = grind (arith, nat_tests)
 
 -- the first of the first entries
 first-take : (p : List ℕ → Bool) (n : ℕ) (es : List (List ℕ × ℕ)) → earlier n (first_of p es) ≡ first_of p (take n es)
@@ -42,11 +21,11 @@ first-take p zero (f ∷ es) = none (cond (p f.0) (Some 0) (option_map suc (firs
   where
     none : (r : Option ℕ) → earlier zero r ≡ None
     none None = refl
-    none (Some x) = at_test x (nat_lt x 0) false (lt-false x 0 (omega arith))
+    none (Some x) = grind (arith, nat_tests)
 first-take p (suc n) (f ∷ es) = go (p f.0) (first_of p es) (first_of p (take n es)) (first-take p n es)
   where
     go : (b : Bool) (r s : Option ℕ) → earlier n r ≡ s → earlier (suc n) (cond b (Some 0) (option_map suc r)) ≡ cond b (Some 0) (option_map suc s)
-    go true r s same = at_test 0 (nat_lt 0 (suc n)) true (lt-true 0 (suc n) (omega arith))
+    go true r s same = grind (arith, nat_tests)
     go false None s same = ap (option_map suc) same
     go false (Some x) s same = earlier-suc n x ∙ ap (option_map suc) same
 

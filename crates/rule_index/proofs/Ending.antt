@@ -1,25 +1,14 @@
 -- The nodes that the word ends, a letter further, and their marks.
-use Rattle.std.proofs.Common.{◌≡◌, ◌⊎◌, inl, inr, ℕ, zero, suc, ◌+◌, ◌<◌, ◌||◌, Bool, true, false, List, [], ◌∷◌, ◌++◌, length, get_or, set, drop, Option, Some, None, refl, sym, ap, ◌∙◌, subst, arith, get_or-set_other, get_or-set_same}
+use Rattle.std.proofs.Common.{◌≡◌, inl, inr, ℕ, zero, suc, ◌+◌, ◌<◌, true, List, [], ◌∷◌, ◌++◌, length, get_or, set, drop, Option, Some, None, refl, sym, ap, ◌∙◌, subst, arith, get_or-set_other, get_or-set_same}
 use Rattle.std.proofs.lemmas.List.{length_push, same_from_push}
+use Rattle.std.proofs.lemmas.Bool.{or_cases, or_left, or_right}
 use Rattle.rule_index.specs.declared.tree.Node.{Node}
 use Rattle.rule_index.specs.Prefixes.{same_word, word_at}
-use Rattle.rule_index.specs.Automaton.{ends_with, marked, node_at, Lists, ListsBelow, IsSpelled, IsMarkedAt, IsEnds, IsAdvanced}
+use Rattle.rule_index.specs.Automaton.{ends_with, marked, node_at, Lists, IsSpelled, IsMarkedAt, IsEnds, IsAdvanced}
 use Rattle.rule_index.proofs.Suffixes.{same-true, same-itself}
-use Rattle.rule_index.proofs.Pushing.{Same, is_same, is_other, same_or}
+use Rattle.rule_index.proofs.Pushing.{is_same, is_other, same_or}
 use Rattle.rule_index.proofs.Relinking.{lists-more, lists-fewer}
 use Rattle.rule_index.proofs.Spelled.{child-word, word-some}
-
-pub or_left : (b c : Bool) → b ≡ true → (b || c) ≡ true
-or_left true c e = refl
-or_left false c e = absurd (cc)
-
-pub or_right : (b c : Bool) → c ≡ true → (b || c) ≡ true
-or_right true c e = refl
-or_right false c e = e
-
-pub or_either : (b c : Bool) → (b || c) ≡ true → (b ≡ true) ⊎ (c ≡ true)
-or_either true c e = inl refl
-or_either false c e = inr e
 
 -- a letter after both
 record Behind (u t : List ℕ) (x c : ℕ) : Type 0 where
@@ -36,24 +25,21 @@ ends-itself [] = refl
 ends-itself (y ∷ u) = or_left (same_word (y ∷ u) (y ∷ u)) (ends_with u (y ∷ u)) (same-itself (y ∷ u))
 
 ends-behind : (u t : List ℕ) (x c : ℕ) → ends_with (u ++ x ∷ []) (t ++ c ∷ []) ≡ true → Behind u t x c
-ends-behind [] t x c e = go (or_either (same_word (x ∷ []) (t ++ c ∷ [])) (same_word [] (t ++ c ∷ [])) e)
-  where
-    go : (same_word (x ∷ []) (t ++ c ∷ []) ≡ true) ⊎ (same_word [] (t ++ c ∷ []) ≡ true) → Behind [] t x c
-    go (inl s) = behind_from [] t x c (same-true (x ∷ []) (t ++ c ∷ []) s) refl
-    go (inr s) = absurd (omega (arith, ap length (same-true [] (t ++ c ∷ []) s), length_push t c))
-ends-behind (y ∷ u) t x c e = go (or_either (same_word (y ∷ (u ++ x ∷ [])) (t ++ c ∷ [])) (ends_with (u ++ x ∷ []) (t ++ c ∷ [])) e) (ends-behind u t x c)
-  where
-    go : (same_word (y ∷ (u ++ x ∷ [])) (t ++ c ∷ []) ≡ true) ⊎ (ends_with (u ++ x ∷ []) (t ++ c ∷ []) ≡ true) → (ends_with (u ++ x ∷ []) (t ++ c ∷ []) ≡ true → Behind u t x c) → Behind (y ∷ u) t x c
-    go (inl s) later = behind_from (y ∷ u) t x c (same-true (y ∷ (u ++ x ∷ [])) (t ++ c ∷ []) s) (ends-itself (y ∷ u))
-    go (inr s) later = let b = later s in record { letter = b.letter; rest = or_right (same_word (y ∷ u) t) (ends_with u t) b.rest }
+ends-behind [] t x c e = elim (or_cases (same_word (x ∷ []) (t ++ c ∷ [])) (same_word [] (t ++ c ∷ [])) e) [
+  | inl s ↦ behind_from [] t x c (same-true (x ∷ []) (t ++ c ∷ []) s) refl
+  | inr s ↦ absurd (omega (arith, ap length (same-true [] (t ++ c ∷ []) s), length_push t c))
+]
+ends-behind (y ∷ u) t x c e = elim (or_cases (same_word (y ∷ (u ++ x ∷ [])) (t ++ c ∷ [])) (ends_with (u ++ x ∷ []) (t ++ c ∷ [])) e) [
+  | inl s ↦ behind_from (y ∷ u) t x c (same-true (y ∷ (u ++ x ∷ [])) (t ++ c ∷ []) s) (ends-itself (y ∷ u))
+  | inr s ↦ let b = ends-behind u t x c s in record { letter = b.letter; rest = or_right (same_word (y ∷ u) t) (ends_with u t) b.rest }
+]
 
 ends-more : (u t : List ℕ) (c : ℕ) → ends_with u t ≡ true → ends_with (u ++ c ∷ []) (t ++ c ∷ []) ≡ true
 ends-more [] t c e = subst (λ v. ends_with (c ∷ []) (v ++ c ∷ []) ≡ true) (same-true [] t e) (ends-itself (c ∷ []))
-ends-more (y ∷ u) t c e = go (or_either (same_word (y ∷ u) t) (ends_with u t) e) (ends-more u t c)
-  where
-    go : (same_word (y ∷ u) t ≡ true) ⊎ (ends_with u t ≡ true) → (ends_with u t ≡ true → ends_with (u ++ c ∷ []) (t ++ c ∷ []) ≡ true) → ends_with (y ∷ (u ++ c ∷ [])) (t ++ c ∷ []) ≡ true
-    go (inl s) later = subst (λ v. ends_with ((y ∷ u) ++ c ∷ []) (v ++ c ∷ []) ≡ true) (same-true (y ∷ u) t s) (ends-itself ((y ∷ u) ++ c ∷ []))
-    go (inr s) later = or_right (same_word (y ∷ (u ++ c ∷ [])) (t ++ c ∷ [])) (ends_with (u ++ c ∷ []) (t ++ c ∷ [])) (later s)
+ends-more (y ∷ u) t c e = elim (or_cases (same_word (y ∷ u) t) (ends_with u t) e) [
+  | inl s ↦ subst (λ v. ends_with ((y ∷ u) ++ c ∷ []) (v ++ c ∷ []) ≡ true) (same-true (y ∷ u) t s) (ends-itself ((y ∷ u) ++ c ∷ []))
+  | inr s ↦ or_right (same_word (y ∷ (u ++ c ∷ [])) (t ++ c ∷ [])) (ends_with (u ++ c ∷ []) (t ++ c ∷ [])) (ends-more u t c s)
+]
 
 pub ends-nothing : (t : List ℕ) → ends_with t [] ≡ true
 ends-nothing [] = refl
@@ -97,31 +83,26 @@ ends-advanced nodes words spelled t c before after h moved = record {
         by_parent k p above within refl (spelled.parent_in k) (subst (λ w. ends_with (drop 1 w) (t ++ c ∷ []) ≡ true) (spelled.spelled k above within) e) (word_at words p) refl
 
 -- the marks
+pub marked-twice : (o : Option ℕ) (place : ℕ) → marked (marked o place) place ≡ marked o place
+marked-twice None place = refl
+marked-twice (Some x) place = refl
+
 pub mark-more : (ends : List ℕ) (n place : ℕ) (before now : List (Option ℕ)) (k : ℕ) → k < length now → IsMarkedAt ends n place (get_or before k None) (get_or now k None) k
     → IsMarkedAt ends (n + 1) place (get_or before k None) (get_or (set now (get_or ends n 0) (marked (get_or now (get_or ends n 0) None) place)) k None) k
-mark-more ends n place before now k inside h = go (same_or k (get_or ends n 0)) h.either
-  where
-    twice : (o : Option ℕ) → marked (marked o place) place ≡ marked o place
-    twice None = refl
-    twice (Some x) = refl
-
-    go : Same k (get_or ends n 0) → (ListsBelow n ends k × (get_or now k None ≡ marked (get_or before k None) place)) ⊎ ((ListsBelow n ends k → ⊥) × (get_or now k None ≡ get_or before k None))
-        → IsMarkedAt ends (n + 1) place (get_or before k None) (get_or (set now (get_or ends n 0) (marked (get_or now (get_or ends n 0) None) place)) k None) k
-    go (is_same e) m =
-        let here : get_or (set now (get_or ends n 0) (marked (get_or now (get_or ends n 0) None) place)) k None ≡ marked (get_or now k None) place =
-        sym (ap (λ j. get_or (set now j (marked (get_or now j None) place)) k None) e) ∙ get_or-set_same now k (marked (get_or now k None) place) None inside in
-        record { either = inl ((n, omega arith, sym e), here ∙ old m) }
-      where
-        old : (ListsBelow n ends k × (get_or now k None ≡ marked (get_or before k None) place)) ⊎ ((ListsBelow n ends k → ⊥) × (get_or now k None ≡ get_or before k None)) → marked (get_or now k None) place ≡ marked (get_or before k None) place
-        old (inl l) = ap (λ o. marked o place) l.1 ∙ twice (get_or before k None)
-        old (inr r) = ap (λ o. marked o place) r.1
-    go (is_other o) m =
-        let there : get_or (set now (get_or ends n 0) (marked (get_or now (get_or ends n 0) None) place)) k None ≡ get_or now k None =
-        get_or-set_other now (get_or ends n 0) k (marked (get_or now (get_or ends n 0) None) place) None o in
-        old there m
-      where
-        old : get_or (set now (get_or ends n 0) (marked (get_or now (get_or ends n 0) None) place)) k None ≡ get_or now k None
-            → (ListsBelow n ends k × (get_or now k None ≡ marked (get_or before k None) place)) ⊎ ((ListsBelow n ends k → ⊥) × (get_or now k None ≡ get_or before k None))
-            → IsMarkedAt ends (n + 1) place (get_or before k None) (get_or (set now (get_or ends n 0) (marked (get_or now (get_or ends n 0) None) place)) k None) k
-        old there (inl l) = record { either = inl (lists-more n ends k l.0, there ∙ l.1) }
-        old there (inr r) = record { either = inr (λ l. r.0 (lists-fewer n ends k o l), there ∙ r.1) }
+mark-more ends n place before now k inside h = elim (same_or k (get_or ends n 0)) [
+  | is_same e ↦
+      let here : get_or (set now (get_or ends n 0) (marked (get_or now (get_or ends n 0) None) place)) k None ≡ marked (get_or now k None) place =
+      sym (ap (λ j. get_or (set now j (marked (get_or now j None) place)) k None) e) ∙ get_or-set_same now k (marked (get_or now k None) place) None inside in
+      let old : marked (get_or now k None) place ≡ marked (get_or before k None) place = elim h.either [
+        | inl l ↦ ap (λ o. marked o place) l.1 ∙ marked-twice (get_or before k None) place
+        | inr r ↦ ap (λ o. marked o place) r.1
+      ] in
+      record { either = inl ((n, omega arith, sym e), here ∙ old) }
+  | is_other o ↦
+      let there : get_or (set now (get_or ends n 0) (marked (get_or now (get_or ends n 0) None) place)) k None ≡ get_or now k None =
+      get_or-set_other now (get_or ends n 0) k (marked (get_or now (get_or ends n 0) None) place) None o in
+      elim h.either [
+        | inl l ↦ record { either = inl (lists-more n ends k l.0, there ∙ l.1) }
+        | inr r ↦ record { either = inr (λ l. r.0 (lists-fewer n ends k o l), there ∙ r.1) }
+      ]
+]

@@ -1,5 +1,5 @@
 -- The first entry whose word passes a test, and the first that occurs.
-use Rattle.std.proofs.Common.{◌≡◌, ℕ, suc, ◌<◌, ◌||◌, ◌&&◌, Bool, true, false, nat_eq, List, [], ◌∷◌, ◌++◌, length, get_or, Option, Some, None, IsSome, MatchOption, cond, refl, sym, subst, ap, ap₂, ◌∙◌, arith}
+use Rattle.std.proofs.Common.{◌≡◌, ℕ, suc, ◌<◌, ◌||◌, Bool, true, false, List, [], ◌∷◌, ◌++◌, length, get_or, Option, Some, None, IsSome, MatchOption, cond, refl, sym, subst, ap, ◌∙◌, arith}
 use Rattle.std.specs.Option.{option_map}
 use Rattle.std.specs.List.{All}
 use Rattle.std.proofs.lemmas.List.Elements.{All-tail}
@@ -8,44 +8,27 @@ use Rattle.rule_index.specs.Prefixes.{same_word, has}
 use Rattle.rule_index.specs.Automaton.{longest, ends_with, first_of, occurs, sooner}
 use Rattle.rule_index.proofs.Suffixes.{ends-longest}
 
-or_regroup : (a b c d : Bool) → ((a || b) || (c || d)) ≡ ((a || c) || (b || d))
-or_regroup true b c d = refl
-or_regroup false true true d = refl
-or_regroup false true false d = refl
-or_regroup false false c d = refl
-
-and_or : (a b c : Bool) → (a && (b || c)) ≡ ((a && b) || (a && c))
-and_or true b c = refl
-and_or false b c = refl
-
 begins-push : (t w : List ℕ) (c : ℕ) → begins_with (t ++ c ∷ []) w ≡ (begins_with t w || same_word (t ++ c ∷ []) w)
 begins-push t [] c = refl
 begins-push [] (z ∷ []) c = refl
 begins-push [] (z ∷ (x ∷ w)) c = refl
-begins-push (y ∷ t) (z ∷ w) c = ap (λ b. nat_eq y z && b) (begins-push t w c) ∙ and_or (nat_eq y z) (begins_with t w) (same_word (t ++ c ∷ []) w)
+begins-push (y ∷ t) (z ∷ w) c = let rest = begins-push t w c in grind arith
 
 pub occurs-push : (t w : List ℕ) (c : ℕ) → occurs (t ++ c ∷ []) w ≡ (occurs t w || ends_with (t ++ c ∷ []) w)
-occurs-push [] w c = ap (λ b. b || begins_with [] w) (begins-push [] w c) ∙ tail (begins_with [] w) (same_word (c ∷ []) w) (begins_with [] w) (same_word [] w) (nil w)
+occurs-push [] w c = let here = begins-push [] w c in let same : begins_with [] w ≡ same_word [] w = nil w in grind arith
   where
     nil : (w : List ℕ) → begins_with [] w ≡ same_word [] w
     nil [] = refl
     nil (x ∷ w) = refl
-
-    tail : (a b c d : Bool) → c ≡ d → ((a || b) || c) ≡ (a || (b || d))
-    tail true b c d e = refl
-    tail false b c d e = ap (λ x. b || x) e
-occurs-push (y ∷ t) w c =
-    ap₂ ◌||◌ (begins-push (y ∷ t) w c) (occurs-push t w c)
-    ∙ or_regroup (begins_with (y ∷ t) w) (same_word (y ∷ (t ++ c ∷ [])) w) (occurs t w) (ends_with (t ++ c ∷ []) w)
+occurs-push (y ∷ t) w c = let here = begins-push (y ∷ t) w c in let rest = occurs-push t w c in grind arith
 
 -- tests that agree on the entries
 pub same_first : (p q : List ℕ → Bool) (entries : List (List ℕ × ℕ)) → All (λ e. p e.0 ≡ q e.0) entries → first_of p entries ≡ first_of q entries
 same_first p q [] h = refl
-same_first p q (e ∷ entries) h = let here : p e.0 ≡ q e.0 = h 0 e (omega arith) in rw here (go (q e.0) (same_first p q entries (All-tail (λ (f : List ℕ × ℕ). p f.0 ≡ q f.0) e entries h)))
-  where
-    go : (b : Bool) → first_of p entries ≡ first_of q entries → cond b (Some 0) (option_map suc (first_of p entries)) ≡ cond b (Some 0) (option_map suc (first_of q entries))
-    go true s = refl
-    go false s = ap (option_map suc) s
+same_first p q (e ∷ entries) h =
+    let here : p e.0 ≡ q e.0 = h 0 e (omega arith) in
+    let rest = same_first p q entries (All-tail (λ (f : List ℕ × ℕ). p f.0 ≡ q f.0) e entries h) in
+    rw here (ap (λ r. cond (q e.0) (Some 0) (option_map suc r)) rest)
 
 -- either of two tests
 sooner_suc : (r s : Option ℕ) → sooner (option_map suc r) (option_map suc s) ≡ option_map suc (sooner r s)

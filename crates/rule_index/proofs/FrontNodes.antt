@@ -1,7 +1,7 @@
 -- The first nodes, their words and their links.
-use Rattle.std.proofs.Common.{◌≡◌, ◌⊎◌, inl, inr, ℕ, zero, suc, ◌+◌, ◌<◌, ◌≤◌, List, [], ◌∷◌, ◌++◌, length, get_or, take, drop, refl, sym, ap, ap₂, ◌∙◌, arith}
+use Rattle.std.proofs.Common.{◌≡◌, inl, inr, ℕ, zero, suc, ◌+◌, ◌<◌, ◌≤◌, List, [], ◌∷◌, ◌++◌, length, get_or, take, drop, refl, sym, ap, ap₂, ◌∙◌, arith}
 use Rattle.std.proofs.Math.Seq.{take-append_seam}
-use Rattle.std.proofs.lemmas.List.{append_assoc, length_push, length-take-le, get_or-take, get_or_past, take_all}
+use Rattle.std.proofs.lemmas.List.{append_assoc, append-nil, length_push, length-take-le, get_or-take, get_or_past, take_all}
 use Rattle.std.proofs.lemmas.Bool.{cases_lt}
 use Rattle.rule_index.specs.declared.tree.Node.{Node}
 use Rattle.rule_index.specs.Prefixes.{word_at}
@@ -14,11 +14,7 @@ record Longer (words all : List (List ℕ)) : Type 0 where
   splits : all ≡ words ++ more
 
 grown-more : (words : List (List ℕ)) (nodes : List Node) → Longer words (grown words nodes)
-grown-more words [] = record { more = []; splits = sym (nothing words) }
-  where
-    nothing : (words : List (List ℕ)) → words ++ [] ≡ words
-    nothing [] = refl
-    nothing (w ∷ words) = ap (λ ws. w ∷ ws) (nothing words)
+grown-more words [] = record { more = []; splits = sym (append-nil words) }
 grown-more words (m ∷ nodes) =
     let w = word_at words m.parent ++ m.letter ∷ [] in
     let rest = grown-more (words ++ w ∷ []) nodes in
@@ -61,25 +57,16 @@ module _ (nodes : List Node) (size : ℕ) (some : 0 < size) (within : size ≤ l
     word-front k below = get_or-take size words k [] below
 
     parent_in : (k : ℕ) → (node_at front k).parent < length front
-    parent_in k = go (cases_lt k size)
-      where
-        go : (k < size) ⊎ (size ≤ k) → (node_at front k).parent < length front
-        go (inl below) = omega (arith, ap (λ n. n.parent) (node-front k below), h.parent_low k, count-front)
-        go (inr past) = omega (arith, ap (λ n. n.parent) (node-past k past), count-front)
+    parent_in k = elim (cases_lt k size) [
+      | inl below ↦ omega (arith, ap (λ n. n.parent) (node-front k below), h.parent_low k, count-front)
+      | inr past ↦ omega (arith, ap (λ n. n.parent) (node-past k past), count-front)
+    ]
 
     parent_low : (k : ℕ) → (node_at front k).parent ≤ k
-    parent_low k = go (cases_lt k size)
-      where
-        go : (k < size) ⊎ (size ≤ k) → (node_at front k).parent ≤ k
-        go (inl below) = omega (arith, ap (λ n. n.parent) (node-front k below), h.parent_low k)
-        go (inr past) = omega (arith, ap (λ n. n.parent) (node-past k past))
+    parent_low k = elim (cases_lt k size) [ inl below ↦ omega (arith, ap (λ n. n.parent) (node-front k below), h.parent_low k) | inr past ↦ omega (arith, ap (λ n. n.parent) (node-past k past)) ]
 
     depth_low : (k : ℕ) → (node_at front k).depth ≤ k
-    depth_low k = go (cases_lt k size)
-      where
-        go : (k < size) ⊎ (size ≤ k) → (node_at front k).depth ≤ k
-        go (inl below) = omega (arith, ap (λ n. n.depth) (node-front k below), h.depth_low k)
-        go (inr past) = omega (arith, ap (λ n. n.depth) (node-past k past))
+    depth_low k = elim (cases_lt k size) [ inl below ↦ omega (arith, ap (λ n. n.depth) (node-front k below), h.depth_low k) | inr past ↦ omega (arith, ap (λ n. n.depth) (node-past k past)) ]
 
     spelled : (k : ℕ) → 0 < k → k < length front → word_at (take size words) k ≡ word_at (take size words) (node_at front k).parent ++ (node_at front k).letter ∷ []
     spelled k above inside =
@@ -115,11 +102,10 @@ module _ (nodes : List Node) (size : ℕ) (some : 0 < size) (within : size ≤ l
       count-links = length-take-le size link (omega (arith, sized, linked.sized, h.sized))
 
       link_in : (k : ℕ) → get_or (take size link) k 0 < length (take size words)
-      link_in k = go (cases_lt k size)
-        where
-          go : (k < size) ⊎ (size ≤ k) → get_or (take size link) k 0 < length (take size words)
-          go (inl below) = omega (arith, get_or-take size link k 0 below, (moved k below).inside, count-words)
-          go (inr past) = omega (arith, get_or_past (take size link) k 0 (omega (arith, count-links)), count-words)
+      link_in k = elim (cases_lt k size) [
+        | inl below ↦ omega (arith, get_or-take size link k 0 below, (moved k below).inside, count-words)
+        | inr past ↦ omega (arith, get_or_past (take size link) k 0 (omega (arith, count-links)), count-words)
+      ]
 
       pub linked-take : IsLinked (take size words) (take size link)
       linked-take = record {

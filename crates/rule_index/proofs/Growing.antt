@@ -1,24 +1,17 @@
 -- One word more, and the links, the ends and the first entries.
-use Rattle.std.proofs.Common.{◌≡◌, ◌≢◌, ◌⊎◌, inl, inr, ℕ, ◌+◌, ◌<◌, ◌≤◌, ◌||◌, Bool, true, false, List, [], ◌∷◌, ◌++◌, length, get_or, take, drop, Option, None, refl, sym, ap, ◌∙◌, subst, arith}
+use Rattle.std.proofs.Common.{◌≡◌, ◌≢◌, inl, inr, ℕ, ◌+◌, ◌<◌, ◌||◌, true, false, List, [], ◌∷◌, ◌++◌, length, get_or, take, drop, Option, None, refl, sym, ap, ◌∙◌, subst, arith}
 use Rattle.std.proofs.Math.Seq.{take-length, take-append_seam}
 use Rattle.std.proofs.lemmas.List.{length_push, length-drop, get_or_past}
 use Rattle.std.proofs.lemmas.List.Elements.{All-weaker}
-use Rattle.std.proofs.lemmas.Bool.{cases_lt}
+use Rattle.std.proofs.lemmas.Bool.{cases_lt, cases_Bool, false_from_ne_true, or_left}
 use Rattle.rule_index.specs.declared.tree.Node.{Node}
 use Rattle.rule_index.specs.declared.tree.Tree.{Tree}
 use Rattle.rule_index.specs.Prefixes.{same_word, has, word_at}
-use Rattle.rule_index.specs.Automaton.{longest, ends_with, first_of, node_at, added_node, words_of, Lists, ListsBelow, IsChild, IsTree, IsChained, IsSpelled, IsLinked, IsLongest, IsMarked, IsEnds, IsRelinked, IsGrown, HasLetters, HasRoom}
+use Rattle.rule_index.specs.Automaton.{longest, ends_with, first_of, node_at, added_node, words_of, Lists, IsChild, IsTree, IsChained, IsSpelled, IsLinked, IsLongest, IsMarked, IsEnds, IsRelinked, IsGrown, HasLetters, HasRoom}
 use Rattle.rule_index.proofs.Suffixes.{has-push, ends-longest, ends-short, longest-other, longest-new, longest-old, same-true}
 use Rattle.rule_index.proofs.Firsts.{same_first}
 use Rattle.rule_index.proofs.Pushing.{push-old, push-new, Same, is_same, is_other, same_or, spelled-push, words-push}
 use Rattle.rule_index.proofs.Spelled.{child-has, child-word, child-absent}
-
-pub clash : {b : Bool} → b ≡ true → b ≡ false → ⊥
-clash p q = cc
-
-or_true : (b c : Bool) → b ≡ true → (b || c) ≡ true
-or_true true c e = refl
-or_true false c e = absurd (cc)
 
 module _ (words : List (List ℕ)) (s : List ℕ) (some : 0 < length s) (absent : has words s ≡ false) where
   abbrev more : List (List ℕ)
@@ -31,11 +24,7 @@ module _ (words : List (List ℕ)) (s : List ℕ) (some : 0 < length s) (absent 
   more-new k e = push-new words s [] k e
 
   no_self : ends_with (drop 1 s) s ≡ false
-  no_self = go (ends_with (drop 1 s) s) refl
-    where
-      go : (b : Bool) → ends_with (drop 1 s) s ≡ b → b ≡ false
-      go true e = absurd (omega (arith, ends-short (drop 1 s) s e, length-drop 1 s))
-      go false e = refl
+  no_self = false_from_ne_true (ends_with (drop 1 s) s) (λ e. omega (arith, ends-short (drop 1 s) s e, length-drop 1 s))
 
   pub ends-push : (ends : List ℕ) → IsEnds words s ends → IsEnds more s ends
   ends-push ends h = record {
@@ -46,7 +35,7 @@ module _ (words : List (List ℕ)) (s : List ℕ) (some : 0 < length s) (absent 
   }
     where
       complete : (k : ℕ) → 0 < k → k < length more → ends_with (drop 1 (word_at more k)) s ≡ true → Same k (length words) → Lists ends k
-      complete k above within e (is_same a) = absurd (clash (subst (λ w. ends_with (drop 1 w) s ≡ true) (more-new k a) e) no_self)
+      complete k above within e (is_same a) = absurd (cc (subst (λ w. ends_with (drop 1 w) s ≡ true) (more-new k a) e, no_self))
       complete k above within e (is_other o) =
           let below : k < length words = omega (arith, length_push words s, o) in
           h.complete k above below (subst (λ w. ends_with (drop 1 w) s ≡ true) (more-old k below) e)
@@ -68,27 +57,13 @@ module _ (words : List (List ℕ)) (s : List ℕ) (some : 0 < length s) (absent 
     before-new k e = push-new links link 0 k (e ∙ sym linked.sized)
 
     before-in : (k : ℕ) → get_or (links ++ link ∷ []) k 0 < length words
-    before-in k = go (same_or k (length words))
-      where
-        go : Same k (length words) → get_or (links ++ link ∷ []) k 0 < length words
-        go (is_same e) = omega (arith, before-new k e)
-        go (is_other o) = omega (arith, before-old k o, linked.link_in k)
+    before-in k = elim (same_or k (length words)) [ is_same e ↦ omega (arith, before-new k e) | is_other o ↦ omega (arith, before-old k o, linked.link_in k) ]
 
     new_in : (k : ℕ) → get_or new_links k 0 < length more
-    new_in k = go (cases_lt k (length new_links))
-      where
-        both : IsRelinked nodes ends (length ends) (length words) (get_or (links ++ link ∷ []) k 0) (get_or new_links k 0) k → get_or new_links k 0 < length more
-        both m = either m.either
-          where
-            either : ((get_or new_links k 0 ≡ length words) × ListsBelow (length ends) ends k × ((node_at nodes (get_or (links ++ link ∷ []) k 0)).depth < (node_at nodes (length words)).depth))
-                ⊎ ((get_or new_links k 0 ≡ get_or (links ++ link ∷ []) k 0) × (ListsBelow (length ends) ends k → (node_at nodes (length words)).depth ≤ (node_at nodes (get_or (links ++ link ∷ []) k 0)).depth))
-                → get_or new_links k 0 < length more
-            either (inl l) = omega (arith, l.0, length_push words s)
-            either (inr r) = omega (arith, r.0, before-in k, length_push words s)
-
-        go : (k < length new_links) ⊎ (length new_links ≤ k) → get_or new_links k 0 < length more
-        go (inl below) = both (moved k (omega (arith, size)))
-        go (inr above) = omega (arith, get_or_past new_links k 0 above, length_push words s)
+    new_in k = elim (cases_lt k (length new_links)) [
+      | inl below ↦ elim (moved k (omega (arith, size))).either [ inl l ↦ omega (arith, l.0, length_push words s) | inr r ↦ omega (arith, r.0, before-in k, length_push words s) ]
+      | inr above ↦ omega (arith, get_or_past new_links k 0 above, length_push words s)
+    ]
 
     depth_old : (k : ℕ) → k < length words → (node_at nodes k).depth ≡ length (word_at words k)
     depth_old k below = depths k (omega (arith, length_push words s)) ∙ ap length (more-old k below)
@@ -99,91 +74,72 @@ module _ (words : List (List ℕ)) (s : List ℕ) (some : 0 < length s) (absent 
     -- an old node
     link_old : (k : ℕ) → 0 < k → k < length words → IsRelinked nodes ends (length ends) (length words) (get_or links k 0) (get_or new_links k 0) k
         → word_at more (get_or new_links k 0) ≡ longest more (drop 1 (word_at words k))
-    link_old k above below m = go m.either
-      where
-        t : List ℕ
-        t = drop 1 (word_at words k)
-
-        before : (node_at nodes (get_or links k 0)).depth ≡ length (longest words (drop 1 (word_at words k)))
-        before = depth_old (get_or links k 0) (linked.link_in k) ∙ ap length (linked.link_is k above below)
-
-        stays : get_or new_links k 0 ≡ get_or links k 0 → longest more (drop 1 (word_at words k)) ≡ longest words (drop 1 (word_at words k)) → word_at more (get_or new_links k 0) ≡ longest more (drop 1 (word_at words k))
-        stays e same = ap (word_at more) e ∙ more-old (get_or links k 0) (linked.link_in k) ∙ linked.link_is k above below ∙ sym same
-
-        by_test : (b : Bool) → ends_with (drop 1 (word_at words k)) s ≡ b → (ListsBelow (length ends) ends k → (node_at nodes (length words)).depth ≤ (node_at nodes (get_or links k 0)).depth)
-            → longest more (drop 1 (word_at words k)) ≡ longest words (drop 1 (word_at words k))
-        by_test true e deep = longest-old words s (drop 1 (word_at words k)) e (omega (arith, deep (h.complete k above below e), before, depth_new))
-        by_test false e deep = longest-other words s (drop 1 (word_at words k)) e
-
-        go : ((get_or new_links k 0 ≡ length words) × ListsBelow (length ends) ends k × ((node_at nodes (get_or links k 0)).depth < (node_at nodes (length words)).depth))
-            ⊎ ((get_or new_links k 0 ≡ get_or links k 0) × (ListsBelow (length ends) ends k → (node_at nodes (length words)).depth ≤ (node_at nodes (get_or links k 0)).depth))
-            → word_at more (get_or new_links k 0) ≡ longest more (drop 1 (word_at words k))
-        go (inl l) = more-new (get_or new_links k 0) l.0 ∙ sym (longest-new words s (drop 1 (word_at words k)) (h.sound k l.1) (omega (arith, l.2, before, depth_new)))
-        go (inr r) = stays r.0 (by_test (ends_with (drop 1 (word_at words k)) s) refl r.1)
+    link_old k above below m =
+        let t = drop 1 (word_at words k) in
+        let before : (node_at nodes (get_or links k 0)).depth ≡ length (longest words t) = depth_old (get_or links k 0) (linked.link_in k) ∙ ap length (linked.link_is k above below) in
+        elim m.either [
+          | inl l ↦ more-new (get_or new_links k 0) l.0 ∙ sym (longest-new words s t (h.sound k l.1) (omega (arith, l.2, before, depth_new)))
+          | inr r ↦
+              let same : longest more t ≡ longest words t = elim (cases_Bool (ends_with t s)) [
+                | inl e ↦ longest-old words s t e (omega (arith, r.1 (h.complete k above below e), before, depth_new))
+                | inr e ↦ longest-other words s t e
+              ] in
+              ap (word_at more) r.0 ∙ more-old (get_or links k 0) (linked.link_in k) ∙ linked.link_is k above below ∙ sym same
+        ]
 
     -- the new one
     link_new : (k : ℕ) → k ≡ length words → IsRelinked nodes ends (length ends) (length words) link (get_or new_links k 0) k → word_at more (get_or new_links k 0) ≡ longest more (drop 1 s)
-    link_new k e m = go m.either
-      where
-        go : ((get_or new_links k 0 ≡ length words) × ListsBelow (length ends) ends k × ((node_at nodes link).depth < (node_at nodes (length words)).depth))
-            ⊎ ((get_or new_links k 0 ≡ link) × (ListsBelow (length ends) ends k → (node_at nodes (length words)).depth ≤ (node_at nodes link).depth))
-            → word_at more (get_or new_links k 0) ≡ longest more (drop 1 s)
-        go (inl l) = absurd (omega (arith, h.inside k l.1))
-        go (inr r) = ap (word_at more) r.0 ∙ more-old link link_in ∙ link_is ∙ sym (longest-other words s (drop 1 s) no_self)
+    link_new k e m = elim m.either [
+      | inl l ↦ absurd (omega (arith, h.inside k l.1))
+      | inr r ↦ ap (word_at more) r.0 ∙ more-old link link_in ∙ link_is ∙ sym (longest-other words s (drop 1 s) no_self)
+    ]
 
     pub linked-push : IsLinked more new_links
     linked-push = record {
       sized = size ∙ sizes;
       link_in = new_in;
-      link_is = λ k above within. go k above within (same_or k (length words));
-    }
-      where
-        go : (k : ℕ) → 0 < k → k < length more → Same k (length words) → word_at more (get_or new_links k 0) ≡ longest more (drop 1 (word_at more k))
-        go k above within (is_same e) =
+      link_is = λ k above within. elim (same_or k (length words)) [
+        | is_same e ↦
             link_new k e (subst (λ b. IsRelinked nodes ends (length ends) (length words) b (get_or new_links k 0) k) (before-new k e) (moved k (omega (arith, within, sizes))))
             ∙ ap (λ w. longest more (drop 1 w)) (sym (more-new k e))
-        go k above within (is_other o) =
+        | is_other o ↦
             let below : k < length words = omega (arith, length_push words s, o) in
             link_old k above below (subst (λ b. IsRelinked nodes ends (length ends) (length words) b (get_or new_links k 0) k) (before-old k o) (moved k (omega (arith, within, sizes))))
             ∙ ap (λ w. longest more (drop 1 w)) (sym (more-old k below))
+      ];
+    }
 
   -- the first entries
   pub marked-push : (entries : List (List ℕ × ℕ)) (leasts : List (Option ℕ)) (link : ℕ) → IsMarked entries words leasts → link < length words → word_at words link ≡ longest words (drop 1 s)
       → IsMarked entries more (leasts ++ get_or leasts link None ∷ [])
   marked-push entries leasts link h link_in link_is = record {
     sized = length_push leasts (get_or leasts link None) ∙ ap (λ x. x + 1) h.sized ∙ sym (length_push words s);
-    least_is = λ k within. go k within (same_or k (length words));
-    listed = All-weaker (λ e. has words e.0 ≡ true) (λ e. has more e.0 ≡ true) (λ e listed. has-push words s e.0 ∙ or_true (has words e.0) (same_word e.0 s) listed) entries h.listed;
-  }
-    where
-      agree : (t : List ℕ) → 0 < length t → has words t ≡ false → (w : List ℕ) → has words w ≡ true → ends_with (longest words (drop 1 t)) w ≡ ends_with t w
-      agree [] some_t absent_t w listed = absurd (omega arith)
-      agree (x ∷ t) some_t absent_t w listed = ends-longest words t w listed ∙ sym (ap (λ b. b || ends_with t w) (apart (same_word (x ∷ t) w) refl))
-        where
-          apart : (b : Bool) → same_word (x ∷ t) w ≡ b → same_word (x ∷ t) w ≡ false
-          apart true same = absurd (clash (subst (λ v. has words v ≡ true) (sym (same-true (x ∷ t) w same)) listed) absent_t)
-          apart false same = same
-
-      go : (k : ℕ) → k < length more → Same k (length words) → get_or (leasts ++ get_or leasts link None ∷ []) k None ≡ first_of (ends_with (word_at more k)) entries
-      go k within (is_same e) =
+    least_is = λ k within. elim (same_or k (length words)) [
+      | is_same e ↦
           push-new leasts (get_or leasts link None) None k (e ∙ sym h.sized)
           ∙ h.least_is link link_in
           ∙ ap (λ w. first_of (ends_with w) entries) link_is
           ∙ same_first (ends_with (longest words (drop 1 s))) (ends_with s) entries (λ i e below. agree s some absent (get_or entries i e).0 (h.listed i e below))
           ∙ ap (λ w. first_of (ends_with w) entries) (sym (more-new k e))
-      go k within (is_other o) =
+      | is_other o ↦
           let below : k < length words = omega (arith, length_push words s, o) in
           push-old leasts (get_or leasts link None) None k (λ e. o (e ∙ h.sized))
           ∙ h.least_is k below
           ∙ ap (λ w. first_of (ends_with w) entries) (sym (more-old k below))
+    ];
+    listed = All-weaker (λ e. has words e.0 ≡ true) (λ e. has more e.0 ≡ true) (λ e listed. has-push words s e.0 ∙ or_left (has words e.0) (same_word e.0 s) listed) entries h.listed;
+  }
+    where
+      agree : (t : List ℕ) → 0 < length t → has words t ≡ false → (w : List ℕ) → has words w ≡ true → ends_with (longest words (drop 1 t)) w ≡ ends_with t w
+      agree [] some_t absent_t w listed = absurd (omega arith)
+      agree (x ∷ t) some_t absent_t w listed =
+          let apart = false_from_ne_true (same_word (x ∷ t) w) (λ same. cc (subst (λ v. has words v ≡ true) (sym (same-true (x ∷ t) w same)) listed)) in
+          ends-longest words t w listed ∙ sym (ap (λ b. b || ends_with t w) apart)
 
 has_too : (words : List (List ℕ)) (w word : List ℕ) → has words word ≡ true → has words w ≡ (has words w || same_word w word)
-has_too words w word e = go (has words w) (same_word w word) refl refl
-  where
-    go : (b d : Bool) → has words w ≡ b → same_word w word ≡ d → b ≡ (b || d)
-    go true d h s = refl
-    go false true h s = absurd (clash (subst (λ v. has words v ≡ true) (sym (same-true w word s)) e) h)
-    go false false h s = refl
+has_too words w word e =
+    let listed = λ (s : same_word w word ≡ true). subst (λ v. has words v ≡ true) (sym (same-true w word s)) e in
+    grind arith
 
 -- the node is there already
 pub grown-same : (tree : Tree) → IsTree tree.nodes.items tree.heads.items tree.nexts.items tree.links.items → HasLetters tree → length tree.leasts.items ≡ length tree.nodes.items → (at letter node : ℕ) (ends : List ℕ)

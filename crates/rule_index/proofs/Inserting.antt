@@ -1,20 +1,21 @@
 -- A word's letters one after another, and then its place at each node that it ends.
-use Rattle.std.proofs.Common.{◌≡◌, ◌≢◌, ◌⊎◌, inl, inr, ℕ, zero, suc, ◌+◌, ◌-◌, ◌<◌, ◌&&◌, Bool, true, false, cond, List, [], ◌∷◌, ◌++◌, length, get_or, set, drop, take, Option, Some, None, refl, sym, ap, ap₂, ◌∙◌, subst, arith, eq-eqb, get_or-set_other, get_or-set_same}
+use Rattle.std.proofs.Common.{◌≡◌, ◌≢◌, inl, inr, ℕ, zero, suc, ◌+◌, ◌-◌, ◌<◌, ◌&&◌, Bool, true, false, cond, List, [], ◌∷◌, ◌++◌, length, get_or, set, drop, take, Option, Some, None, refl, sym, ap, ap₂, ◌∙◌, subst, arith, eq-eqb, get_or-set_other, get_or-set_same}
 use Rattle.std.specs.Option.{option_map}
 use Rattle.std.proofs.Math.Seq.{take-length}
 use Rattle.std.proofs.lemmas.List.{length-set, take_more, take_all}
 use Rattle.std.proofs.lemmas.List.Elements.{All-push}
+use Rattle.std.proofs.lemmas.Bool.{or_cases, or_right, false_from_ne_true}
 use Rattle.rule_index.specs.declared.tree.Node.{Node}
 use Rattle.rule_index.specs.declared.tree.Tree.{Tree}
 use Rattle.rule_index.specs.Matches.{begins_with}
 use Rattle.rule_index.specs.Prefixes.{same_word, has, word_at}
-use Rattle.rule_index.specs.Automaton.{ends_with, first_of, marked, words_of, Lists, ListsBelow, IsTree, IsSpelled, IsMarked, IsMarkedAt, IsEnds, IsGrown, IsGrowing, IsInserted, HasLetters, HasRoom}
+use Rattle.rule_index.specs.Automaton.{ends_with, first_of, marked, words_of, Lists, IsTree, IsSpelled, IsMarked, IsMarkedAt, IsEnds, IsGrown, IsGrowing, IsInserted, HasLetters, HasRoom}
 use Rattle.rule_index.proofs.Suffixes.{same-true, has-at}
 use Rattle.rule_index.proofs.Pushing.{Same, is_same, is_other, same_or}
 use Rattle.rule_index.proofs.Fronts.{front-more}
 use Rattle.rule_index.proofs.SameTree.{tree_of_same}
 use Rattle.rule_index.proofs.Starting.{others, others-end}
-use Rattle.rule_index.proofs.Ending.{or_either, or_right, ends-itself}
+use Rattle.rule_index.proofs.Ending.{ends-itself, marked-twice}
 
 begins-take : (w : List ℕ) (n : ℕ) → begins_with w (take n w) ≡ true
 begins-take w zero = refl
@@ -31,7 +32,10 @@ growing-more old mid new word index at letter next ends ends' h inside read g = 
   ends_are = subst (λ w. IsEnds (words_of new.nodes.items) w ends') reached g.ends_are;
   sized = g.sized;
   marked = λ entries m. g.marked entries (h.marked entries m);
-  only = λ w e. only w (or_either (has (words_of mid.nodes.items) w) (same_word w (word_at (words_of mid.nodes.items) at ++ letter ∷ [])) (sym (g.only w) ∙ e));
+  only = λ w e. elim (or_cases (has (words_of mid.nodes.items) w) (same_word w (word_at (words_of mid.nodes.items) at ++ letter ∷ [])) (sym (g.only w) ∙ e)) [
+    | inl e ↦ h.only w e
+    | inr s ↦ inr (subst (λ v. begins_with word v ≡ true) (sym (same-true w (word_at (words_of mid.nodes.items) at ++ letter ∷ []) s ∙ reached)) (begins-take word (index + 1)))
+  ];
   room = g.room (length word - (index + 1)) (record {
     nodes = omega (arith, h.room.nodes);
     nexts = omega (arith, h.room.nexts);
@@ -45,10 +49,6 @@ growing-more old mid new word index at letter next ends ends' h inside read g = 
   where
     reached : word_at (words_of mid.nodes.items) at ++ letter ∷ [] ≡ take (index + 1) word
     reached = ap (λ w. w ++ letter ∷ []) h.word_is ∙ ap (λ x. take index word ++ x ∷ []) read ∙ sym (take_more word index 0 inside)
-
-    only : (w : List ℕ) → (has (words_of mid.nodes.items) w ≡ true) ⊎ (same_word w (word_at (words_of mid.nodes.items) at ++ letter ∷ []) ≡ true) → (has (words_of old.nodes.items) w ≡ true) ⊎ (begins_with word w ≡ true)
-    only w (inl e) = h.only w e
-    only w (inr s) = inr (subst (λ v. begins_with word v ≡ true) (sym (same-true w (word_at (words_of mid.nodes.items) at ++ letter ∷ []) s ∙ reached)) (begins-take word (index + 1)))
 
 -- one entry more
 first-push : (p : List ℕ → Bool) (entries : List (List ℕ × ℕ)) (e : List ℕ × ℕ) → first_of p (entries ++ e ∷ []) ≡ cond (p e.0) (marked (first_of p entries) (length entries)) (first_of p entries)
@@ -75,7 +75,7 @@ module _ (nodes : List Node) (words : List (List ℕ)) (spelled : IsSpelled node
   ends_behind k l = longer (word_at words k) (are.sound k l)
 
   ends_only : (k : ℕ) → k < length nodes → k ≢ at → (Lists ends k → ⊥) → ends_with (word_at words k) word ≡ false
-  ends_only k within other none = go (ends_with (word_at words k) word) refl
+  ends_only k within other none = false_from_ne_true (ends_with (word_at words k) word) (parts (word_at words k) refl)
     where
       same : word_at words k ≡ word → ⊥
       same e = other (spelled.distinct k at within inside (e ∙ sym word_is))
@@ -86,15 +86,10 @@ module _ (nodes : List Node) (words : List (List ℕ)) (spelled : IsSpelled node
 
       parts : (v : List ℕ) → v ≡ word_at words k → ends_with v word ≡ true → ⊥
       parts [] v_is e = same (sym v_is ∙ same-true [] word e)
-      parts (x ∷ v) v_is e = split (or_either (same_word (x ∷ v) word) (ends_with v word) e)
-        where
-          split : (same_word (x ∷ v) word ≡ true) ⊎ (ends_with v word ≡ true) → ⊥
-          split (inl s) = same (sym v_is ∙ same-true (x ∷ v) word s)
-          split (inr r) = none (are.complete k (positive k x v v_is) (omega (arith, within, spelled.sized)) (subst (λ u. ends_with (drop 1 u) word ≡ true) v_is r))
-
-      go : (b : Bool) → ends_with (word_at words k) word ≡ b → b ≡ false
-      go true e = absurd (parts (word_at words k) refl e)
-      go false e = refl
+      parts (x ∷ v) v_is e = elim (or_cases (same_word (x ∷ v) word) (ends_with v word) e) [
+        | inl s ↦ same (sym v_is ∙ same-true (x ∷ v) word s)
+        | inr r ↦ none (are.complete k (positive k x v v_is) (omega (arith, within, spelled.sized)) (subst (λ u. ends_with (drop 1 u) word ≡ true) v_is r))
+      ]
 
   pub marked-word : (entries : List (List ℕ × ℕ)) (number place : ℕ) (leasts first last : List (Option ℕ)) → length entries ≡ place → IsMarked entries words leasts
       → first ≡ set leasts at (marked (get_or leasts at None) place) → length last ≡ length first
@@ -109,10 +104,6 @@ module _ (nodes : List Node) (words : List (List ℕ)) (spelled : IsSpelled node
       first_size : length first ≡ length leasts
       first_size = ap length first_is ∙ length-set leasts at (marked (get_or leasts at None) place)
 
-      twice : (o : Option ℕ) → marked (marked o place) place ≡ marked o place
-      twice None = refl
-      twice (Some x) = refl
-
       -- where the word ends the node's
       yes : (k : ℕ) → k < length words → ends_with (word_at words k) word ≡ true → get_or last k None ≡ marked (get_or leasts k None) place → get_or last k None ≡ first_of (ends_with (word_at words k)) (entries ++ (word, number) ∷ [])
       yes k within e now =
@@ -125,26 +116,23 @@ module _ (nodes : List Node) (words : List (List ℕ)) (spelled : IsSpelled node
           ∙ sym (first-push (ends_with (word_at words k)) entries (word, number) ∙ ap (λ b. cond b (marked (first_of (ends_with (word_at words k)) entries) (length entries)) (first_of (ends_with (word_at words k)) entries)) e)
 
       least : (k : ℕ) → k < length words → Same k at → get_or last k None ≡ first_of (ends_with (word_at words k)) (entries ++ (word, number) ∷ [])
-      least k within (is_same e) = yes k within (ends_at k e) (go (moved k (omega (arith, within, first_size, h.sized))).either)
+      least k within (is_same e) = yes k within (ends_at k e) (elim (moved k (omega (arith, within, first_size, h.sized))).either [
+        | inl l ↦ l.1 ∙ ap (λ o. marked o place) here ∙ marked-twice (get_or leasts k None) place
+        | inr r ↦ r.1 ∙ here
+      ])
         where
           here : get_or first k None ≡ marked (get_or leasts k None) place
           here =
               ap (λ ls. get_or ls k None) first_is
               ∙ sym (ap (λ j. get_or (set leasts j (marked (get_or leasts j None) place)) k None) e)
               ∙ get_or-set_same leasts k (marked (get_or leasts k None) place) None (omega (arith, within, h.sized))
-
-          go : (ListsBelow (length ends) ends k × (get_or last k None ≡ marked (get_or first k None) place)) ⊎ ((ListsBelow (length ends) ends k → ⊥) × (get_or last k None ≡ get_or first k None)) → get_or last k None ≡ marked (get_or leasts k None) place
-          go (inl l) = l.1 ∙ ap (λ o. marked o place) here ∙ twice (get_or leasts k None)
-          go (inr r) = r.1 ∙ here
-      least k within (is_other o) = go (moved k (omega (arith, within, first_size, h.sized))).either
+      least k within (is_other o) = elim (moved k (omega (arith, within, first_size, h.sized))).either [
+        | inl l ↦ yes k within (ends_behind k l.0) (l.1 ∙ ap (λ v. marked v place) there)
+        | inr r ↦ no k within (ends_only k (omega (arith, within, spelled.sized)) o r.0) (r.1 ∙ there)
+      ]
         where
           there : get_or first k None ≡ get_or leasts k None
           there = ap (λ ls. get_or ls k None) first_is ∙ get_or-set_other leasts at k (marked (get_or leasts at None) place) None o
-
-          go : (ListsBelow (length ends) ends k × (get_or last k None ≡ marked (get_or first k None) place)) ⊎ ((ListsBelow (length ends) ends k → ⊥) × (get_or last k None ≡ get_or first k None))
-              → get_or last k None ≡ first_of (ends_with (word_at words k)) (entries ++ (word, number) ∷ [])
-          go (inl l) = yes k within (ends_behind k l.0) (l.1 ∙ ap (λ v. marked v place) there)
-          go (inr r) = no k within (ends_only k (omega (arith, within, spelled.sized)) o r.0) (r.1 ∙ there)
 
 -- all letters, and then the marks
 pub inserted : (old mid new : Tree) (word : List ℕ) (place at : ℕ) (ends : List ℕ) (first : List (Option ℕ)) → IsGrowing old mid word (length word) at ends

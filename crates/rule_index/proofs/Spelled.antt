@@ -1,6 +1,7 @@
 -- The words of the nodes.
-use Rattle.std.proofs.Common.{◌≡◌, ℕ, zero, suc, ◌<◌, Bool, true, false, List, [], ◌∷◌, ◌++◌, length, get_or, drop, refl, sym, ap, ◌∙◌, subst, arith}
+use Rattle.std.proofs.Common.{◌≡◌, ℕ, zero, suc, ◌<◌, true, false, List, [], ◌∷◌, ◌++◌, length, get_or, drop, sym, ap, ◌∙◌, subst, arith}
 use Rattle.std.proofs.lemmas.List.{same_from_push, length_push, length-drop}
+use Rattle.std.proofs.lemmas.Bool.{false_from_ne_true}
 use Rattle.rule_index.specs.declared.tree.Node.{Node}
 use Rattle.rule_index.specs.Prefixes.{has, word_at}
 use Rattle.rule_index.specs.Automaton.{longest, node_at, IsChild, IsSpelled, IsLinked}
@@ -43,13 +44,9 @@ module _ (nodes : List Node) (words : List (List ℕ)) (spelled : IsSpelled node
   child-single at c j k first second = spelled.distinct j k first.inside second.inside (child-word at c j first ∙ sym (child-word at c k second))
 
   pub child-absent : (at c : ℕ) → at < length nodes → ((k : ℕ) → IsChild nodes at c k → ⊥) → has words (word_at words at ++ c ∷ []) ≡ false
-  child-absent at c inside none = go (has words (word_at words at ++ c ∷ [])) refl
-    where
-      go : (b : Bool) → has words (word_at words at ++ c ∷ []) ≡ b → b ≡ false
-      go true e =
-          let p = has-place words (word_at words at ++ c ∷ []) e in
-          absurd (none p.node (child-from_word at c p.node inside (omega (arith, p.inside, spelled.sized)) p.word_is))
-      go false e = refl
+  child-absent at c inside none = false_from_ne_true (has words (word_at words at ++ c ∷ [])) (λ e.
+      let p = has-place words (word_at words at ++ c ∷ []) e in
+      none p.node (child-from_word at c p.node inside (omega (arith, p.inside, spelled.sized)) p.word_is))
 
   pub word-some : (k : ℕ) → 0 < k → k < length nodes → 0 < length (word_at words k)
   word-some k above inside = omega (arith, ap length (spelled.spelled k above inside), length_push (word_at words (node_at nodes k).parent) (node_at nodes k).letter)

@@ -18,11 +18,10 @@ lists-last : (xs : List ℕ) (x : ℕ) → Lists (xs ++ x ∷ []) x
 lists-last xs x = (length xs, omega (arith, length_push xs x), get_or_push xs x 0 (length xs) refl)
 
 lists-either : (xs : List ℕ) (x k : ℕ) → Lists (xs ++ x ∷ []) k → Lists xs k ⊎ (k ≡ x)
-lists-either xs x k l = go (cases_lt l.0 (length xs))
-  where
-    go : (l.0 < length xs) ⊎ (length xs ≤ l.0) → Lists xs k ⊎ (k ≡ x)
-    go (inl below) = inl (l.0, below, sym (get_or_append_left xs (x ∷ []) 0 l.0 below) ∙ l.2)
-    go (inr above) = inr (sym l.2 ∙ get_or_push xs x 0 l.0 (omega (arith, l.1, length_push xs x)))
+lists-either xs x k l = elim (cases_lt l.0 (length xs)) [
+  | inl below ↦ inl (l.0, below, sym (get_or_append_left xs (x ∷ []) 0 l.0 below) ∙ l.2)
+  | inr above ↦ inr (sym l.2 ∙ get_or_push xs x 0 l.0 (omega (arith, l.1, length_push xs x)))
+]
 
 -- the nodes above a number that have the letter, and not the root as their parent
 pub record IsStartsAbove (nodes : List Node) (low letter : ℕ) (starts : List ℕ) : Type 0 where

@@ -5,7 +5,6 @@ use Rattle.std.proofs.lemmas.List.Elements.{All-nil, All-cons, All-tail}
 use Rattle.std.proofs.lemmas.Option.{same_Some}
 use Rattle.std.proofs.lemmas.Cmp.{tied_itself}
 use Rattle.std.specs.Ordering.{ordering_reverse}
-use Rattle.std.specs.declared.cmp.Ordering.{Ordering}
 use Rattle.std.specs.declared.cmp.Ordering.TheVariants.{Less, Equal, Greater}
 use Rattle.definitions.specs.Poly.{Term}
 use Rattle.nc_polynomial.specs.Terms.{by_order}
@@ -14,9 +13,6 @@ use Rattle.rule_reduce.specs.Leading.{greater_term, greatest_from, leading_term}
 
 abbrev pub IsAtMost : Compare → List ℕ → List ℕ → Type 0
 IsAtMost compare u v = (u ≡ v) ⊎ (compare u v ≡ Less)
-
-unlike : Equal ≡ Greater → ⊥
-unlike e = cc
 
 module _ (letters : ℕ) (compare : Compare) (rank : List ℕ → List ℕ) (laws : IsAdmissible letters compare rank) where
   pub turned : (u v : List ℕ) → compare u v ≡ Greater → compare v u ≡ Less
@@ -28,25 +24,19 @@ module _ (letters : ℕ) (compare : Compare) (rank : List ℕ → List ℕ) (law
   at_most-trans u v w (inr less) (inr more) = inr (laws.total.trans u v w less more)
 
   pub at_most-greater : (u v : List ℕ) → IsAtMost compare u v → compare u v ≡ Greater → ⊥
-  at_most-greater u v (inl same) greater = unlike (sym (tied_itself laws.total v) ∙ ap (λ w. compare w v) (sym same) ∙ greater)
+  at_most-greater u v (inl same) greater = cc (sym (tied_itself laws.total v) ∙ ap (λ w. compare w v) (sym same) ∙ greater)
   at_most-greater u v (inr less) greater = cc
 
   -- of the two terms of a comparison, the one that it leaves is not below
   left_at_most : (best t : Term) → IsAtMost compare best.1 (greater_term compare best t).1
-  left_at_most best t = go (compare t.1 best.1) refl
-    where
-      go : (o : Ordering) → compare t.1 best.1 ≡ o → IsAtMost compare best.1 (by_order o best best t).1
-      go Less e = inl refl
-      go Equal e = inl refl
-      go Greater e = inr (turned t.1 best.1 e)
+  left_at_most best t =
+      (elim (compare t.1 best.1) as (λ o. compare t.1 best.1 ≡ o → IsAtMost compare best.1 (by_order o best best t).1)
+      [ Less ↦ λ e. inl refl | Equal ↦ λ e. inl refl | Greater ↦ λ e. inr (turned t.1 best.1 e) ]) refl
 
   right_at_most : (best t : Term) → IsAtMost compare t.1 (greater_term compare best t).1
-  right_at_most best t = go (compare t.1 best.1) refl
-    where
-      go : (o : Ordering) → compare t.1 best.1 ≡ o → IsAtMost compare t.1 (by_order o best best t).1
-      go Less e = inr e
-      go Equal e = inl (laws.same t.1 best.1 e)
-      go Greater e = inl refl
+  right_at_most best t =
+      (elim (compare t.1 best.1) as (λ o. compare t.1 best.1 ≡ o → IsAtMost compare t.1 (by_order o best best t).1)
+      [ Less ↦ λ e. inr e | Equal ↦ λ e. inl (laws.same t.1 best.1 e) | Greater ↦ λ e. inl refl ]) refl
 
   record AreAtMost (best : Term) (p : List Term) (top : Term) : Type 0 where
     first : IsAtMost compare best.1 top.1
@@ -77,9 +67,5 @@ leading-all P compare (t ∷ p) top is each = subst P (same_Some (greatest_from 
   where
     from : (best : Term) (q : List Term) → P best → All P q → P (greatest_from compare best q)
     from best [] held others = held
-    from best (u ∷ q) held others = from (greater_term compare best u) q (go (compare u.1 best.1)) (All-tail P u q others)
-      where
-        go : (o : Ordering) → P (by_order o best best u)
-        go Less = held
-        go Equal = held
-        go Greater = others 0 u (omega arith)
+    from best (u ∷ q) held others =
+        from (greater_term compare best u) q (elim (compare u.1 best.1) as (λ o. P (by_order o best best u)) [ Less ↦ held | Equal ↦ held | Greater ↦ others 0 u (omega arith) ]) (All-tail P u q others)

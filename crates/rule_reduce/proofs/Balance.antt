@@ -1,13 +1,15 @@
 -- Each step keeps the multiplier times the polynomial equal to the rest plus the sum of the rows.
-use Rattle.std.proofs.Common.{◌≡◌, ℕ, ℤ, pos, ◌+ℤ◌, ◌*ℤ◌, neg_ℤ, Bool, true, false, cond, List, [], ◌∷◌, ◌++◌, map, sym, refl, ap, ap₂, ◌∙◌, arith}
+use Rattle.rule_reduce.proofs.Exits.{multiplied-scaled}
+use Rattle.nc_polynomial.proofs.Values.{negated-multiple}
+use Rattle.std.proofs.Common.{◌≡◌, ℕ, ℤ, ◌+ℤ◌, ◌*ℤ◌, neg_ℤ, List, [], ◌∷◌, ◌++◌, map, sym, ap, ap₂, ◌∙◌, arith, negsuc}
 use Rattle.std.proofs.lemmas.Int.{ints}
-use Rattle.std.proofs.Math.IntN.{*ℤ_comm, *ℤ-zero, +ℤ_idl, +ℤ_idr, +ℤ_assoc}
-use Rattle.definitions.specs.Poly.{Term, word_eq, coefficient_of, poly_multiple, poly_between}
+use Rattle.std.proofs.Math.IntN.{*ℤ_comm, +ℤ_idl, +ℤ_idr, +ℤ_assoc, zero-*ℤ}
+use Rattle.definitions.specs.Poly.{Term, coefficient_of, poly_multiple, poly_between}
 use Rattle.definitions.specs.Combination.{generator_at}
 use Rattle.definitions.proofs.Integers.{*ℤ_assoc, +ℤ-*ℤ}
 use Rattle.definitions.proofs.Coefficients.{coefficient_of-append, coefficient_of-multiple}
 use Rattle.nc_polynomial.specs.Terms.{multiplied, negated, shifted}
-use Rattle.nc_polynomial.proofs.CoefficientLaws.{coefficient_of-keep, coefficient_of-added, coefficient_of-scaled}
+use Rattle.nc_polynomial.proofs.CoefficientLaws.{coefficient_of-added, coefficient_of-scaled}
 use Rattle.nc_polynomial.proofs.Products.{scaled-between}
 use Rattle.traced_rows.specs.declared.Row.{Row}
 use Rattle.traced_rows.specs.Traces.{origin_poly, traced_poly, traced_sum}
@@ -22,25 +24,12 @@ use Rattle.rule_reduce.proofs.Runs.{reduction_keeps}
 
 -- coefficients of the parts of a step
 coefficient_of-negated : (p : List Term) (w : List ℕ) → coefficient_of (negated p) w ≡ neg_ℤ (coefficient_of p w)
-coefficient_of-negated [] w = refl
-coefficient_of-negated (t ∷ p) w = go (word_eq t.1 w) (coefficient_of-negated p w)
-  where
-    go : (b : Bool) → coefficient_of (negated p) w ≡ neg_ℤ (coefficient_of p w) → cond b (neg_ℤ t.0) (pos 0) +ℤ coefficient_of (negated p) w ≡ neg_ℤ (cond b t.0 (pos 0) +ℤ coefficient_of p w)
-    go true rest = omega (arith, ints)
-    go false rest = omega (arith, ints)
-
-zero-*ℤ : (k : ℤ) → pos 0 *ℤ k ≡ pos 0
-zero-*ℤ k = *ℤ_comm (pos 0) k ∙ *ℤ-zero k
+coefficient_of-negated p w =
+    let scaled_by = coefficient_of-multiple (negsuc 0) p w in
+    ap (λ q. coefficient_of q w) (negated-multiple p) ∙ omega (arith, ints, scaled_by)
 
 coefficient_of-multiplied : (p : List Term) (k : ℤ) (w : List ℕ) → coefficient_of (multiplied p k) w ≡ coefficient_of p w *ℤ k
-coefficient_of-multiplied [] k w = sym (zero-*ℤ k)
-coefficient_of-multiplied (t ∷ p) k w =
-    coefficient_of-keep (t.0 *ℤ k) t.1 (multiplied p k) w
-    ∙ ap₂ ◌+ℤ◌ (inside (word_eq t.1 w)) (coefficient_of-multiplied p k w) ∙ sym (+ℤ-*ℤ (cond (word_eq t.1 w) t.0 (pos 0)) (coefficient_of p w) k)
-  where
-    inside : (b : Bool) → cond b (t.0 *ℤ k) (pos 0) ≡ cond b t.0 (pos 0) *ℤ k
-    inside true = refl
-    inside false = sym (zero-*ℤ k)
+coefficient_of-multiplied p k w = ap (λ q. coefficient_of q w) (multiplied-scaled p k) ∙ coefficient_of-scaled k p w ∙ *ℤ_comm k (coefficient_of p w)
 
 -- the multiple of a rule, without zeros, is the polynomial of its row
 coefficient_of-shifted : (k : ℤ) (l : List ℕ) (g : List Term) (r w : List ℕ) → coefficient_of (shifted k l g r) w ≡ coefficient_of (poly_multiple k (poly_between l g r)) w
@@ -100,10 +89,7 @@ module _ (rules : List Rule) where
 
 -- the multiplier 1, no rows
 start_balances : (rules : List Rule) (p : List Term) (w : List ℕ) → BalancesAt rules p (start_of p) w
-start_balances rules p w = one (coefficient_of p w)
-  where
-    one : (z : ℤ) → pos 1 *ℤ z ≡ z +ℤ pos 0
-    one z = omega (arith, ints)
+start_balances rules p w = omega (arith, ints)
 
 -- the law
 pub reductions_balance : ReductionsBalance

@@ -1,6 +1,5 @@
 -- What holds of the choice so far and of one by the next term holds of the better one.
 use Rattle.std.proofs.Common.{ℕ, List, Option, Some, None, IfSome}
-use Rattle.std.specs.declared.cmp.Ordering.{Ordering}
 use Rattle.std.specs.declared.cmp.Ordering.TheVariants.{Less, Equal, Greater}
 use Rattle.definitions.specs.Poly.{Term}
 use Rattle.nc_polynomial.specs.Terms.{by_order}
@@ -16,9 +15,5 @@ module _ (P : Choice → Type 0) (compare : Compare) (entries : List (List ℕ �
 
   pub holds-better : (best : Option Choice) → IfSome best P → IfSome (better_choice compare entries best t) P
   holds-better None held = holds-or (match_of entries t.1) None held
-  holds-better (Some b) held = go (compare t.1 b.word)
-    where
-      go : (o : Ordering) → IfSome (by_order o (Some b) (Some b) (choice_or t (match_of entries t.1) (Some b))) P
-      go Less = held
-      go Equal = held
-      go Greater = holds-or (match_of entries t.1) (Some b) held
+  holds-better (Some b) held =
+      elim (compare t.1 b.word) as (λ o. IfSome (by_order o (Some b) (Some b) (choice_or t (match_of entries t.1) (Some b))) P) [ Less ↦ held | Equal ↦ held | Greater ↦ holds-or (match_of entries t.1) (Some b) held ]

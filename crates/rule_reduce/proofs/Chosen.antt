@@ -24,9 +24,6 @@ use Rattle.rule_reduce.proofs.Irreducible.{no_match, irreducible_where_none}
 use Rattle.rule_reduce.proofs.Matched.{Matched, matched}
 use Rattle.rule_reduce.proofs.AtMost.{IsAtMost, turned, at_most-trans, at_most-greater}
 
-unlike : Equal ≡ Greater → ⊥
-unlike e = cc
-
 -- in a descending list a word stands once
 one_coefficient : (p : List Term) → IsDescending p → (w : List ℕ) (x y : ℤ) → Contains p (x, w) → Contains p (y, w) → x ≡ y
 one_coefficient p descending w x y (i, i_in, at_i) (j, j_in, at_j) =
@@ -40,7 +37,7 @@ one_coefficient p descending w x y (i, i_in, at_i) (j, j_in, at_j) =
     apart k l a b inside at_k at_l before =
         let first : get_or p k (b, w) ≡ (a, w) = get_or_default p k (b, w) (a, w) (omega arith) ∙ at_k in
         let falls : word_cmp w w ≡ Greater = sym (ap₂ (λ (t u : Term). word_cmp t.1 u.1) first at_l) ∙ descending k l (b, w) before inside in
-        unlike (sym (word_cmp-itself w) ∙ falls)
+        cc (sym (word_cmp-itself w) ∙ falls)
 
 module _ (compare : Compare) (entries : List (List ℕ × ℕ)) where
   abbrev made : Term → ℕ × ℕ → Choice
@@ -59,12 +56,8 @@ module _ (compare : Compare) (entries : List (List ℕ × ℕ)) where
 
       better : (b : Option Choice) → IfSome b Q → IfSome (better_choice compare entries b t) Q
       better None h = found (match_of entries t.1) refl None h
-      better (Some b) h = go (compare t.1 b.word)
-        where
-          go : (o : Ordering) → IfSome (by_order o (Some b) (Some b) (choice_or t (match_of entries t.1) (Some b))) Q
-          go Less = h
-          go Equal = h
-          go Greater = found (match_of entries t.1) refl (Some b) h
+      better (Some b) h =
+          elim (compare t.1 b.word) as (λ o. IfSome (by_order o (Some b) (Some b) (choice_or t (match_of entries t.1) (Some b))) Q) [ Less ↦ h | Equal ↦ h | Greater ↦ found (match_of entries t.1) refl (Some b) h ]
 
   module _ (letters : ℕ) (rank : List ℕ → List ℕ) (laws : IsAdmissible letters compare rank) where
     lower : (u v w : List ℕ) → compare u v ≡ Less → IsAtMost compare v w → IsAtMost compare u w
@@ -104,11 +97,9 @@ module _ (compare : Compare) (entries : List (List ℕ × ℕ)) where
 
     -- a word above the chosen one has no match
     no_match_above : (t : Term) (c : Choice) → ((m : ℕ × ℕ) → match_of entries t.1 ≡ Some m → IsAtMost compare t.1 c.word) → compare t.1 c.word ≡ Greater → match_of entries t.1 ≡ None
-    no_match_above t c below greater = go (match_of entries t.1) refl
-      where
-        go : (m : Option (ℕ × ℕ)) → match_of entries t.1 ≡ m → match_of entries t.1 ≡ None
-        go None e = e
-        go (Some m) e = absurd (at_most-greater letters compare rank laws t.1 c.word (below m e) greater)
+    no_match_above t c below greater =
+        (elim (match_of entries t.1) as (λ m. match_of entries t.1 ≡ m → match_of entries t.1 ≡ None)
+        [ None ↦ λ e. e | Some m ↦ λ e. absurd (at_most-greater letters compare rank laws t.1 c.word (below m e) greater) ]) refl
 
 -- the term that is chosen, and the rule that matches it
 pub record Found (rules : List Rule) (p : List Term) (c : Choice) : Type 0 where
@@ -148,12 +139,12 @@ module _ (letters : ℕ) (compare : Compare) (rank : List ℕ → List ℕ) (law
       rule_at-all (λ g. OccursNowhere c.word g.lead) rules c.number one.rule one.numbered nowhere c.place one.leftmost.occurs
 
   one_word : (c d : Choice) → IsChoice compare rules p c → IsChoice compare rules p d → c.word ≡ d.word
-  one_word c d one other = go (compare c.word d.word) refl
-    where
-      go : (o : Ordering) → compare c.word d.word ≡ o → c.word ≡ d.word
-      go Less less = absurd (not_above d c other one (laws.total.antisymm d.word c.word ∙ ap ordering_reverse less))
-      go Equal level = laws.same c.word d.word level
-      go Greater greater = absurd (not_above c d one other greater)
+  one_word c d one other =
+      (elim (compare c.word d.word) as (λ o. compare c.word d.word ≡ o → c.word ≡ d.word) [
+        | Less ↦ λ less. absurd (not_above d c other one (laws.total.antisymm d.word c.word ∙ ap ordering_reverse less))
+        | Equal ↦ λ level. laws.same c.word d.word level
+        | Greater ↦ λ greater. absurd (not_above c d one other greater)
+      ]) refl
 
   not_lesser : (c d : Choice) → IsChoice compare rules p c → IsChoice compare rules p d → c.word ≡ d.word → c.number < d.number → ⊥
   not_lesser c d one other same lesser =
@@ -175,13 +166,13 @@ module _ (letters : ℕ) (compare : Compare) (rank : List ℕ → List ℕ) (law
       λ i. record { coefficient = coefficients i; word = words i; number = numbers i; place = places i }
 
   pub choice_is : (c : Choice) → IsDescending p → IsChoice compare rules p c → choice_of compare (entries_of rules) p ≡ Some c
-  choice_is c descending one = go (choice_of compare (entries_of rules) p) refl
-    where
-      go : (o : Option Choice) → choice_of compare (entries_of rules) p ≡ o → o ≡ Some c
-      go None none =
-          let nowhere = All-contains (λ t. All (λ g. OccursNowhere t.1 g.lead) rules) p (c.coefficient, c.word) (irreducible_where_none compare rules p none) one.term in
-          absurd (rule_at-all (λ g. OccursNowhere c.word g.lead) rules c.number one.rule one.numbered nowhere c.place one.leftmost.occurs)
-      go (Some d) chosen = ap Some (one_choice d c descending (choice_tells d chosen) one)
+  choice_is c descending one =
+      (elim (choice_of compare (entries_of rules) p) as (λ o. choice_of compare (entries_of rules) p ≡ o → o ≡ Some c) [
+        | None ↦ λ none.
+            let nowhere = All-contains (λ t. All (λ g. OccursNowhere t.1 g.lead) rules) p (c.coefficient, c.word) (irreducible_where_none compare rules p none) one.term in
+            absurd (rule_at-all (λ g. OccursNowhere c.word g.lead) rules c.number one.rule one.numbered nowhere c.place one.leftmost.occurs)
+        | Some d ↦ λ chosen. ap Some (one_choice d c descending (choice_tells d chosen) one)
+      ]) refl
 
 -- the law
 pub choices_are_exact : ChoicesAreExact

@@ -1,5 +1,7 @@
 -- Where the arithmetic of a step ends.
-use Rattle.std.proofs.Common.{ℕ, zero, suc, ◌+◌, ◌≡◌, ◌≤◌, ℤ, negsuc, neg_ℤ, ◌*ℤ◌, List, [], ◌∷◌, ◌++◌, length, get_or, map, Option, Some, None, Result, Ok, Err, IsErr, IsErrAnd, MatchResult, ◌≢◌, pos, refl, sym, ap, ap₂, ◌∙◌, subst, arith}
+use Rattle.nc_polynomial.proofs.Tables.{length-keep}
+use Rattle.nc_polynomial.proofs.Units.{once_fits}
+use Rattle.std.proofs.Common.{ℕ, ◌+◌, ◌≡◌, ◌≤◌, ℤ, neg_ℤ, ◌*ℤ◌, List, [], ◌∷◌, ◌++◌, length, get_or, map, Option, Some, None, Result, Ok, Err, IsErr, IsErrAnd, MatchResult, ◌≢◌, pos, refl, sym, ap, ap₂, ◌∙◌, subst, arith}
 use Rattle.std.specs.List.{All}
 use Rattle.std.proofs.lemmas.List.Elements.{All-tail, All-map}
 use Rattle.std.proofs.lemmas.Int.{ints}
@@ -31,22 +33,14 @@ all-negated p h = All-map (λ (t : Term). IsCoefficient t.0) (λ (t : Term). (ne
 -- want of memory explains anything
 pub memory-explains : {A B : Type 0} (r : Result A PolyFault) → IsErr r × IsErrAnd r IsMemory → (P : A → Type 0) (whole : Result B PolyFault) → MatchResult r P (Explains whole)
 memory-explains (Ok x) is P whole = absurd is.1
-memory-explains (Err e) is P whole = go e is.1
-  where
-    go : (e : PolyFault) → IsMemory e → Explains whole e
-    go (fault.Overflow o) is = absurd is
-    go (fault.Size s) is = absurd is
-    go (fault.Memory m) is = tt
+memory-explains (Err (fault.Memory m)) is P whole = tt
+memory-explains (Err (fault.Overflow o)) is P whole = absurd is.1
+memory-explains (Err (fault.Size s)) is P whole = absurd is.1
 
 -- multiplied from the right is multiplied from the left
 pub multiplied-scaled : (p : List Term) (k : ℤ) → multiplied p k ≡ scaled k p
 multiplied-scaled [] k = refl
 multiplied-scaled (t ∷ p) k = ap₂ (λ z rest. keep z t.1 rest) (*ℤ_comm t.0 k) (multiplied-scaled p k)
-
-length-keep : (z : ℤ) (w : List ℕ) (p : List Term) → length (keep z w p) ≤ suc (length p)
-length-keep (pos zero) w p = omega arith
-length-keep (pos (suc n)) w p = omega arith
-length-keep (negsuc n) w p = omega arith
 
 length-multiplied : (p : List Term) (k : ℤ) → length (multiplied p k) ≤ length p
 length-multiplied [] k = omega arith
@@ -75,14 +69,8 @@ canonical_multiply p k v canonical fits =
 times-one : (z : ℤ) → z *ℤ pos 1 ≡ z
 times-one z = omega (arith, ints)
 
-multiplied-one : (p : List Term) → All (λ t. t.0 ≢ pos 0) p → multiplied p (pos 1) ≡ p
-multiplied-one [] nonzero = refl
-multiplied-one (t ∷ p) nonzero = ap₂ (λ z rest. keep z t.1 rest) (times-one t.0) (multiplied-one p (All-tail (λ (u : Term). u.0 ≢ pos 0) t p nonzero)) ∙ kept t.0 (nonzero 0 t (omega arith))
-  where
-    kept : (z : ℤ) → z ≢ pos 0 → keep z t.1 p ≡ (z, t.1) ∷ p
-    kept (pos zero) n = absurd (n refl)
-    kept (pos (suc m)) n = refl
-    kept (negsuc m) n = refl
+multiplied-one : (p : List Term) → IsShaped p → multiplied p (pos 1) ≡ p
+multiplied-one p shaped = multiplied-scaled p (pos 1) ∙ value_is (products (pos 1) p) (scaled (pos 1) p) p (once_fits p shaped)
 
 fits-times-one : (z : ℤ) → IsCoefficient z → IsCoefficient (z *ℤ pos 1)
 fits-times-one z fits = subst IsCoefficient (sym (times-one z)) fits
@@ -108,7 +96,7 @@ state-times-one s in_range =
     let none : first_overflow (state_operations (pos 1) s) ≡ None =
     first ∙ first-append (multiplications s.rest (pos 1)) (row_operations s.rows (pos 1)) ∙ ap₂ or_first second third in
     let multiplier = times-one s.multiplier in
-    let rest = multiplied-one s.rest shaped.nonzero in
+    let rest = multiplied-one s.rest shaped in
     let rows = rows-one s.rows in
     ap (λ o. unless_overflow o (Ok (multiplied_state (pos 1) s))) none ∙ ap Ok (λ i. record s { multiplier = multiplier i; rest = rest i; rows = rows i })
 
@@ -167,9 +155,8 @@ if_sized-after None r x = refl
 if_sized-after (Some o) r x = refl
 
 explains-sized : {A : Type 0} (r : Result (List Term) PolyFault) (x : A) (e : PolyFault) → Explains r e → Explains (if_sized r x) e
-explains-sized r x (fault.Overflow o) why = ap (λ q. if_sized q x) why
-explains-sized r x (fault.Size s) why = ap (λ q. if_sized q x) why
 explains-sized r x (fault.Memory m) why = tt
+explains-sized r x _ why = ap (λ q. if_sized q x) why
 
 module _ (m : Move) (s : State) where
   abbrev end : Result State PolyFault

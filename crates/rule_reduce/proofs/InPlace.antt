@@ -4,14 +4,13 @@ use Rattle.std.proofs.lemmas.Bool.{cases_lt}
 use Rattle.std.proofs.lemmas.Cmp.{back_total}
 use Rattle.std.proofs.lemmas.List.Elements.{All-drop}
 use Rattle.std.proofs.lemmas.List.Sorted.{searchable_from_sorted}
-use Rattle.std.proofs.Common.{◌≡◌, ◌≢◌, ◌⊎◌, inl, inr, ℕ, ◌+◌, ◌<◌, ◌≤◌, ℤ, pos, ◌+ℤ◌, List, [], ◌∷◌, ◌++◌, length, take, drop, get_or, true, Option, Some, None, Result, Ok, Err, refl, sym, ap, ap₂, ◌∙◌, subst, arith, append_assoc}
+use Rattle.std.proofs.Common.{◌≡◌, ◌≢◌, inl, inr, ℕ, ◌+◌, ◌<◌, ◌≤◌, ℤ, pos, ◌+ℤ◌, List, [], ◌∷◌, ◌++◌, length, take, drop, get_or, true, Some, None, Result, Ok, Err, refl, sym, ap, ap₂, ◌∙◌, subst, arith, append_assoc}
 use Rattle.std.specs.List.{All, AllWithin, HoldsAt}
 use Rattle.std.specs.List.Sorted.{IsPartitionedBy, IsPartitionPoint, IsBinarySearchResult}
 use Rattle.std.specs.Ordering.{is_gt, is_lt}
 use Rattle.std.specs.declared.cmp.Ordering.{Ordering}
 use Rattle.std.specs.declared.cmp.Ordering.TheVariants.{Less, Equal, Greater}
 use Rattle.std.proofs.lemmas.List.{append-nil, get_or-take, get_or-drop, length-take, length-drop, length-append, take_all, drop_all, drop_more, take-append-drop, take-take, drop-take, drop-drop, take_at, drop_at}
-use Rattle.coef_int.specs.declared.Overflow.{Overflow}
 use Rattle.coef_int.specs.Range.{IsCoefficient}
 use Rattle.coef_int.specs.Operations.{sum_of, first_overflow}
 use Rattle.definitions.specs.Poly.{Term}
@@ -50,11 +49,9 @@ put_behind front behind p z w next put = ap (drop next) put.whole ∙ drop_at (f
 
 -- the sum from a place on stands behind what is in front of the place
 pub sum_from-join : (at : ℕ) (p q : List Term) → sum_from at p q ≡ join (take at p) (total_from (aligned (drop at p) q))
-sum_from-join at p q = go (first_overflow (total_operations (aligned (drop at p) q)))
-  where
-    go : (o : Option Overflow) → unless_overflow o (Ok (take at p ++ added (drop at p) q)) ≡ join (take at p) (unless_overflow o (Ok (added (drop at p) q)))
-    go None = refl
-    go (Some o) = refl
+sum_from-join at p q =
+    elim (first_overflow (total_operations (aligned (drop at p) q))) as (λ o. unless_overflow o (Ok (take at p ++ added (drop at p) q)) ≡ join (take at p) (unless_overflow o (Ok (added (drop at p) q))))
+    [ None ↦ refl | Some o ↦ refl ]
 
 join-join : (a b : List Term) (r : Result (List Term) PolyFault) → join a (join b r) ≡ join (a ++ b) r
 join-join a b (Ok xs) = ap Ok (sym (append_assoc a b xs))
@@ -82,9 +79,7 @@ passed_over n i p q c w shaped above =
     ∙ ap₂ (λ l m. join l (total_from (aligned m ((c, w) ∷ q)))) (fronts n i p) (drop-drop i n p)
 
 is_greater : (o : Ordering) → is_gt o ≡ true → o ≡ Greater
-is_greater Less h = cc
-is_greater Equal h = cc
-is_greater Greater h = refl
+is_greater o h = grind arith
 
 -- the first terms that are above a word
 pub all_above : (p : List Term) (w : List ℕ) (n : ℕ) → AllWithin (λ t. is_gt (word_cmp t.1 w) ≡ true) p 0 n → All (λ t. word_cmp t.1 w ≡ Greater) (take n p)
@@ -93,11 +88,10 @@ all_above p w n each k d below =
     subst (λ (t : Term). word_cmp t.1 w ≡ Greater) (sym (get_or-take n p k d inside)) (is_greater (word_cmp (get_or p k d).1 w) (each k d (omega arith) inside))
 
 pub parted_by : (p : List Term) (w : List ℕ) → IsDescending p → IsPartitionedBy (λ t. is_gt (word_cmp t.1 w)) p
-parted_by p w descends i j d low high above = go (cases_lt i j)
-  where
-    go : (i < j) ⊎ (j ≤ i) → is_gt (word_cmp (get_or p i d).1 w) ≡ true
-    go (inl before) = ap is_gt (word_cmp-trans (get_or p i d).1 (get_or p j d).1 w (descends i j d before high) (is_greater (word_cmp (get_or p j d).1 w) above))
-    go (inr past) = let same : i ≡ j = omega arith in subst (λ n. is_gt (word_cmp (get_or p n d).1 w) ≡ true) (sym same) above
+parted_by p w descends i j d low high above = elim (cases_lt i j) [
+  | inl before ↦ ap is_gt (word_cmp-trans (get_or p i d).1 (get_or p j d).1 w (descends i j d before high) (is_greater (word_cmp (get_or p j d).1 w) above))
+  | inr past ↦ let same : i ≡ j = omega arith in subst (λ n. is_gt (word_cmp (get_or p n d).1 w) ≡ true) (sym same) above
+]
 
 -- what is behind a place keeps its shape
 pub shaped-drop : (n : ℕ) (p : List Term) → IsShaped p → IsShaped (drop n p)

@@ -21,12 +21,11 @@ use Rattle.rule_reduce.proofs.Runs.{reduction_keeps}
 -- no entry of a rule occurs where there is no match
 pub no_match : (n : ℕ) (rules : List Rule) (w : List ℕ) → match_of (entries_from n rules) w ≡ None → All (λ g. OccursNowhere w g.lead) rules
 no_match n [] w none = All-nil (λ (g : Rule). OccursNowhere w g.lead)
-no_match n (g ∷ rules) w none = go (place_in w g.lead) (place_in-tells w g.lead) none (no_match (suc n) rules w)
-  where
-    go : (p : Option ℕ) → MatchOption p (OccursNowhere w g.lead) (IsFirstPlace w g.lead) → match_or n p (match_of (entries_from (suc n) rules) w) ≡ None
-        → (match_of (entries_from (suc n) rules) w ≡ None → All (λ f. OccursNowhere w f.lead) rules) → All (λ f. OccursNowhere w f.lead) (g ∷ rules)
-    go None nowhere k more = All-cons (λ (f : Rule). OccursNowhere w f.lead) g rules nowhere (more k)
-    go (Some place) first k more = absurd (cc)
+no_match n (g ∷ rules) w none =
+    (elim (place_in w g.lead) as (λ p. MatchOption p (OccursNowhere w g.lead) (IsFirstPlace w g.lead) → match_or n p (match_of (entries_from (suc n) rules) w) ≡ None → All (λ f. OccursNowhere w f.lead) (g ∷ rules)) [
+      | None ↦ λ nowhere k. All-cons (λ (f : Rule). OccursNowhere w f.lead) g rules nowhere (no_match (suc n) rules w k)
+      | Some place ↦ λ first k. absurd (cc)
+    ]) (place_in-tells w g.lead) none
 
 module _ (compare : Compare) (entries : List (List ℕ × ℕ)) where
   -- a choice is never given up
@@ -43,12 +42,11 @@ module _ (compare : Compare) (entries : List (List ℕ × ℕ)) where
 
   none_matches : (p : List Term) → choice_from compare entries None p ≡ None → All (λ t. match_of entries t.1 ≡ None) p
   none_matches [] none = All-nil (λ (t : Term). match_of entries t.1 ≡ None)
-  none_matches (t ∷ p) none = go (match_of entries t.1) refl none (none_matches p)
-    where
-      go : (m : Option (ℕ × ℕ)) → match_of entries t.1 ≡ m → choice_from compare entries (choice_or t m None) p ≡ None
-          → (choice_from compare entries None p ≡ None → All (λ u. match_of entries u.1 ≡ None) p) → All (λ u. match_of entries u.1 ≡ None) (t ∷ p)
-      go None is k more = All-cons (λ (u : Term). match_of entries u.1 ≡ None) t p is (more k)
-      go (Some m) is k more = absurd (stays p (record { coefficient = t.0; word = t.1; number = m.0; place = m.1 }) k)
+  none_matches (t ∷ p) none =
+      (elim (match_of entries t.1) as (λ m. match_of entries t.1 ≡ m → choice_from compare entries (choice_or t m None) p ≡ None → All (λ u. match_of entries u.1 ≡ None) (t ∷ p)) [
+        | None ↦ λ is k. All-cons (λ (u : Term). match_of entries u.1 ≡ None) t p is (none_matches p k)
+        | Some m ↦ λ is k. absurd (stays p (record { coefficient = t.0; word = t.1; number = m.0; place = m.1 }) k)
+      ]) refl none
 
 pub irreducible_where_none : (compare : Compare) (rules : List Rule) (p : List Term) → choice_of compare (entries_of rules) p ≡ None → IsIrreducible rules p
 irreducible_where_none compare rules p none i t k = no_match 1 rules (get_or p i t).1 (none_matches compare (entries_of rules) p none i t k)

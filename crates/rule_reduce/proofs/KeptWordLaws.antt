@@ -1,5 +1,5 @@
 -- The words of a reduction stay below those of the polynomial, are typed like it, and have its letters or those of the rules.
-use Rattle.std.proofs.Common.{◌≡◌, ◌≢◌, ◌⊎◌, inl, inr, ℕ, pos, Bool, List, ◌++◌, get_or, refl, sym, ◌∙◌, subst}
+use Rattle.std.proofs.Common.{◌≢◌, inl, inr, ℕ, pos, Bool, List, ◌++◌, get_or, refl, sym, ◌∙◌, subst}
 use Rattle.std.specs.List.{All, list_all}
 use Rattle.std.proofs.lemmas.Bool.{and_parts, and_from}
 use Rattle.std.proofs.lemmas.List.Elements.{All-weaker}
@@ -28,18 +28,20 @@ words_of P p shaped each = words_listed P p (distinct-descending p (recursion_fr
 -- words stay below
 module _ (letters : ℕ) (compare : Compare) (rank : List ℕ → List ℕ) (laws : IsAdmissible letters compare rank) (p : List Term) (p_over : All (λ t. IsOver letters t.1) p) where
   over_at_most : (w : List ℕ) → IsAtMostOf letters compare p w → IsOver letters w
-  over_at_most w most = go most.at_most
-    where
-      go : (w ≡ most.word) ⊎ IsBelow letters compare w most.word → IsOver letters w
-      go (inl same) = subst (IsOver letters) (sym same) (words_with_coefficients (IsOver letters) p p_over most.word most.occurs)
-      go (inr below) = below.left
+  over_at_most w most = elim most.at_most [
+    | inl same ↦ subst (IsOver letters) (sym same) (words_with_coefficients (IsOver letters) p p_over most.word most.occurs)
+    | inr below ↦ below.left
+  ]
 
   lower : (u w : List ℕ) → IsBelow letters compare u w → IsAtMostOf letters compare p w → IsAtMostOf letters compare p u
-  lower u w less most = record { word = most.word; occurs = most.occurs; at_most = inr (go most.at_most) }
-    where
-      go : (w ≡ most.word) ⊎ IsBelow letters compare w most.word → IsBelow letters compare u most.word
-      go (inl same) = subst (IsBelow letters compare u) same less
-      go (inr more) = record { left = less.left; right = more.right; less = laws.total.trans u w most.word less.less more.less }
+  lower u w less most = record {
+    word = most.word;
+    occurs = most.occurs;
+    at_most = inr (elim most.at_most [
+      | inl same ↦ subst (IsBelow letters compare u) same less
+      | inr more ↦ record { left = less.left; right = more.right; less = laws.total.trans u w most.word less.less more.less }
+    ]);
+  }
 
   -- l u r is at most what l v r is, where u is at most v
   around_at_most : (l u v r : List ℕ) → IsOver letters u → IsAtMost compare u v → IsAtMostOf letters compare p (l ++ (v ++ r)) → IsAtMostOf letters compare p (l ++ (u ++ r))

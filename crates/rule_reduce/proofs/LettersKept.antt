@@ -1,10 +1,11 @@
 -- A step brings in no letters but those of the polynomial and of the rule.
-use Rattle.std.proofs.Common.{◌≡◌, ◌<◌, ℕ, ◌+◌, ℤ, ◌*ℤ◌, List, [], ◌∷◌, ◌++◌, length, get_or, take, drop, neg_ℤ, Some, Ok, arith}
+use Rattle.nc_polynomial.proofs.Products.{scaled-between}
+use Rattle.std.proofs.Common.{◌≡◌, ◌<◌, ℕ, ◌+◌, ℤ, ◌*ℤ◌, List, [], ◌∷◌, ◌++◌, length, get_or, take, drop, neg_ℤ, Some, Ok, arith, subst}
 use Rattle.std.specs.List.{All}
-use Rattle.std.proofs.lemmas.List.Elements.{All-nil, All-tail, All-map, All-append, All-take, All-drop}
-use Rattle.definitions.specs.Poly.{Term}
+use Rattle.std.proofs.lemmas.List.Elements.{All-tail, All-map, All-append, All-take, All-drop}
+use Rattle.definitions.specs.Poly.{Term, poly_between}
 use Rattle.nc_polynomial.specs.Terms.{multiplied, negated, shifted, aligned}
-use Rattle.nc_polynomial.proofs.Shapes.{all-keep, all-totals, all-aligned}
+use Rattle.nc_polynomial.proofs.Shapes.{all-keep, all-totals, all-aligned, all-scaled}
 use Rattle.word_core.specs.Letters.{IsOver}
 use Rattle.rule_reduce.specs.declared.rule.Rule.{Rule}
 use Rattle.rule_reduce.specs.declared.state.State.{State}
@@ -21,9 +22,7 @@ module _ (P : List ℕ → Type 0) where
   each-multiplied (t ∷ p) k each = all-keep (λ (u : Term). P u.1) (t.0 *ℤ k) t.1 (multiplied p k) (λ e. each 0 t (omega arith)) (each-multiplied p k (All-tail (λ (u : Term). P u.1) t p each))
 
   each-shifted : (k : ℤ) (l : List ℕ) (g : List Term) (r : List ℕ) → All (λ t. P (l ++ (t.1 ++ r))) g → All (λ t. P t.1) (shifted k l g r)
-  each-shifted k l [] r each = All-nil (λ (u : Term). P u.1)
-  each-shifted k l (t ∷ g) r each =
-      all-keep (λ (u : Term). P u.1) (k *ℤ t.0) (l ++ (t.1 ++ r)) (shifted k l g r) (λ e. each 0 t (omega arith)) (each-shifted k l g r (All-tail (λ (u : Term). P (l ++ (u.1 ++ r))) t g each))
+  each-shifted k l g r each = subst (All (λ (u : Term). P u.1)) (scaled-between k l g r) (all-scaled P k (poly_between l g r) (All-map (λ (u : Term). P u.1) (λ (u : Term). (u.0, l ++ (u.1 ++ r))) g each))
 
   pub each-moved : (m : Move) (s : State) → All (λ t. P t.1) s.rest → All (λ t. P (m.left ++ (t.1 ++ m.right))) m.rule → All (λ t. P t.1) (moved m s).rest
   each-moved m s rest rule =

@@ -2,7 +2,6 @@
 use Rattle.std.proofs.Common.{◌≡◌, ℕ, ℤ, pos, ◌<◌, ◌<ℤ◌, List, [], ◌∷◌, length, slice_get, Some, IsSomeAnd, ◌∙◌, arith, subst}
 use Rattle.std.specs.List.{All}
 use Rattle.definitions.specs.Poly.{Term}
-use Rattle.std.specs.Int.{IsNonNegative}
 use Rattle.std.specs.Int.RustNames.{unsigned_abs}
 use Rattle.std.proofs.lemmas.Int.{ints}
 use Rattle.std.proofs.lemmas.Nat.Gcd.{dvd_antisymm}
@@ -33,7 +32,6 @@ rule_is letters compare poly n leading lead best here positive nonempty over = r
 
 -- a polynomial has one content
 pub one_content : (p : List Term) (g h : ℤ) → IsContent p g → IsContent p h → g ≡ h
-one_content p g h one other = same g h one.nonnegative other.nonnegative (dvd_antisymm (other.greatest (unsigned_abs g) one.divides) (one.greatest (unsigned_abs h) other.divides))
-  where
-    same : (a b : ℤ) → IsNonNegative a → IsNonNegative b → unsigned_abs a ≡ unsigned_abs b → a ≡ b
-    same a b a_sign b_sign e = omega (arith, ints, a_sign, b_sign)
+one_content p g h one other =
+    let same : unsigned_abs g ≡ unsigned_abs h = dvd_antisymm (other.greatest (unsigned_abs g) one.divides) (one.greatest (unsigned_abs h) other.divides) in
+    omega (arith, ints, one.nonnegative, other.nonnegative)

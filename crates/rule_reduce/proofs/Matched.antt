@@ -1,5 +1,5 @@
 -- The rule that matches a word: the first one whose leading word occurs in it.
-use Rattle.std.proofs.Common.{◌≡◌, ℕ, zero, suc, ◌+◌, ◌<◌, List, [], ◌∷◌, slice_get, Option, Some, None, MatchOption, refl, subst, arith}
+use Rattle.std.proofs.Common.{◌≡◌, ℕ, zero, suc, ◌+◌, ◌<◌, List, [], ◌∷◌, slice_get, Some, None, MatchOption, refl, subst, arith}
 use Rattle.std.proofs.lemmas.Option.{same_Some, some_pair_parts}
 use Rattle.word_core.specs.Occurrence.{OccursNowhere, IsFirstPlace}
 use Rattle.rule_index.specs.Matches.{match_or, match_of, place_in}
@@ -28,20 +28,19 @@ matched_later g rules w index place nowhere at = record { rule = at.rule; here =
 
 matched_from : (first : ℕ) (rules : List Rule) (w : List ℕ) (number place : ℕ) → match_of (entries_from first rules) w ≡ Some (number, place) → MatchedFrom first rules w number place
 matched_from first [] w number place is = absurd (cc)
-matched_from first (g ∷ rules) w number place is = go (place_in w g.lead) (place_in-tells w g.lead) is (matched_from (suc first) rules w number place)
-  where
-    go : (o : Option ℕ) → MatchOption o (OccursNowhere w g.lead) (IsFirstPlace w g.lead) → match_or first o (match_of (entries_from (suc first) rules) w) ≡ Some (number, place)
-        → (match_of (entries_from (suc first) rules) w ≡ Some (number, place) → MatchedFrom (suc first) rules w number place) → MatchedFrom first (g ∷ rules) w number place
-    go None nowhere k more =
-        let rest = more k in
-        record { index = suc rest.index; numbered = omega (arith, rest.numbered); at = matched_later g rules w rest.index place nowhere rest.at }
-    go (Some p) leftmost k more =
-        let parts = some_pair_parts first number p place k in
-        record {
-          index = 0;
-          numbered = omega (arith, parts.0);
-          at = record { rule = g; here = refl; leftmost = subst (IsFirstPlace w g.lead) parts.1 leftmost; least = λ n f is lesser. absurd (omega arith) };
-        }
+matched_from first (g ∷ rules) w number place is =
+    (elim (place_in w g.lead) as (λ o. MatchOption o (OccursNowhere w g.lead) (IsFirstPlace w g.lead) → match_or first o (match_of (entries_from (suc first) rules) w) ≡ Some (number, place) → MatchedFrom first (g ∷ rules) w number place) [
+      | None ↦ λ nowhere k.
+          let rest = matched_from (suc first) rules w number place k in
+          record { index = suc rest.index; numbered = omega (arith, rest.numbered); at = matched_later g rules w rest.index place nowhere rest.at }
+      | Some p ↦ λ leftmost k.
+          let parts = some_pair_parts first number p place k in
+          record {
+            index = 0;
+            numbered = omega (arith, parts.0);
+            at = record { rule = g; here = refl; leftmost = subst (IsFirstPlace w g.lead) parts.1 leftmost; least = λ n f is lesser. absurd (omega arith) };
+          }
+    ]) (place_in-tells w g.lead) is
 
 -- the rule has the number, and no rule with a lesser one matches
 pub record Matched (rules : List Rule) (w : List ℕ) (number place : ℕ) : Type 0 where

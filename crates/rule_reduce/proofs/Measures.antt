@@ -20,23 +20,15 @@ use Rattle.rule_reduce.specs.declared.state.Choice.{Choice}
 use Rattle.rule_reduce.specs.Choices.{better_choice, choice_or, choice_from, IsSettled}
 use Rattle.rule_reduce.specs.Passing.{Passes}
 
-unlike : Less ≡ Greater → ⊥
-unlike e = cc
-
 module _ (measure : List ℕ → ℕ) (u v : List ℕ) where
   pub greater_if : measure v < measure u → measured_cmp measure u v ≡ Greater
   greater_if more = ap (λ o. ordering_then o (word_cmp u v)) (sym (nat_cmp_is (measure u) (measure v) Greater more))
 
   pub greater_only_if : word_cmp v u ≡ Greater → measured_cmp measure u v ≡ Greater → measure v < measure u
-  greater_only_if above greater = go (nat_cmp (measure u) (measure v)) refl greater
-    where
-      below : word_cmp u v ≡ Less
-      below = word_cmp-turned_back v u above
-
-      go : (o : Ordering) → o ≡ nat_cmp (measure u) (measure v) → ordering_then o (word_cmp u v) ≡ Greater → measure v < measure u
-      go Less is k = absurd (unlike k)
-      go Equal is k = absurd (unlike (sym below ∙ k))
-      go Greater is k = ranked (measure u) (measure v) Greater is
+  greater_only_if above greater =
+      let below = word_cmp-turned_back v u above in
+      (elim (nat_cmp (measure u) (measure v)) as (λ o. o ≡ nat_cmp (measure u) (measure v) → ordering_then o (word_cmp u v) ≡ Greater → measure v < measure u)
+      [ Less ↦ λ is k. absurd (cc) | Equal ↦ λ is k. absurd (cc) | Greater ↦ λ is k. ranked (measure u) (measure v) Greater is ]) refl greater
 
 -- a word whose measure passes that of the last one is greater
 pub passes_greater : (compare : Compare) (measure : List ℕ → ℕ) → ((u v : List ℕ) → compare u v ≡ measured_cmp measure u v) → (last w : List ℕ) (is_above : Bool)
@@ -76,9 +68,9 @@ module _ (compare : Compare) (measure : List ℕ → ℕ) (by_measure : (u v : L
   pub keeps_choice : (best : Option Choice) (t : Term) (most : ℕ) → IsSome best → measure t.1 ≤ most → IfSome best (λ b. most ≡ measure b.word)
       → IfSome best (λ b. word_cmp b.word t.1 ≡ Greater) → best ≡ better_choice compare entries best t
   keeps_choice None t most some less is behind = absurd (false≢true some)
-  keeps_choice (Some b) t most some less is behind = go (compare t.1 b.word) refl
-    where
-      go : (o : Ordering) → compare t.1 b.word ≡ o → Some b ≡ by_order o (Some b) (Some b) (choice_or t (match_of entries t.1) (Some b))
-      go Less e = refl
-      go Equal e = refl
-      go Greater greater = absurd (omega (arith, less, is, greater_only_if measure t.1 b.word behind (sym (by_measure t.1 b.word) ∙ greater)))
+  keeps_choice (Some b) t most some less is behind =
+      (elim (compare t.1 b.word) as (λ o. compare t.1 b.word ≡ o → Some b ≡ by_order o (Some b) (Some b) (choice_or t (match_of entries t.1) (Some b))) [
+        | Less ↦ λ e. refl
+        | Equal ↦ λ e. refl
+        | Greater ↦ λ greater. absurd (omega (arith, less, is, greater_only_if measure t.1 b.word behind (sym (by_measure t.1 b.word) ∙ greater)))
+      ]) refl

@@ -1,10 +1,9 @@
 -- The multiplier of a reduction is positive.
-use Rattle.std.proofs.Common.{ℕ, suc, ◌<◌, ◌≤◌, ◌*◌, ◌/◌, ℤ, pos, negsuc, ◌*ℤ◌, ◌<ℤ◌, int_div, sym, subst, arith}
+use Rattle.std.proofs.Common.{suc, ◌<◌, ◌≤◌, ◌*◌, ◌/◌, ℤ, pos, negsuc, ◌*ℤ◌, ◌<ℤ◌, int_div, arith, zero}
 use Rattle.std.specs.Int.RustNames.{unsigned_abs}
 use Rattle.std.proofs.lemmas.Int.{ints}
 use Rattle.std.proofs.lemmas.Nat.{le-div}
 use Rattle.std.proofs.lemmas.Nat.Gcd.{le_of_dvd}
-use Rattle.std.proofs.Math.IntN.{pos-*ℤ-pos}
 use Rattle.rule_reduce.specs.RuleLists.{IsRule}
 use Rattle.coef_int.specs.Divisor.{gcd_within, gcd_of}
 use Rattle.rule_reduce.specs.Steps.{move_of}
@@ -15,19 +14,11 @@ use Rattle.coef_int.proofs.Divisors.{gcd_within-IsGcd, gcd_positive}
 use Rattle.rule_reduce.proofs.Runs.{reduction_keeps}
 
 product_positive : (a b : ℤ) → pos 0 <ℤ a → pos 0 <ℤ b → pos 0 <ℤ (a *ℤ b)
-product_positive (pos a) (pos b) a_above b_above =
-    let a_positive : 0 < a = omega (arith, ints, a_above) in
-    let b_positive : 0 < b = omega (arith, ints, b_above) in
-    let above : 0 < a * b = both a b a_positive b_positive in
-    subst (λ z. pos 0 <ℤ z) (sym (pos-*ℤ-pos a b)) (lift (a * b) above)
-  where
-    both : (m n : ℕ) → 0 < m → 0 < n → 0 < m * n
-    both m n h k = grind arith
-
-    lift : (n : ℕ) → 0 < n → pos 0 <ℤ pos n
-    lift n h = omega (arith, ints, h)
-product_positive (pos a) (negsuc b) a_above b_above = absurd (omega (arith, ints, b_above))
-product_positive (negsuc a) b a_above b_above = absurd (omega (arith, ints, a_above))
+product_positive (pos zero) b a_above b_above = absurd (omega (arith, ints))
+product_positive (pos (suc a)) (pos zero) a_above b_above = absurd (omega (arith, ints))
+product_positive (pos (suc a)) (pos (suc b)) a_above b_above = omega (arith, ints)
+product_positive (pos (suc a)) (negsuc b) a_above b_above = absurd (omega (arith, ints))
+product_positive (negsuc a) b a_above b_above = absurd (omega (arith, ints))
 
 -- a positive number divided by its greatest common divisor with another one
 quotient_positive : (c k : ℤ) → pos 0 <ℤ k → pos 0 <ℤ int_div k (gcd_of c k)
@@ -35,14 +26,9 @@ quotient_positive c (pos k) above =
     let positive : 0 < k = omega (arith, ints, above) in
     let shared = gcd_within (suc k) (unsigned_abs c) k in
     let is_gcd = gcd_within-IsGcd (suc k) (unsigned_abs c) k (omega arith) in
-    let whole : 0 < k / shared = le-div 1 k shared (gcd_positive (unsigned_abs c) k shared is_gcd positive) (at_most k shared (le_of_dvd positive is_gcd.1)) in
-    lift (k / shared) whole
-  where
-    at_most : (m n : ℕ) → n ≤ m → 1 * n ≤ m
-    at_most m n h = omega arith
-
-    lift : (n : ℕ) → 0 < n → pos 0 <ℤ pos n
-    lift n h = omega (arith, ints, h)
+    let small : 1 * shared ≤ k = omega (arith, le_of_dvd positive is_gcd.1) in
+    let whole : 0 < k / shared = le-div 1 k shared (gcd_positive (unsigned_abs c) k shared is_gcd positive) small in
+    omega (arith, ints, whole)
 quotient_positive c (negsuc k) above = absurd (omega (arith, ints, above))
 
 pub multipliers_are_positive : MultipliersArePositive

@@ -1,4 +1,5 @@
 -- Rules by their numbers.
+use Rattle.std.proofs.lemmas.List.{length-take}
 use Rattle.std.proofs.Common.{◌≡◌, ℕ, zero, suc, ◌+◌, ◌<◌, ◌≤◌, List, [], ◌∷◌, ◌++◌, length, take, get_or, slice_get, Option, Some, None, refl, sym, ap, ◌∙◌, arith, subst}
 use Rattle.std.specs.List.{All}
 use Rattle.std.proofs.lemmas.List.Elements.{All-nil, All-cons}
@@ -48,9 +49,7 @@ entries_of-take count rules = entries_from-take count 1 rules
 
 -- which are no more than there are
 pub no_longer : (count : ℕ) (rules : List Rule) → length (take count rules) ≤ length rules
-no_longer zero rules = omega arith
-no_longer (suc count) [] = omega arith
-no_longer (suc count) (g ∷ rules) = let rest = no_longer count rules in omega (arith, rest)
+no_longer count rules = omega (arith, length-take count rules)
 
 -- all numbers are below that one
 below_from : (n : ℕ) (rules : List Rule) (m : ℕ) → n + length rules ≤ m → All (λ e. e.1 < m) (entries_from n rules)

@@ -28,9 +28,8 @@ module _ (limit : ℕ) (compare : Compare) (rules : List Rule) (s : State) where
   fails n c e chosen stepped = ap (λ o. one_step rules o s (reduction limit compare rules n)) chosen ∙ ap (λ r. then_next r (reduction limit compare rules n)) stepped
 
   pub explains_fault : (n : ℕ) (c : Choice) (e : PolyFault) → choice_of compare (entries_of rules) s.rest ≡ Some c → Explains (step_result rules c s) e → ExplainsHalt (reduction limit compare rules (suc n) s) (halt_of e)
-  explains_fault n c (fault.Overflow o) chosen stepped = fails n c (fault.Overflow o) chosen stepped
-  explains_fault n c (fault.Size z) chosen stepped = fails n c (fault.Size z) chosen stepped
   explains_fault n c (fault.Memory m) chosen stepped = tt
+  explains_fault n c e chosen stepped = fails n c e chosen stepped
 
   -- no step is left
   pub runs_out : (c : Choice) → choice_of compare (entries_of rules) s.rest ≡ Some c → reduction limit compare rules zero s ≡ Err (halt.Steps limit)

@@ -1,12 +1,10 @@
 -- Rows, or numbers, that are written over one after another.
 use Rattle.std.proofs.Common.{◌≡◌, ◌<◌, ◌≤◌, ℕ, ◌+◌, ◌-◌, ℤ, ◌*ℤ◌, List, ◌∷◌, ◌++◌, length, map, take, drop, set, get_or, Some, sym, ap, ◌∙◌, arith}
-use Rattle.std.proofs.lemmas.Bool.Decides.{nat_tests}
 use Rattle.std.proofs.lemmas.List.{drop_more, get_or-append_right, get_or-drop, length-append, length-drop, length-map, length-take, length-take-le}
 use Rattle.std.proofs.lemmas.List.Edits.{map_over_more}
-use Rattle.coef_int.specs.declared.Overflow.{Overflow}
 use Rattle.coef_int.specs.Range.{IsCoefficient}
 use Rattle.coef_int.specs.Operations.{product_of, first_overflow}
-use Rattle.nc_polynomial.proofs.Chains.{first-fits}
+use Rattle.nc_polynomial.proofs.Chains.{first-fits, first-fails}
 
 -- one row more is written over
 pub written_more : {A : Type 0} (f : A → A) (xs ys : List A) (i : ℕ) (row written : A) → i < length xs → ys ≡ map f (take i xs) ++ drop i xs → row ≡ get_or ys i row → written ≡ f row
@@ -17,11 +15,9 @@ written_more f xs ys i row written below so_far is same = ap (set ys i) same ∙
 pub still_there : {A : Type 0} (f : A → A) (xs ys : List A) (i : ℕ) (row : A) → i < length xs → ys ≡ map f (take i xs) ++ drop i xs → row ≡ get_or ys i row → row ≡ get_or xs i row
 still_there f xs ys i row below so_far is =
     let front : length (map f (take i xs)) ≡ i = length-map (take i xs) f ∙ length-take-le i xs (omega arith) in
+    let no_more : i + (i - i) ≡ i = omega arith in
     is ∙ ap (λ zs. get_or zs i row) so_far ∙ get_or-append_right (map f (take i xs)) (drop i xs) i i row front (omega arith)
-    ∙ get_or-drop i xs (i - i) row ∙ ap (λ n. get_or xs n row) (no_more i)
-  where
-    no_more : (n : ℕ) → n + (n - n) ≡ n
-    no_more n = omega arith
+    ∙ get_or-drop i xs (i - i) row ∙ ap (λ n. get_or xs n row) no_more
 
 -- all rows are written over
 pub all_written : {A : Type 0} (f : A → A) (xs ys : List A) (i : ℕ) → ys ≡ map f (take i xs) ++ drop i xs → length ys ≤ i → length xs ≤ i
@@ -35,11 +31,8 @@ none_before number xs i row by below is fits =
     ∙ first-fits (product_of (number row) by) (map (λ x. product_of (number x) by) (drop (i + 1) xs)) fits
 
 -- the product of a row that is no coefficient is the first from it on
-first-overflows : (x y : ℤ) (os : List Overflow) → (IsCoefficient (x *ℤ y) → ⊥) → first_overflow (product_of x y ∷ os) ≡ Some (product_of x y)
-first-overflows x y os too_large = grind (arith, nat_tests)
-
 pub overflow_at : {A : Type 0} (number : A → ℤ) (xs : List A) (i : ℕ) (row : A) (by : ℤ) → i < length xs → row ≡ get_or xs i row → (IsCoefficient (number row *ℤ by) → ⊥)
     → first_overflow (map (λ x. product_of (number x) by) (drop i xs)) ≡ Some (product_of (number row) by)
 overflow_at number xs i row by below is too_large =
     ap (λ rows. first_overflow (map (λ x. product_of (number x) by) rows)) (drop_more xs i row below ∙ ap (λ r. r ∷ drop (i + 1) xs) (sym is))
-    ∙ first-overflows (number row) by (map (λ x. product_of (number x) by) (drop (i + 1) xs)) too_large
+    ∙ first-fails (product_of (number row) by) (map (λ x. product_of (number x) by) (drop (i + 1) xs)) too_large

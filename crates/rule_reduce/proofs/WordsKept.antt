@@ -1,5 +1,6 @@
 -- A property of words that replacing a leading word by the other words of its rule keeps is kept by a reduction.
-use Rattle.std.proofs.Common.{◌≡◌, ◌≢◌, ℕ, ◌+◌, pos, Bool, true, false, List, [], ◌∷◌, ◌++◌, length, take, drop, Some, Ok, refl, sym, ap, ap₂, ◌∙◌, subst, arith}
+use Rattle.std.proofs.lemmas.Bool.{cases_Bool}
+use Rattle.std.proofs.Common.{◌≡◌, ◌≢◌, ℕ, ◌+◌, pos, List, [], ◌∷◌, ◌++◌, length, take, drop, Some, Ok, refl, sym, ap, ap₂, ◌∙◌, subst, arith, inl, inr}
 use Rattle.std.specs.List.{All}
 use Rattle.std.proofs.lemmas.List.{take_at, drop_at, drop-drop}
 use Rattle.std.proofs.lemmas.List.Elements.{All-nil, All-tail, All-contains}
@@ -27,11 +28,10 @@ use Rattle.rule_reduce.proofs.Chosen.{found}
 -- what holds of each word that stands there holds of each word with a coefficient
 pub words_with_coefficients : (P : List ℕ → Type 0) (p : List Term) → All (λ t. P t.1) p → (w : List ℕ) → coefficient_of p w ≢ pos 0 → P w
 words_with_coefficients P [] each w some = absurd (some refl)
-words_with_coefficients P (t ∷ p) each w some = go (word_eq t.1 w) refl (words_with_coefficients P p (All-tail (λ (u : Term). P u.1) t p each) w)
-  where
-    go : (b : Bool) → word_eq t.1 w ≡ b → (coefficient_of p w ≢ pos 0 → P w) → P w
-    go true same rest = subst P (word_eq-true t.1 w same) (each 0 t (omega arith))
-    go false other rest = rest (λ none. some (coefficient_other w t p other ∙ none))
+words_with_coefficients P (t ∷ p) each w some = elim (cases_Bool (word_eq t.1 w)) [
+  | inl same ↦ subst P (word_eq-true t.1 w same) (each 0 t (omega arith))
+  | inr other ↦ words_with_coefficients P p (All-tail (λ (u : Term). P u.1) t p each) w (λ none. some (coefficient_other w t p other ∙ none))
+]
 
 -- a word is what stands before a place at which another occurs, the other, and what stands behind it
 pub split_at : (w sub : List ℕ) (place : ℕ) → OccursAt w sub place → w ≡ take place w ++ (sub ++ drop (place + length sub) w)

@@ -1,4 +1,4 @@
-use Rattle.std.proofs.Common.{rules, ◌≡◌, ◌++◌, [], ◌∷◌, length, int_div, map, sym, ap, ap₂, ◌∙◌, subst, append_assoc, arith}
+use Rattle.std.proofs.Common.{rules, ◌≡◌, ◌++◌, [], ◌∷◌, length, int_div, map, sym, ap, ◌∙◌, subst, append_assoc, arith}
 use Rattle.std.specs.List.{All}
 use Rattle.std.specs.Vec.Iter.{into_iter_items}
 use Rattle.std.proofs.lemmas.List.Elements.{All-tail}
@@ -6,18 +6,6 @@ use Rattle.coef_int.specs.Range.{IsCoefficient}
 use Rattle.cofactor_trace.specs.Expansion.{divided_row}
 use Rattle.traced_rows.proofs.Lists.{all_push}
 use Rattle.cofactor_trace.proofs.divisor.divide_rows.Goals as goal
-
-pub loop-row-init : goal.loop-row-init
-loop-row-init c =
-    let rows : into_iter_items c.into_iter-row-iterator.result ≡ c.args.rows = c.into_iter-row-iterator.ensures.into_iter_gives.0 ∙ search rules in
-    let same : c.new-divided.result ++ map (divided_row c.args.by) (into_iter_items c.into_iter-row-iterator.result) ≡ map (divided_row c.args.by) c.args.rows =
-    ap₂ (λ out rs. out ++ map (divided_row c.args.by) rs) c.new-divided.ensures rows in
-    record {
-      left = search rules;
-      rest_in = subst (All (λ r. IsCoefficient r.coef)) (sym rows) c.requires.coefficients_in;
-      divided_in = search rules;
-      same = search (rules, same);
-    }
 
 pub loop-row-preserved : goal.loop-row-preserved
 loop-row-preserved c =

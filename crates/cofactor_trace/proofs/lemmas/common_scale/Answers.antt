@@ -37,30 +37,6 @@ loop-lemma-preserved c =
     let value = multiple_next lemmas i x c.loop-lemma-test.true c.lemma-item.is goal_made old new new_is ∙ value_so_far in
     record { products = search (rules, products); value = search (rules, value); positive = search rules; in_range = search rules }
 
-pub loop-lemma-init : goal.loop-lemma-init
-loop-lemma-init c = search rules
-
-pub raise-requires-clause-common_in : goal.raise-requires-clause-common_in
-raise-requires-clause-common_in c = search rules
-
-pub raise-requires-clause-common_positive : goal.raise-requires-clause-common_positive
-raise-requires-clause-common_positive c = search rules
-
-pub loop-lemma-smaller : goal.loop-lemma-smaller
-loop-lemma-smaller c = search rules
-
-pub raise-requires-2-clause-common_in : goal.raise-requires-2-clause-common_in
-raise-requires-2-clause-common_in c = search rules
-
-pub raise-requires-2-clause-common_positive : goal.raise-requires-2-clause-common_positive
-raise-requires-2-clause-common_positive c = search rules
-
-pub raise-requires-2-clause-scale_in : goal.raise-requires-2-clause-scale_in
-raise-requires-2-clause-scale_in c = search rules
-
-pub raise-requires-2-clause-scale_positive : goal.raise-requires-2-clause-scale_positive
-raise-requires-2-clause-scale_positive c = search rules
-
 pub returns-in_err-common : goal.returns-in_err-common
 returns-in_err-common c =
     let lemmas = c.args.lemmas.now in

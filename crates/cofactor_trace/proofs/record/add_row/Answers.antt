@@ -1,16 +1,14 @@
-use Rattle.std.proofs.Common.{rules, ◌≡◌, ℤ, List, ◌*ℤ◌, ◌∷◌, [], map, None, Err, OnOk, MatchResult, to_z, of_z, sym, ap, ap₂, subst, ◌∙◌}
+use Rattle.std.proofs.Common.{rules, ◌≡◌, ℤ, List, ◌*ℤ◌, ◌∷◌, [], map, None, Err, MatchResult, to_z, of_z, sym, ap, ap₂, subst, ◌∙◌}
 use mir.Syntax.{w128}
 use Rattle.std.specs.Option.{option_map}
 use Rattle.coef_int.specs.Range.{IsCoefficient}
 use Rattle.coef_int.specs.Operations.{product_of}
-use Rattle.nc_polynomial.proofs.Chains.{first-fits}
+use Rattle.nc_polynomial.proofs.Chains.{first-fits, first-fails}
 use Rattle.traced_rows.specs.declared.certificate.CertRow.{CertRow}
 use Rattle.cofactor_trace.specs.declared.fault.ExpandFault.TheVariants as fault
-use Rattle.cofactor_trace.specs.Expansion.{share, joined_row, overflow_in}
+use Rattle.cofactor_trace.specs.Expansion.{share, overflow_in}
 use Rattle.cofactor_trace.specs.Faults.{IsFirst}
 use Rattle.cofactor_trace.specs.Needed.{known_from}
-use Rattle.cofactor_trace.specs.Table.{with_rows}
-use Rattle.cofactor_trace.proofs.Operations.{first-fails}
 use Rattle.cofactor_trace.proofs.record.add_row.Goals as goal
 
 pub returns-in_err-factor-clause-exact : goal.returns-in_err-factor-clause-exact
@@ -54,74 +52,3 @@ returns-in-Rule-clause-exact c =
     (ap₂ (λ z rows. overflow_in (products z rows)) factor_is inner_is
     ∙ ap (option_map fault.Overflow) (sym (first-fits (product_of row.coef k) (products (row.coef *ℤ k) (known row.from).rows) fits)))
     exact
-
-pub returns-in-Generator-clause-added : goal.returns-in-Generator-clause-added
-returns-in-Generator-clause-added c =
-    let known = known_from c.args.expansions.now.entries in
-    let row = c.args.row.now in
-    let entries = c.args.sums.now.entries in
-    let factor_is : c.in_ok-factor.factor ≡ row.coef *ℤ share known c.args.common row = search rules in
-    let inner_is : c.itself.result ∷ [] ≡ (known row.from).rows = ap (λ r. r ∷ []) c.itself.ensures ∙ ap (λ o. (known o).rows) (sym c.in-Generator.is) in
-    let added : OnOk c.add_joined.result (c.add_joined.new.sums.entries ≡ with_rows entries (map (joined_row c.in_ok-factor.factor row) (c.itself.result ∷ []))) = search rules in
-    subst (λ es. OnOk c.add_joined.result (c.add_joined.new.sums.entries ≡ es))
-    (ap₂ (λ z rows. with_rows entries (map (joined_row z row) rows)) factor_is inner_is) added
-
-pub returns-in-Rule-clause-added : goal.returns-in-Rule-clause-added
-returns-in-Rule-clause-added c =
-    let known = known_from c.args.expansions.now.entries in
-    let row = c.args.row.now in
-    let entries = c.args.sums.now.entries in
-    let inner = c.rows_of_rule.result.now in
-    let factor_is : c.in_ok-factor.factor ≡ row.coef *ℤ share known c.args.common row = search rules in
-    let inner_is : inner ≡ (known row.from).rows = c.rows_of_rule.ensures.exact ∙ ap (λ o. (known o).rows) (sym c.in-Rule.is) in
-    let added : OnOk c.add_joined-in-Rule.result (c.add_joined-in-Rule.new.sums.entries ≡ with_rows entries (map (joined_row c.in_ok-factor.factor row) inner)) = search rules in
-    subst (λ es. OnOk c.add_joined-in-Rule.result (c.add_joined-in-Rule.new.sums.entries ≡ es))
-    (ap₂ (λ z rows. with_rows entries (map (joined_row z row) rows)) factor_is inner_is) added
-
-pub denominator_of-requires : goal.denominator_of-requires
-denominator_of-requires c = search rules
-
-pub quotient-share-requires-clause-value_in : goal.quotient-share-requires-clause-value_in
-quotient-share-requires-clause-value_in c = search rules
-
-pub quotient-share-requires-clause-by_in : goal.quotient-share-requires-clause-by_in
-quotient-share-requires-clause-by_in c = search rules
-
-pub times-requires-clause-left_in : goal.times-requires-clause-left_in
-times-requires-clause-left_in c = search rules
-
-pub times-requires-clause-right_in : goal.times-requires-clause-right_in
-times-requires-clause-right_in c = search rules
-
-pub returns-in_err-factor-clause-sums_in : goal.returns-in_err-factor-clause-sums_in
-returns-in_err-factor-clause-sums_in c = search rules
-
-pub returns-in_err-factor-clause-added : goal.returns-in_err-factor-clause-added
-returns-in_err-factor-clause-added c = search rules
-
-pub add_joined-requires-clause-factor_in : goal.add_joined-requires-clause-factor_in
-add_joined-requires-clause-factor_in c = search rules
-
-pub add_joined-requires-clause-inner_in : goal.add_joined-requires-clause-inner_in
-add_joined-requires-clause-inner_in c = search rules
-
-pub add_joined-requires-clause-sums_in : goal.add_joined-requires-clause-sums_in
-add_joined-requires-clause-sums_in c = search rules
-
-pub rows_of_rule-requires : goal.rows_of_rule-requires
-rows_of_rule-requires c = search rules
-
-pub add_joined-requires-in-Rule-clause-factor_in : goal.add_joined-requires-in-Rule-clause-factor_in
-add_joined-requires-in-Rule-clause-factor_in c = search rules
-
-pub add_joined-requires-in-Rule-clause-inner_in : goal.add_joined-requires-in-Rule-clause-inner_in
-add_joined-requires-in-Rule-clause-inner_in c = search rules
-
-pub add_joined-requires-in-Rule-clause-sums_in : goal.add_joined-requires-in-Rule-clause-sums_in
-add_joined-requires-in-Rule-clause-sums_in c = search rules
-
-pub returns-in-Generator-clause-sums_in : goal.returns-in-Generator-clause-sums_in
-returns-in-Generator-clause-sums_in c = search rules
-
-pub returns-in-Rule-clause-sums_in : goal.returns-in-Rule-clause-sums_in
-returns-in-Rule-clause-sums_in c = search rules

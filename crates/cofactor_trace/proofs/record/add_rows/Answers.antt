@@ -9,7 +9,7 @@ use Rattle.cofactor_trace.specs.Faults.{IsFirst}
 use Rattle.cofactor_trace.specs.Needed.{known_from}
 use Rattle.cofactor_trace.specs.Table.{with_row, with_rows}
 use Rattle.cofactor_trace.proofs.Operations.{first-behind}
-use Rattle.cofactor_trace.proofs.Halts.{is_first-append, overflow-none}
+use Rattle.cofactor_trace.proofs.Halts.{is_first-append, unmapped-none}
 use Rattle.cofactor_trace.proofs.record.add_rows.Goals as goal
 
 pub returns-in_err-add_row-clause-exact : goal.returns-in_err-add_row-clause-exact
@@ -45,6 +45,6 @@ loop-row-preserved c =
     ap (λ es. with_rows es rest) put ∙ sym (fold-append with_row old (joined_rows known common row) rest)
     ∙ ap (λ l. with_rows old (joined known common l)) (sym next) ∙ so_far in
     let products : first_overflow (joined_products known common (drop (i + 1) rows)) ≡ first_overflow (joined_products known common rows) =
-    sym (first-behind (row_products known common row) (joined_products known common (drop (i + 1) rows)) (overflow-none (row_products known common row) fits))
+    sym (first-behind (row_products known common row) (joined_products known common (drop (i + 1) rows)) (unmapped-none fault.Overflow (first_overflow (row_products known common row)) fits))
     ∙ ap (λ l. first_overflow (joined_products known common l)) (sym next) ∙ products_so_far in
     record { sums_in = search rules; added = search (rules, added); products = search (rules, products) }

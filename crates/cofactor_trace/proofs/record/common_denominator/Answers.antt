@@ -12,12 +12,6 @@ use Rattle.cofactor_trace.specs.Needed.{known_from}
 use Rattle.cofactor_trace.proofs.Operations.{first-before}
 use Rattle.cofactor_trace.proofs.record.common_denominator.Goals as goal
 
-pub raise-requires-clause-common_in : goal.raise-requires-clause-common_in
-raise-requires-clause-common_in c = search rules
-
-pub raise-requires-clause-scale_in : goal.raise-requires-clause-scale_in
-raise-requires-clause-scale_in c = search rules
-
 pub returns-in_err-common-clause-exact : goal.returns-in_err-common-clause-exact
 returns-in_err-common-clause-exact c =
     let known = known_from c.args.expansions.now.entries in

@@ -1,6 +1,5 @@
 use Rattle.std.proofs.Common.{rules, ◌≡◌, ◌*ℤ◌, ◌<ℤ◌, [], pos, to_z, of_z, None, Err, Ok, sym, ap, subst, ◌∙◌}
 use mir.Syntax.{w128}
-use Rattle.std.specs.List.{All}
 use Rattle.coef_int.specs.Range.{IsCoefficient}
 use Rattle.coef_int.specs.Operations.{product_of}
 use Rattle.cofactor_trace.specs.declared.fault.ExpandFault.TheVariants as fault
@@ -52,24 +51,12 @@ adds_up c begun kept =
       entries_are = subst (λ z. c.in_ok-sums.sums.entries ≡ with_rows [] (joined known z rows)) is c.in_ok-sums.ensures.added;
     }
 
--- what stopped a step is returned
-stopped_common : (c : After-from_residual) → c.from_residual.result ≡ Err c.in_err-common.field-0.0
-stopped_common c = search rules
-
-stopped_check_limits : (c : After-from_residual-in_err-check_limits) → c.from_residual-in_err-check_limits.result ≡ Err c.in_err-check_limits.field-0.0
-stopped_check_limits c = search rules
-
-stopped_sums : (c : After-from_residual-in_err-sums) → c.from_residual-in_err-sums.result ≡ Err c.in_err-sums.field-0.0
-stopped_sums c = search rules
-
-stopped_gathered : (c : After-from_residual-in_err-gathered) → c.from_residual-in_err-gathered.result ≡ Err c.in_err-gathered.field-0.0
-stopped_gathered c = search rules
-
 pub returns-in_err-common-clause-exact : goal.returns-in_err-common-clause-exact
 returns-in_err-common-clause-exact c =
     let known = known_from c.args.expansions.now.entries in
     let e = c.in_err-common.field-0.0 in
-    rw (stopped_common c) (at_common known c.args.made.now c.as_slice-rows.result.now e c.as_slice-rows.ensures c.in_err-common.ensures.exact)
+    let back : c.from_residual.result ≡ Err e = search rules in
+    rw back (at_common known c.args.made.now c.as_slice-rows.result.now e c.as_slice-rows.ensures c.in_err-common.ensures.exact)
 
 pub returns-in_err-denominator-clause-exact : goal.returns-in_err-denominator-clause-exact
 returns-in_err-denominator-clause-exact c =
@@ -89,7 +76,8 @@ returns-in_err-check_limits-clause-exact c =
     let rows = c.as_slice-rows.result.now in
     let e = c.in_err-check_limits.field-0.0 in
     let stopped = subst (λ z. IsFirst (limit_fault (joined known z rows)) e) (same_common passed.In_ok-denominator) c.in_err-check_limits.ensures in
-    rw (stopped_check_limits c) (at_limits known c.args.made.now rows c.in_ok-common.common e (begins passed.In_ok-denominator) stopped)
+    let back : c.from_residual-in_err-check_limits.result ≡ Err e = search rules in
+    rw back (at_limits known c.args.made.now rows c.in_ok-common.common e (begins passed.In_ok-denominator) stopped)
 
 pub returns-in_err-sums-clause-exact : goal.returns-in_err-sums-clause-exact
 returns-in_err-sums-clause-exact c =
@@ -98,7 +86,8 @@ returns-in_err-sums-clause-exact c =
     let rows = c.as_slice-rows.result.now in
     let e = c.in_err-sums.field-0.0 in
     let stopped = subst (λ z. IsFirst (overflow_in (joined_products known z rows)) e) (same_common passed.In_ok-denominator) c.in_err-sums.ensures.exact in
-    rw (stopped_sums c) (at_rows known c.args.made.now rows c.in_ok-common.common e (begins passed.In_ok-denominator) (short passed.In_ok-check_limits) stopped)
+    let back : c.from_residual-in_err-sums.result ≡ Err e = search rules in
+    rw back (at_rows known c.args.made.now rows c.in_ok-common.common e (begins passed.In_ok-denominator) (short passed.In_ok-check_limits) stopped)
 
 pub returns-in_err-gathered-clause-exact : goal.returns-in_err-gathered-clause-exact
 returns-in_err-gathered-clause-exact c =
@@ -107,7 +96,8 @@ returns-in_err-gathered-clause-exact c =
     let entries = c.in_ok-sums.sums.entries in
     let e = c.in_err-gathered.field-0.0 in
     let stopped : IsOverflowOf (rows_in entries) e = c.in_err-gathered.ensures.exact in
-    rw (stopped_gathered c) (at_gathering (known_from c.args.expansions.now.entries) c.args.made.now c.as_slice-rows.result.now c.in_ok-common.common entries e added stopped)
+    let back : c.from_residual-in_err-gathered.result ≡ Err e = search rules in
+    rw back (at_gathering (known_from c.args.expansions.now.entries) c.args.made.now c.as_slice-rows.result.now c.in_ok-common.common entries e added stopped)
 
 pub primitive-requires-clause-positive : goal.primitive-requires-clause-positive
 primitive-requires-clause-positive c =
@@ -123,57 +113,3 @@ returns-clause-exact c =
     let same : c.in_ok-primitive.field-0 ≡ primitive (c.args.made.now.scale *ℤ c.in_ok-common.common) gathered = search rules in
     at_end (known_from c.args.expansions.now.entries) c.args.made.now c.as_slice-rows.result.now c.in_ok-common.common c.in_ok-sums.sums.entries gathered added ends
     ∙ ap Ok (sym same)
-
-pub common_denominator-requires : goal.common_denominator-requires
-common_denominator-requires c = c.requires.ranged
-
-pub returns-in_err-common-clause-ranged : goal.returns-in_err-common-clause-ranged
-returns-in_err-common-clause-ranged c = rw (stopped_common c) tt
-
-pub times-requires-clause-left_in : goal.times-requires-clause-left_in
-times-requires-clause-left_in c = subst IsCoefficient (sym (same_number c.args.made.now.scale c.requires.scale_in)) c.requires.scale_in
-
-pub times-requires-clause-right_in : goal.times-requires-clause-right_in
-times-requires-clause-right_in c = subst IsCoefficient (sym (same_number c.in_ok-common.common c.in_ok-common.ensures.in_range)) c.in_ok-common.ensures.in_range
-
-pub returns-in_err-denominator-clause-ranged : goal.returns-in_err-denominator-clause-ranged
-returns-in_err-denominator-clause-ranged c = search rules
-
-pub check_limits-requires : goal.check_limits-requires
-check_limits-requires c = c.requires.ranged
-
-pub returns-in_err-check_limits-clause-ranged : goal.returns-in_err-check_limits-clause-ranged
-returns-in_err-check_limits-clause-ranged c = rw (stopped_check_limits c) tt
-
-pub add_rows-requires-clause-ranged : goal.add_rows-requires-clause-ranged
-add_rows-requires-clause-ranged c = c.requires.ranged
-
-pub add_rows-requires-clause-common_in : goal.add_rows-requires-clause-common_in
-add_rows-requires-clause-common_in c = subst IsCoefficient (sym (same_number c.in_ok-common.common c.in_ok-common.ensures.in_range)) c.in_ok-common.ensures.in_range
-
-pub add_rows-requires-clause-coefficients_in : goal.add_rows-requires-clause-coefficients_in
-add_rows-requires-clause-coefficients_in c = subst (All (λ r. IsCoefficient r.coef)) (sym c.as_slice-rows.ensures) c.requires.coefficients_in
-
-pub returns-in_err-sums-clause-ranged : goal.returns-in_err-sums-clause-ranged
-returns-in_err-sums-clause-ranged c = rw (stopped_sums c) tt
-
-pub nonzero_rows-requires : goal.nonzero_rows-requires
-nonzero_rows-requires c = c.in_ok-sums.ensures.sums_in
-
-pub returns-in_err-gathered-clause-ranged : goal.returns-in_err-gathered-clause-ranged
-returns-in_err-gathered-clause-ranged c = rw (stopped_gathered c) tt
-
-pub primitive-requires-clause-denominator_in : goal.primitive-requires-clause-denominator_in
-primitive-requires-clause-denominator_in c = search rules
-
-pub primitive-requires-clause-coefficients_in : goal.primitive-requires-clause-coefficients_in
-primitive-requires-clause-coefficients_in c = c.in_ok-gathered.ensures.in_range
-
-pub returns-in_err-primitive-clause-ranged : goal.returns-in_err-primitive-clause-ranged
-returns-in_err-primitive-clause-ranged c = search rules
-
-pub returns-in_err-primitive-clause-exact : goal.returns-in_err-primitive-clause-exact
-returns-in_err-primitive-clause-exact c = search rules
-
-pub returns-clause-ranged : goal.returns-clause-ranged
-returns-clause-ranged c = c.in_ok-primitive.ensures.ranged

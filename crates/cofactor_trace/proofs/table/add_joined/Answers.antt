@@ -1,4 +1,4 @@
-use Rattle.std.proofs.Common.{rules, ◌≡◌, ◌+◌, ◌++◌, ◌*ℤ◌, map, drop, Err, refl, sym, ap, subst, ◌∙◌, arith}
+use Rattle.std.proofs.Common.{rules, ◌≡◌, ◌+◌, ◌++◌, ◌*ℤ◌, map, drop, Err, sym, ap, subst, ◌∙◌, arith}
 use Rattle.std.proofs.lemmas.List.{drop_all}
 use Rattle.std.specs.Option.{option_map}
 use Rattle.coef_int.specs.Range.{IsCoefficient}
@@ -61,63 +61,3 @@ returns-clause-exact c =
     let f = λ (s : CertRow). product_of c.args.factor s.coef in
     let kept : first_overflow (map f (drop c.loop-row.row-index c.args.inner.now)) ≡ first_overflow (map f c.args.inner.now) = subst (λ z. first_overflow (map (λ (s : CertRow). product_of z s.coef) (drop c.loop-row.row-index c.args.inner.now)) ≡ first_overflow (map (λ (s : CertRow). product_of z s.coef) c.args.inner.now)) (same_number c.args.factor c.requires.factor_in) c.loop-row.invariant.products in
     ap (option_map fault.Overflow) (first_none f c.args.inner.now c.loop-row.row-index kept (omega arith))
-
-pub loop-row-init : goal.loop-row-init
-loop-row-init c = record { sums_in = c.requires.sums_in; added = refl; products = refl }
-
-pub times-requires-clause-left_in : goal.times-requires-clause-left_in
-times-requires-clause-left_in c = subst IsCoefficient (sym (same_number c.args.factor c.requires.factor_in)) c.requires.factor_in
-
-pub times-requires-clause-right_in : goal.times-requires-clause-right_in
-times-requires-clause-right_in c = search rules
-
-pub returns-in_err-coef-clause-sums_in : goal.returns-in_err-coef-clause-sums_in
-returns-in_err-coef-clause-sums_in c = search rules
-
-pub returns-in_err-coef-clause-added : goal.returns-in_err-coef-clause-added
-returns-in_err-coef-clause-added c = search rules
-
-pub concat-requires : goal.concat-requires
-concat-requires c = search rules
-
-pub returns-in_err-concat-clause-sums_in : goal.returns-in_err-concat-clause-sums_in
-returns-in_err-concat-clause-sums_in c = search rules
-
-pub returns-in_err-concat-clause-added : goal.returns-in_err-concat-clause-added
-returns-in_err-concat-clause-added c = search rules
-
-pub returns-in_err-concat-clause-exact : goal.returns-in_err-concat-clause-exact
-returns-in_err-concat-clause-exact c = search rules
-
-pub concat-requires-in-loop-row : goal.concat-requires-in-loop-row
-concat-requires-in-loop-row c = search rules
-
-pub returns-in_err-concat-2-clause-sums_in : goal.returns-in_err-concat-2-clause-sums_in
-returns-in_err-concat-2-clause-sums_in c = search rules
-
-pub returns-in_err-concat-2-clause-added : goal.returns-in_err-concat-2-clause-added
-returns-in_err-concat-2-clause-added c = search rules
-
-pub returns-in_err-concat-2-clause-exact : goal.returns-in_err-concat-2-clause-exact
-returns-in_err-concat-2-clause-exact c = search rules
-
-pub add-requires-clause-coef_in : goal.add-requires-clause-coef_in
-add-requires-clause-coef_in c = search rules
-
-pub add-requires-clause-sums_in : goal.add-requires-clause-sums_in
-add-requires-clause-sums_in c = c.loop-row.invariant.sums_in
-
-pub returns-in_err-add-clause-sums_in : goal.returns-in_err-add-clause-sums_in
-returns-in_err-add-clause-sums_in c = search rules
-
-pub returns-in_err-add-clause-added : goal.returns-in_err-add-clause-added
-returns-in_err-add-clause-added c = search rules
-
-pub returns-in_err-add-clause-exact : goal.returns-in_err-add-clause-exact
-returns-in_err-add-clause-exact c = search rules
-
-pub loop-row-smaller : goal.loop-row-smaller
-loop-row-smaller c = search rules
-
-pub returns-clause-sums_in : goal.returns-clause-sums_in
-returns-clause-sums_in c = c.loop-row.invariant.sums_in

@@ -52,9 +52,6 @@ loop-factor-preserved c =
       canonical = subst IsCanonical (sym pushed) (canonical-step y c.requires.nonzero front t more sum canonical made so_far fits short);
     }
 
-pub invariant_of-result : goal.invariant_of-result
-invariant_of-result c = record { canonical = c.loop-factor.invariant.canonical }
-
 pub returns : goal.returns
 returns c =
     let p = c.args.left.now.terms in

@@ -37,15 +37,6 @@ returns-else-total-eq0-clause-added c =
     let total : c.in_ok-total-in-Occupied.total ≡ coefficient_in c.args.table.now c.args.word +ℤ c.args.coefficient = search rules in
     adds_from_update c.args.table.now _ c.args.word (Some c.in_ok-total-in-Occupied.total) (search rules) c.args.coefficient total
 
-pub returns-in-Vacant-clause-ordered : goal.returns-in-Vacant-clause-ordered
-returns-in-Vacant-clause-ordered c = search rules
-
-pub returns-then-total-eq0-clause-ordered : goal.returns-then-total-eq0-clause-ordered
-returns-then-total-eq0-clause-ordered c = search rules
-
-pub returns-else-total-eq0-clause-ordered : goal.returns-else-total-eq0-clause-ordered
-returns-else-total-eq0-clause-ordered c = search rules
-
 pub returns-then-coefficient-eq0-clause-added : goal.returns-then-coefficient-eq0-clause-added
 returns-then-coefficient-eq0-clause-added c =
     let zero : c.args.coefficient ≡ pos 0 = search rules in

@@ -50,11 +50,6 @@ returns-in_err-product-clause-exact c =
     sym kept ∙ ap (λ l. join out (multiply_from l by)) steps ∙ one-fails o (multiplications rest by) out (multiplied (t ∷ rest) by) fails in
     rw given why
 
-pub returns-in_err-push_nonzero-clause-exact : goal.returns-in_err-push_nonzero-clause-exact
-returns-in_err-push_nonzero-clause-exact c =
-    let given : c.from_residual-in_err-push_nonzero.result ≡ Err (fault.Memory c.in_err-push_nonzero.field-0.0) = search rules in
-    rw given tt
-
 pub loop-coefficient-preserved : goal.loop-coefficient-preserved
 loop-coefficient-preserved c =
     let at = c.loop-coefficient in

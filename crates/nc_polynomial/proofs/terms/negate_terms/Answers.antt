@@ -1,5 +1,4 @@
-use Rattle.std.proofs.Common.{rules, ◌≡◌, ◌<◌, neg_ℤ, get_or, length, sym, subst}
-use Rattle.std.specs.List.{All}
+use Rattle.std.proofs.Common.{rules, ◌≡◌, ◌<◌, neg_ℤ, get_or, length}
 use Rattle.std.proofs.lemmas.List.Edits.{map_over_more}
 use Rattle.std.proofs.lemmas.List.Elements.{All-set}
 use Rattle.coef_int.specs.Range.{IsCoefficient}
@@ -19,8 +18,3 @@ loop-term-preserved c =
       so_far = search (rules, more);
       in_range = All-set (λ (u : Term). IsCoefficient u.0) ys i _ (search rules) c.loop-term.invariant.in_range;
     }
-
-pub loop-term-init : goal.loop-term-init
-loop-term-init c =
-    let first : c.deref_mut-term-items.result.now ≡ c.args.terms = search rules in
-    record { so_far = first; in_range = subst (All (λ (u : Term). IsCoefficient u.0)) (sym first) c.requires }

@@ -3,7 +3,6 @@ use Rattle.std.proofs.lemmas.List.{get_or_read}
 use Rattle.rule_index.specs.Prefixes.{word_at}
 use Rattle.rule_index.specs.Automaton.{IsLongest, words_of}
 use Rattle.rule_index.proofs.Reading.{link-step}
-use Rattle.rule_index.proofs.SameTree.{tree_of_same}
 use Rattle.rule_index.proofs.insertion.link_of.Goals as goal
 
 pub returns : goal.returns
@@ -19,6 +18,3 @@ returns c =
     let step : IsLongest nodes (word_at (words_of nodes) c.index.result.now ++ letter ∷ []) next =
     subst (λ ns. IsLongest ns (word_at (words_of ns) c.index.result.now ++ letter ∷ []) next) c.deref.ensures.value c.step.ensures in
     link-step nodes spelled links linked at letter next (omega arith) c.requires.inside (subst (λ l. IsLongest nodes (word_at (words_of nodes) l ++ letter ∷ []) next) link step)
-
-pub step-requires-clause-tree : goal.step-requires-clause-tree
-step-requires-clause-tree c = tree_of_same _ _ _ _ _ _ _ _ c.deref.ensures.value c.deref-2.ensures.value c.deref-3.ensures.value c.deref-4.ensures.value c.requires.tree

@@ -1,7 +1,5 @@
-use Rattle.std.proofs.Common.{rules, ◌≡◌, ◌<◌, ◌<ℤ◌, pos, length, slice_get, Some, ap, ◌∙◌}
-use Rattle.std.specs.Option.{option_map}
+use Rattle.std.proofs.Common.{rules, ◌≡◌, ◌<◌, ◌<ℤ◌, pos, length, slice_get, Some}
 use Rattle.rule_reduce.specs.Leading.{leading_term}
-use Rattle.rule_reduce.specs.RuleLists.{rule_from}
 use Rattle.rule_reduce.proofs.MadeRules.{has_terms, rule_is}
 use Rattle.rule_reduce.proofs.Numbers.{all_at}
 use Rattle.rule_reduce.proofs.making.make_rule.Goals as goal
@@ -20,18 +18,6 @@ returns-clause-rule g c =
     let best : leading_term compare poly.terms ≡ slice_get poly.terms n = search rules in
     let here : slice_get poly.terms n ≡ Some (leading, lead) = search rules in
     let whole = rule_is (g.O.WordOrder.letters c.args.order.now) compare poly n leading lead best here c.requires.positive c.requires.nonempty c.requires.over in
-    search (rules, whole)
-
-pub returns-clause-exact : goal.returns-clause-exact
-returns-clause-exact g c =
-    let compare = g.O.WordOrder.compare c.args.order.now in
-    let poly = c.args.poly in
-    let n = c.lead_place-place.result in
-    let leading = c.term-leading.result.0 in
-    let lead = c.in_ok-lead.lead in
-    let best : leading_term compare poly.terms ≡ slice_get poly.terms n = search rules in
-    let here : slice_get poly.terms n ≡ Some (leading, lead) = search rules in
-    let whole : rule_from compare poly ≡ Some (record { leading = leading; lead = lead; poly = poly }) = ap (option_map (λ t. record { leading = t.0; lead = t.1; poly = poly })) (best ∙ here) in
     search (rules, whole)
 
 pub returns-clause-lead : goal.returns-clause-lead

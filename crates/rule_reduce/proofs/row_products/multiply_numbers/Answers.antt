@@ -1,5 +1,4 @@
-use Rattle.std.proofs.Common.{rules, ◌≡◌, ◌<◌, ◌≤◌, ◌++◌, ◌*ℤ◌, ℤ, List, pos, map, take, drop, get_or, length, Some, Err, refl, sym, ap, ◌∙◌, subst, arith}
-use Rattle.std.specs.List.{All}
+use Rattle.std.proofs.Common.{rules, ◌≡◌, ◌<◌, ◌≤◌, ◌++◌, ◌*ℤ◌, ℤ, List, pos, map, take, drop, get_or, length, Some, ap, ◌∙◌, arith}
 use Rattle.std.proofs.lemmas.List.{drop_all, get_or_default}
 use Rattle.std.proofs.lemmas.List.Elements.{All-set}
 use Rattle.coef_int.specs.Range.{IsCoefficient}
@@ -44,11 +43,6 @@ loop-number-preserved c =
       none_yet = search (rules, none);
     }
 
-pub loop-number-init : goal.loop-number-init
-loop-number-init c =
-    let first : c.deref_mut-number-items.result.now ≡ c.args.numbers = search rules in
-    record { so_far = first; in_range = subst (All IsCoefficient) (sym first) c.requires.in_range; none_yet = refl }
-
 pub returns-clause-exact : goal.returns-clause-exact
 returns-clause-exact c =
     let xs = c.args.numbers in
@@ -58,13 +52,3 @@ returns-clause-exact c =
     let most : length c.loop-number.number-items ≤ i = omega (arith, c.loop-number-test.false) in
     let all = all_written (λ z. z *ℤ c.args.by) xs c.loop-number.number-items i so_far most in
     none_yet ∙ ap (λ (rows : List ℤ). first_overflow (products_by c.args.by rows)) (drop_all i xs all)
-
-pub returns-in_err-number-clause-in_range : goal.returns-in_err-number-clause-in_range
-returns-in_err-number-clause-in_range c =
-    let back : c.from_residual.result ≡ Err c.in_err-number.field-0.0 = search rules in
-    rw back tt
-
-pub returns-in_err-number-clause-value : goal.returns-in_err-number-clause-value
-returns-in_err-number-clause-value c =
-    let back : c.from_residual.result ≡ Err c.in_err-number.field-0.0 = search rules in
-    rw back tt

@@ -1,5 +1,4 @@
-use Rattle.std.proofs.Common.{rules, ◌≡◌, ◌<◌, ◌≤◌, ◌++◌, ◌*ℤ◌, List, map, take, drop, get_or, length, Some, Err, refl, sym, ap, ◌∙◌, subst, arith}
-use Rattle.std.specs.List.{All}
+use Rattle.std.proofs.Common.{rules, ◌≡◌, ◌<◌, ◌≤◌, ◌++◌, ◌*ℤ◌, List, map, take, drop, get_or, length, Some, ap, ◌∙◌, arith}
 use Rattle.std.proofs.lemmas.List.{drop_all}
 use Rattle.std.proofs.lemmas.List.Elements.{All-set}
 use Rattle.coef_int.specs.Range.{IsCoefficient}
@@ -45,11 +44,6 @@ loop-row-preserved c =
       none_yet = search (rules, none);
     }
 
-pub loop-row-init : goal.loop-row-init
-loop-row-init c =
-    let first : c.deref_mut-row-items.result.now ≡ c.args.rows = search rules in
-    record { so_far = first; in_range = subst (All (λ (r : Row). IsCoefficient r.coef)) (sym first) c.requires.in_range; none_yet = refl }
-
 pub returns-clause-exact : goal.returns-clause-exact
 returns-clause-exact c =
     let xs = c.args.rows in
@@ -59,13 +53,3 @@ returns-clause-exact c =
     let most : length c.loop-row.row-items ≤ i = omega (arith, c.loop-row-test.false) in
     let all = all_written (multiplied_row c.args.by) xs c.loop-row.row-items i so_far most in
     none_yet ∙ ap (λ (rows : List Row). first_overflow (row_operations rows c.args.by)) (drop_all i xs all)
-
-pub returns-in_err-row-clause-in_range : goal.returns-in_err-row-clause-in_range
-returns-in_err-row-clause-in_range c =
-    let back : c.from_residual.result ≡ Err c.in_err-row.field-0.0 = search rules in
-    rw back tt
-
-pub returns-in_err-row-clause-value : goal.returns-in_err-row-clause-value
-returns-in_err-row-clause-value c =
-    let back : c.from_residual.result ≡ Err c.in_err-row.field-0.0 = search rules in
-    rw back tt

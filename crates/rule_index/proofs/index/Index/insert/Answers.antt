@@ -17,12 +17,6 @@ same_letters tree before same h =
     (subst (λ hs. IsLettered before.nodes.items (length before.nodes.items) hs tree.letter_nexts.items) (sym same.letter_heads)
     (subst (λ xs. IsLettered before.nodes.items (length before.nodes.items) before.letter_heads.items xs) (sym same.letter_nexts) h))
 
-pub starts-requires-clause-lettered : goal.starts-requires-clause-lettered
-starts-requires-clause-lettered c = same_letters c.reserve.new.tree c.self.inside.tree c.reserve.ensures.same c.self.inside.lettered
-
-pub insert-requires-clause-lettered : goal.insert-requires-clause-lettered
-insert-requires-clause-lettered c = same_letters c.reserve.new.tree c.self.inside.tree c.reserve.ensures.same c.self.inside.lettered
-
 pub insert-requires-clause-starts : goal.insert-requires-clause-starts
 insert-requires-clause-starts c =
     let nodes = c.reserve.new.tree.nodes.items in
@@ -87,6 +81,3 @@ invariant_of-self-inside c =
         ),
       ),
     )
-
-pub insert-requires-clause-tree : goal.insert-requires-clause-tree
-insert-requires-clause-tree c = c.reserve.ensures.tree

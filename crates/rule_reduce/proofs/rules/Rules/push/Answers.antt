@@ -1,32 +1,12 @@
-use Rattle.std.proofs.Common.{rules, ◌≡◌, ◌<◌, ◌+◌, ◌++◌, ℕ, [], ◌∷◌, List, Some, option_to_list, length, take, arith, sym, ap, ap₂, ◌∙◌, subst}
+use Rattle.std.proofs.Common.{rules, ◌≡◌, ◌<◌, ◌+◌, ◌++◌, ℕ, [], ◌∷◌, List, length, take, arith, sym, ap, ap₂, ◌∙◌, subst}
 use Rattle.std.specs.List.{All}
 use Rattle.std.proofs.Math.Seq.{take-append_seam}
 use Rattle.std.proofs.lemmas.List.{length-append}
 use Rattle.std.proofs.lemmas.List.Elements.{All-push}
 use Rattle.rule_reduce.specs.declared.rule.Rule.{Rule}
-use Rattle.rule_reduce.specs.RuleLists.{IsRule, entries_of, rule_from}
+use Rattle.rule_reduce.specs.RuleLists.{IsRule, entries_of}
 use Rattle.rule_reduce.proofs.Numbers.{entries_of-below, entries_from-push}
 use Rattle.rule_reduce.proofs.rules.Rules.push.Goals as goal
-
-pub make_rule-requires-clause-positive : goal.make_rule-requires-clause-positive
-make_rule-requires-clause-positive g c = c.requires.positive
-
-pub make_rule-requires-clause-nonempty : goal.make_rule-requires-clause-nonempty
-make_rule-requires-clause-nonempty g c = c.requires.nonempty
-
-pub make_rule-requires-clause-over : goal.make_rule-requires-clause-over
-make_rule-requires-clause-over g c = c.requires.over
-
-pub invariant_of-self : goal.invariant_of-self
-invariant_of-self g c =
-    let all = c.args.self.now.rules in
-    let Each = IsRule (g.O.WordOrder.letters c.args.self.now.order) (g.O.WordOrder.compare c.args.self.now.order) in
-    let same : c.push.new.self ≡ all = search rules in
-    record {
-      each = subst (All Each) (sym same) c.args.self.now.each;
-      indexed = c.args.self.now.indexed ∙ ap entries_of (sym same);
-      few = subst (λ (rs : List Rule). length rs < 4294967296) (sym same) c.args.self.now.few;
-    }
 
 pub insert-requires-clause-above : goal.insert-requires-clause-above
 insert-requires-clause-above g c =
@@ -70,11 +50,3 @@ invariant_of-self-in-Err g c =
       indexed = unchanged ∙ c.args.self.now.indexed ∙ ap entries_of (sym back);
       few = subst (λ (rs : List Rule). length rs < 4294967296) (sym back) c.args.self.now.few;
     }
-
-pub returns-in-Ok-clause-ok : goal.returns-in-Ok-clause-ok
-returns-in-Ok-clause-ok g c =
-    let all = c.args.self.now.rules in
-    let rule = c.in_ok-rule.rule in
-    let pushed : c.push.new.self ≡ all ++ rule ∷ [] = search rules in
-    let made : rule_from (g.O.WordOrder.compare c.args.self.now.order) c.args.poly ≡ Some rule = search rules in
-    pushed ∙ ap (λ o. all ++ option_to_list o) (sym made)

@@ -1,7 +1,6 @@
-use Rattle.std.proofs.Common.{rules, ◌≡◌, ℕ, Option, pos, ◌<ℤ◌, ◌<◌, ◌≤◌, ◌+◌, ◌-◌, suc, length, zero, List, [], Some, None, Err, Result, IfSome, arith, sym, ap, ◌∙◌, subst}
+use Rattle.std.proofs.Common.{rules, ◌≡◌, ℕ, Option, pos, ◌<◌, ◌≤◌, ◌+◌, ◌-◌, suc, length, zero, List, [], Some, None, Err, Result, IfSome, arith, sym, ap, ◌∙◌, subst}
 use Rattle.std.specs.List.{All}
 use Rattle.coef_int.specs.Range.{IsCoefficient}
-use Rattle.nc_polynomial.specs.Shape.{IsCanonical}
 use Rattle.definitions.specs.Poly.{Term}
 use Rattle.word_core.specs.Letters.{IsOver}
 use Rattle.word_orders.specs.Admissible.{Compare}
@@ -64,28 +63,8 @@ loop-init g c =
       };
     }
 
-pub take_step-requires-clause-leading_in : goal.take_step-requires-clause-leading_in
-take_step-requires-clause-leading_in g c =
-    subst (All (λ (f : Rule). IsCoefficient f.leading)) (sym c.as_slice.ensures) (λ k d inside. (c.args.self.now.each k d inside).in_range)
-
-pub take_step-requires-clause-positive : goal.take_step-requires-clause-positive
-take_step-requires-clause-positive g c =
-    subst (All (λ (f : Rule). pos 0 <ℤ f.leading)) (sym c.as_slice.ensures) (λ k d inside. (c.args.self.now.each k d inside).positive)
-
-pub choose-requires-clause-canonical : goal.choose-requires-clause-canonical
-choose-requires-clause-canonical g c = subst IsCanonical (sym c.as_slice-terms.ensures) c.loop.invariant.in_range.rest
-
-pub choose-requires-clause-over : goal.choose-requires-clause-over
-choose-requires-clause-over g c = subst (All (λ (t : Term). IsOver (g.O.WordOrder.letters c.args.self.now.order) t.1)) (sym c.as_slice-terms.ensures) c.loop.invariant.over
-
 pub choose-requires-clause-last_short : goal.choose-requires-clause-last_short
 choose-requires-clause-last_short g c = if_borrowed (λ w. length w ≤ measured_letters) c.as_ref.result c.loop.last c.as_ref.ensures.value c.loop.invariant.last_short
-
-pub choose-requires-2-clause-canonical : goal.choose-requires-2-clause-canonical
-choose-requires-2-clause-canonical g c = subst IsCanonical (sym c.as_slice-2.ensures) c.loop.invariant.in_range.rest
-
-pub choose-requires-2-clause-over : goal.choose-requires-2-clause-over
-choose-requires-2-clause-over g c = subst (All (λ (t : Term). IsOver (g.O.WordOrder.letters c.args.self.now.order) t.1)) (sym c.as_slice-2.ensures) c.loop.invariant.over
 
 pub choose-requires-2-clause-last_short : goal.choose-requires-2-clause-last_short
 choose-requires-2-clause-last_short g c = if_borrowed (λ w. length w ≤ measured_letters) c.as_ref-2.result c.loop.last c.as_ref-2.ensures.value c.loop.invariant.last_short
