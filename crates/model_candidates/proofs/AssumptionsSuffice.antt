@@ -32,7 +32,7 @@ use Rattle.model_checker.specs.Representations.{representation_of}
 use Rattle.model_checker.proofs.Arrows.{star_represents}
 use Rattle.model_candidates.specs.Candidates.{is_linear, is_solved, linear_generators, solved_count}
 use Rattle.model_candidates.specs.Plans.{linear_assumptions}
-use Rattle.model_candidates.proofs.AffineValues.{few_words}
+use Rattle.model_candidates.proofs.SolvedWords.{few_words, kept_first}
 
 -- linear polynomials
 same_truth : (b c : Bool) → (b ≡ true → c ≡ true) → (c ≡ true → b ≡ true) → b ≡ c
@@ -94,29 +94,14 @@ module _ (q : Quiver) (quiver : IsQuiver q) (solved : List Letter) where
           ap₂ ◌||◌ (star_moved a l.0) (star_moved a (star q l.0) ∙ ap (nat_eq a) (star_star_each q quiver l.0))
           ∙ or_turned (nat_eq a (star q l.0)) (nat_eq a l.0)
 
-  count_one : (a : ℕ) → solved_count q solved (a ∷ []) ≡ cond (is_solved q solved a) 1 0
-  count_one a = go (is_solved q solved a)
-    where
-      go : (b : Bool) → length (cond b (a ∷ []) []) ≡ cond b 1 0
-      go true = refl
-      go false = refl
-
-  count_first : (a : ℕ) (w : List ℕ) → solved_count q solved (a ∷ w) ≡ cond (is_solved q solved a) 1 0 + solved_count q solved w
-  count_first a w = go (is_solved q solved a)
-    where
-      go : (b : Bool) → length (cond b (a ∷ filter (is_solved q solved) w) (filter (is_solved q solved) w))
-          ≡ cond b 1 0 + solved_count q solved w
-      go true = omega arith
-      go false = omega arith
-
   count-adjoint_word : (w : List ℕ) → solved_count q solved (adjoint_word q w) ≡ solved_count q solved w
   count-adjoint_word [] = refl
   count-adjoint_word (a ∷ w) =
       let keep = is_solved q solved in
       let both = ap length (filter-append keep (adjoint_word q w) (star q a ∷ []))
       ∙ length-append (filter keep (adjoint_word q w)) (filter keep (star q a ∷ [])) in
-      let last = count_one (star q a) ∙ ap (λ b. cond b 1 0) (solved_adjoint a) in
-      omega (arith, both, last, count-adjoint_word w, count_first a w)
+      let last = kept_first keep (star q a) [] ∙ ap (λ b. cond b 1 0 + 0) (solved_adjoint a) in
+      omega (arith, both, last, count-adjoint_word w, kept_first keep a w)
 
   linear_from_adjoint : (p : List (ℤ × List ℕ)) → IsLinear (adjoint_poly q p) → IsLinear p
   linear_from_adjoint p linear w there =

@@ -12,7 +12,7 @@ use Rattle.model_candidates.specs.Unknowns.{solved_flags}
 use Rattle.model_candidates.proofs.DistinctEntries.{place_of_own}
 use Rattle.model_candidates.proofs.SolvedEntries.{IsAsDrawn}
 
-same_entry : (x y : Entry) → is_same_entry x y ≡ true → x.map ≡ y.map
+pub same_entry : (x y : Entry) → is_same_entry x y ≡ true → x.map ≡ y.map
 same_entry x y same = eqb-true x.map y.map (and_parts (nat_eq x.map y.map) (nat_eq x.row y.row && nat_eq x.column y.column) same).0
 
 not_set : (b : Bool) → not b ≡ true → b ≡ false
@@ -31,7 +31,7 @@ module _ (q : Quiver) (s : Shape) (maps : List Letter) where
   pub flag_of_each : length flags ≡ length (entries_of q s)
   flag_of_each = length-map (entries_of q s) (λ x. is_solved_map maps x.map)
 
-  flag_at : {place : ℕ} → place < length flags → get_or flags place false ≡ is_solved_map maps
+  pub flag_at : {place : ℕ} → place < length flags → get_or flags place false ≡ is_solved_map maps
       (get_or (entries_of q s) place (entry 0 0 0)).map
   flag_at {place} inside = get_or-map (λ x. is_solved_map maps x.map) (entries_of q s) place (entry 0 0 0) false
       (subst (λ n. place < n) flag_of_each inside)

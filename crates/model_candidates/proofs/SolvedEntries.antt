@@ -20,10 +20,19 @@ All-picked P (false ∷ flags) (x ∷ values) all = All-picked P flags values (A
 All-picked P (true ∷ flags) (x ∷ values) all = All-cons P x (picked flags values) (All-head P x values all)
     (All-picked P flags values (All-tail P x values all))
 
+-- how many entries are solved for before a place
+abbrev pub before : List Bool → ℕ → ℕ
+before flags place = set_count (take place flags)
+
 -- values that are as drawn where the flag isn't set
 abbrev pub IsAsDrawn : List Bool → List ℕ → List ℕ → Type 0
 IsAsDrawn flags drawn values = (place : ℕ) → place < length flags → get_or flags place false ≡ false
     → get_or values place 0 ≡ get_or drawn place 0
+
+-- and where it is set, these in their order
+abbrev pub AreChosen : List Bool → List ℕ → List ℕ → Type 0
+AreChosen flags chosen values = (place : ℕ) → place < length flags → get_or flags place false ≡ true
+    → get_or values place 0 ≡ get_or chosen (before flags place) 0
 
 -- they are the drawn ones, filled with their own
 pub filled-picked : (flags : List Bool) (drawn values : List ℕ) → length drawn ≡ length flags → length values ≡ length flags
@@ -51,10 +60,6 @@ filled_as_drawn (true ∷ flags) (d ∷ drawn) values zero inside unset = absurd
 filled_as_drawn (true ∷ flags) (d ∷ drawn) [] (suc place) inside unset = filled_as_drawn flags drawn [] place (omega (arith, inside)) unset
 filled_as_drawn (true ∷ flags) (d ∷ drawn) (x ∷ values) (suc place) inside unset = filled_as_drawn flags drawn values place
     (omega (arith, inside)) unset
-
--- how many entries are solved for before a place
-abbrev pub before : List Bool → ℕ → ℕ
-before flags place = set_count (take place flags)
 
 pub before_within : (flags : List Bool) (place : ℕ) → place < length flags → get_or flags place false ≡ true
     → before flags place < set_count flags

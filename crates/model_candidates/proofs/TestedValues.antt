@@ -21,7 +21,7 @@ use Rattle.model_checker.proofs.Values.{zero_from_value}
 use Rattle.model_candidates.specs.Candidates.{IsCandidate, IsGreedy, IsSolution, draws, is_exhaustive, model_by}
 use Rattle.model_candidates.specs.Plans.{AreEntryValues, linear_assumptions}
 use Rattle.model_candidates.specs.Residues.{residues}
-use Rattle.model_candidates.proofs.AssumptionEntries.{kept_one}
+use Rattle.model_candidates.proofs.AssumptionTerms.{kept_one}
 use Rattle.model_candidates.proofs.AssumptionsSuffice.{linear_assumptions_are_zero}
 
 -- the greedy values of draws

@@ -5,7 +5,8 @@ use Rattle.matrix_models.specs.Matrix.{entry_at}
 use Rattle.matrix_models.proofs.Congruences.{add_alike}
 use Rattle.model_candidates.specs.WordRows.{product_in, term_entry}
 use Rattle.model_candidates.proofs.SolvedTerms.{residue_below}
-use Rattle.model_candidates.proofs.ValueRows.{coefficient_at, path_at, paths_of, positive, sum_more, value_entry, whole_word, word_leads}
+use Rattle.model_candidates.proofs.GivenValues.{given_of, positive}
+use Rattle.model_candidates.proofs.ValueRows.{coefficient_at, path_at, paths_of, sum_more, value_entry, whole_word, word_leads}
 use Rattle.model_candidates.proofs.value_rows.row_sums.Goals as goal
 
 pub word_row-product-requires-clause-leads : goal.word_row-product-requires-clause-leads
@@ -15,8 +16,8 @@ word_row-product-requires-clause-leads c =
     let u = c.args.ends.source.0 in
     let v = c.args.ends.target.0 in
     let w = c.term.result.1.now in
-    word_leads x c.requires.given u v c.requires.source c.requires.target w c.len.ensures.exact
-    (path_at x c.requires.given u v c.requires.source c.requires.target p.terms c.loop-place.place (c.term.result.0, w) c.term.ensures p.canonical
+    word_leads (given_of c.requires.given) u v c.requires.source c.requires.target w c.len.ensures.exact
+    (path_at (given_of c.requires.given) u v c.requires.source c.requires.target p.terms c.loop-place.place (c.term.result.0, w) c.term.ensures p.canonical
     c.requires.typed)
 
 pub add_multiple-requires-clause-times : goal.add_multiple-requires-clause-times
@@ -29,9 +30,9 @@ add_multiple-requires-clause-times c =
     let k : ℤ = c.term.result.0 in
     subst (λ n. get_or c.args.coefficients.now c.loop-place.place 0 < n) (sym c.from-modulus.ensures)
     (subst (λ y. y < m)
-    (sym (coefficient_at x c.requires.given u v c.requires.source c.requires.target p.terms c.loop-place.place (k, c.term.result.1.now) c.term.ensures
+    (sym (coefficient_at (given_of c.requires.given) u v c.requires.source c.requires.target p.terms c.loop-place.place (k, c.term.result.1.now) c.term.ensures
     c.args.coefficients.now c.requires.coefficients))
-    (residue_below m k (positive x c.requires.given u v c.requires.source c.requires.target)))
+    (residue_below m k (positive (given_of c.requires.given))))
 
 pub loop-place-preserved : goal.loop-place-preserved
 loop-place-preserved c =
@@ -51,7 +52,7 @@ loop-place-preserved c =
       size = c.add_multiple.ensures.size;
       below = c.add_multiple.ensures.below;
       each = λ k inside.
-          let coefficient_is = coefficient_at x c.requires.given u v c.requires.source c.requires.target p.terms place t c.term.ensures
+          let coefficient_is = coefficient_at (given_of c.requires.given) u v c.requires.source c.requires.target p.terms place t c.term.ensures
           c.args.coefficients.now c.requires.coefficients in
           let entry_is : get_or product k 0 ≡ entry_at (product_in x u w) i k =
           c.word_row-product.ensures.row k (subst (λ n. k < n) columns_are inside)
@@ -60,7 +61,7 @@ loop-place-preserved c =
           c.add_multiple.ensures.each k inside
           ∙ add_alike m (get_or c.loop-place.sums k 0) (sum_by (term_entry x u i k) (take place p.terms)) (times * get_or product k 0)
           (term_entry x u i k t) (c.loop-place.invariant.each k inside) (ap (λ y. y % m) term_is)
-          ∙ ap (λ y. y % m) (sym (sum_more x c.requires.given u v c.requires.source c.requires.target p.terms place t c.term.ensures i k));
+          ∙ ap (λ y. y % m) (sym (sum_more (given_of c.requires.given) u v c.requires.source c.requires.target p.terms place t c.term.ensures i k));
     }
 
 pub returns : goal.returns
@@ -77,5 +78,5 @@ returns c = λ k inside.
     ∙ c.loop-place.invariant.each k (subst (λ n. k < n) (sym c.side_at-columns.ensures.value) inside)
     ∙ ap (λ n. sum_by (term_entry x u i k) (take c.loop-place.place p.terms) % n) c.from-modulus.ensures
     ∙ ap (λ xs. sum_by (term_entry x u i k) xs % m) (take_all c.loop-place.place p.terms all)
-    ∙ sym (value_entry x c.requires.given u v c.requires.source c.requires.target i k c.requires.row inside p.terms
-    (paths_of x c.requires.given u v c.requires.source c.requires.target p.canonical c.requires.typed))
+    ∙ sym (value_entry (given_of c.requires.given) u v c.requires.source c.requires.target i k c.requires.row inside p.terms
+    (paths_of (given_of c.requires.given) u v c.requires.source c.requires.target p.canonical c.requires.typed))
