@@ -9,11 +9,8 @@ use Rattle.word_core.specs.declared.letter.Letter.{Letter}
 use Rattle.adjoint_rules.specs.declared.parts.Shape.{Shape}
 use Rattle.model_candidates.specs.Candidates.{Entry, entry, is_same_entry, is_solved_map, entries_of}
 use Rattle.model_candidates.specs.Unknowns.{solved_flags}
-use Rattle.model_candidates.proofs.DistinctEntries.{place_of_own}
+use Rattle.model_candidates.proofs.EntryPlaces.{place_of_own, same_entry}
 use Rattle.model_candidates.proofs.SolvedEntries.{IsAsDrawn}
-
-pub same_entry : (x y : Entry) → is_same_entry x y ≡ true → x.map ≡ y.map
-same_entry x y same = eqb-true x.map y.map (and_parts (nat_eq x.map y.map) (nat_eq x.row y.row && nat_eq x.column y.column) same).0
 
 not_set : (b : Bool) → not b ≡ true → b ≡ false
 not_set true h = absurd (false≢true h)

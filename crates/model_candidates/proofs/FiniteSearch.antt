@@ -2,11 +2,10 @@
 use Rattle.std.proofs.Common.{◌≡◌, ℕ, zero, suc, ◌+◌, ◌<◌, ◌≤◌, List, [], ◌∷◌, ◌++◌, length, get_or, take, ◌⊎◌, inl, inr, refl, sym, subst, arith}
 use Rattle.std.specs.List.{All}
 use Rattle.std.proofs.lemmas.Bool.{cases_eq, cases_lt}
-use Rattle.std.proofs.lemmas.List.{length-append, append_assoc, get_or_at}
+use Rattle.std.proofs.lemmas.List.{append-nil, length-append, append_assoc, get_or_at}
 use Rattle.std.proofs.lemmas.List.Elements.{All-get_or}
 use Rattle.std.proofs.Math.Seq.{take-append_seam}
 use Rattle.lists.proofs.Decided.{IsDecided, decided_by}
-use Rattle.model_candidates.proofs.EntryCounts.{append_nil}
 
 -- the least number that passes, or none below the bound does
 pub record LeastOf (Q : ℕ → Type 0) : Type 0 where
@@ -62,14 +61,14 @@ module _ (size bound : ℕ) (P : List ℕ → Type 0) (decided : (xs : List ℕ)
       )
 
   pub begins_decided : (n : ℕ) (front : List ℕ) → length front + n ≡ size → IsDecided (Begins front)
-  begins_decided zero front left = decided_by (λ passes. record { rest = []; passes = subst P (sym (append_nil front)) passes })
+  begins_decided zero front left = decided_by (λ passes. record { rest = []; passes = subst P (sym (append-nil front)) passes })
       all_of_it (decided front)
     where
       all_of_it : Begins front → P front
       all_of_it begins = go begins.rest begins.passes
         where
           go : (rest : List ℕ) → P (front ++ rest) → P front
-          go [] passes = subst P (append_nil front) passes
+          go [] passes = subst P (append-nil front) passes
           go (x ∷ rest) passes = absurd (omega (arith, left, length-append front (x ∷ rest), of_size (front ++ x ∷ rest) passes))
   begins_decided (suc n) front left = go (least_or_none (λ x. Begins (front ++ x ∷ [])) (λ x. begins_decided n (front ++ x ∷ [])
       (next_size front x n left)) bound)

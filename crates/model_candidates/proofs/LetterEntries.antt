@@ -20,8 +20,8 @@ use Rattle.model_candidates.specs.EntryPlaces.{is_kept}
 use Rattle.model_candidates.specs.LetterNumbers.{letter_value, map_behind}
 use Rattle.model_candidates.specs.Unknowns.{solved_flags, set_count, unknown_numbers}
 use Rattle.model_candidates.proofs.CandidateModels.{is_declared, map_at-model_by, model_by_is_model}
-use Rattle.model_candidates.proofs.DrawnEntries.{same_entry, flag_of_each, flag_at}
-use Rattle.model_candidates.proofs.EntryPlaces.{place_of_entry, shown_mirrored, shown_itself, shown_behind}
+use Rattle.model_candidates.proofs.DrawnEntries.{flag_of_each, flag_at}
+use Rattle.model_candidates.proofs.EntryPlaces.{place_of_entry, same_entry, shown_mirrored, shown_itself, shown_behind}
 use Rattle.model_candidates.proofs.SolvedEntries.{before, before_within, filled_set}
 use Rattle.model_candidates.proofs.SolvedLetters.{solved_by_maps}
 

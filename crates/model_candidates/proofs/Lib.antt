@@ -1,5 +1,5 @@
-pub mod EntryCounts
 pub mod Streams
+pub mod SolvedPlaces
 pub mod EntryPlaces
 pub mod Ranges
 pub mod CandidateModels
@@ -10,12 +10,10 @@ pub mod GivenValues
 pub mod ValueRows
 pub mod SolvedEntries
 pub mod FilledValues
-pub mod DistinctEntries
 pub mod DrawnEntries
 pub mod SolvedLetters
 pub mod LetterEntries
 pub mod LetterTables
-pub mod SolvedPlaces
 pub mod WordRows
 pub mod AssumptionTerms
 pub mod AssumptionsSuffice
