@@ -1,5 +1,5 @@
 -- The terms of an assumption, and that it is zero where all linear assumptions are.
-use Rattle.std.proofs.Common.{◌≡◌, ℕ, zero, suc, ◌<◌, ℤ, Bool, true, false, cond, List, [], ◌∷◌, length, get_or, filter, subst, arith}
+use Rattle.std.proofs.Common.{◌≡◌, ℕ, zero, suc, ◌<◌, ℤ, Bool, true, false, cond, List, [], ◌∷◌, length, get_or, filter, refl, sym, ◌∙◌, arith, true≢false}
 use Rattle.std.specs.List.{AllByRecursion}
 use Rattle.std.proofs.lemmas.List.Elements.{recursion_from_All}
 use Rattle.definitions.specs.Quiver.{is_path}
@@ -15,19 +15,28 @@ use Rattle.model_candidates.specs.declared.plan.LinearAssumption.{LinearAssumpti
 use Rattle.model_candidates.specs.Plans.{IsAssumption, IsZeroAtSignature, has_few, linear_assumptions, terms_of}
 use Rattle.model_candidates.proofs.SolvedWords.{fewer}
 
--- what holds of all that are kept holds of one
-pub kept_one : (P : List (ℤ × List ℕ) → Type 0) (keep : List (ℤ × List ℕ) → Bool) (ps : List Poly) (place : ℕ) → place < length ps
-    → keep (get_or (polynomials ps) place []) ≡ true
-    → AllByRecursion P (polynomials (filter (λ p. keep p.terms) ps)) → P (get_or (polynomials ps) place [])
-kept_one P keep [] place inside kept all = absurd (omega (arith, inside))
-kept_one P keep (p ∷ ps) zero inside kept all =
-    (subst (λ b. AllByRecursion P (polynomials (cond b (p ∷ filter (λ r. keep r.terms) ps) (filter (λ r. keep r.terms) ps)))) kept all).0
-kept_one P keep (p ∷ ps) (suc place) inside kept all = kept_one P keep ps place (omega (arith, inside)) kept (rest (keep p.terms) all)
-  where
-    rest : (b : Bool) → AllByRecursion P (polynomials (cond b (p ∷ filter (λ r. keep r.terms) ps) (filter (λ r. keep r.terms) ps)))
-        → AllByRecursion P (polynomials (filter (λ r. keep r.terms) ps))
-    rest true h = h.1
-    rest false h = h
+-- what holds of all polynomials that are kept holds of each that is
+module _ (P : List (ℤ × List ℕ) → Type 0) (keep : Poly → Bool) where
+  pub of_kept : (ps : List Poly) → AllByRecursion P (polynomials (filter keep ps)) → AllByRecursion (λ p. keep p ≡ true → P p.terms) ps
+  of_kept [] all = tt
+  of_kept (p ∷ ps) all = elim (keep p) as (λ b. keep p ≡ b → AllByRecursion P (polynomials (cond b (p ∷ filter keep ps) (filter keep ps)))
+      → (keep p ≡ true → P p.terms) × AllByRecursion (λ r. keep r ≡ true → P r.terms) ps) [
+        | true ↦ λ is own. (λ kept. own.0, of_kept ps own.1)
+        | false ↦ λ is own. (λ kept. absurd (true≢false (sym kept ∙ is)), of_kept ps own)
+      ] refl all
+
+  pub all_kept : (ps : List Poly) → AllByRecursion (λ p. keep p ≡ true → P p.terms) ps → AllByRecursion P (polynomials (filter keep ps))
+  all_kept [] each = tt
+  all_kept (p ∷ ps) each = elim (keep p) as (λ b. keep p ≡ b → AllByRecursion P (polynomials (cond b (p ∷ filter keep ps) (filter keep ps)))) [
+    | true ↦ λ is. (each.0 is, all_kept ps each.1)
+    | false ↦ λ is. all_kept ps each.1
+  ] refl
+
+at_place : (Q : List (ℤ × List ℕ) → Type 0) (ps : List Poly) → AllByRecursion (λ p. Q p.terms) ps → (place : ℕ) → place < length ps
+    → Q (get_or (polynomials ps) place [])
+at_place Q [] all place inside = absurd (omega (arith, inside))
+at_place Q (p ∷ ps) all zero inside = all.0
+at_place Q (p ∷ ps) all (suc place) inside = at_place Q ps all.1 place (omega (arith, inside))
 
 terms_canonical : (ps : List Poly) (place : ℕ) → place < length ps → IsCanonical (get_or (polynomials ps) place [])
 terms_canonical [] place inside = absurd (omega (arith, inside))
@@ -55,5 +64,6 @@ module _ {problem : Problem} {g : LinearAssumption} where
   pub linear_zero : (m : Model) → AllByRecursion (IsZeroIn problem m) (linear_assumptions problem) → IsAssumption problem 1 g
       → IsZeroAtSignature problem m g
   linear_zero m all is =
-      (kept_one (IsZeroIn problem m) (has_few (quiver_of problem.parts.quiver) problem.parts.solved 1) problem.parts.assumptions g.place is.place
-      is.few all).at g.sig.source.0 g.sig.target.0 is.source is.target is.typed
+      let few : List (ℤ × List ℕ) → Bool = has_few (quiver_of problem.parts.quiver) problem.parts.solved 1 in
+      (at_place (λ p. few p ≡ true → IsZeroIn problem m p) problem.parts.assumptions
+      (of_kept (IsZeroIn problem m) (λ p. few p.terms) problem.parts.assumptions all) g.place is.place is.few).at g.sig.source.0 g.sig.target.0 is.source is.target is.typed
