@@ -29,7 +29,6 @@ pub mod SystemSolutions
 pub mod PlanSystems
 pub mod AskedAssumptions
 pub mod NumberedShapes
-pub mod FiniteSearch
 pub mod Found
 pub mod CandidateLaws
 pub mod MatrixRows
