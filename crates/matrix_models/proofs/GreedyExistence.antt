@@ -38,13 +38,15 @@ module _ (s : System) where
     has_greedy_solution values solves =
         elim (greedy_or_none (Solves s) s.unknowns one_for_each prefer s.modulus (λ xs is. is.are_values.below) solves_decided) [
           | inl found ↦ record {
-              values = found.0;
-              greedy = record {
-                solves = found.1.passes;
-                preferred = λ place within can. (found.1.chosen place within).preferred_if (record { rest = can.rest; passes = can.solves });
-                least = λ place value within cannot can. (found.1.chosen place within).least_else value
-                    (λ begins. cannot (record { rest = begins.rest; solves = begins.passes })) (record { rest = can.rest; passes = can.solves });
-              };
-            }
+            values = found.0;
+            greedy = record {
+              solves = found.1.passes;
+              preferred = λ place within can. (found.1.chosen place within).preferred_if
+                  (record { rest = can.rest; passes = can.solves });
+              least = λ place value within cannot can. (found.1.chosen place within).least_else value
+                  (λ begins. cannot (record { rest = begins.rest; solves = begins.passes }))
+                  (record { rest = can.rest; passes = can.solves });
+            };
+          }
           | inr none ↦ absurd (none values solves)
         ]

@@ -17,16 +17,16 @@ least_or_none Q decided zero = inr (λ x below. absurd (omega (arith, below)))
 least_or_none Q decided (suc n) = elim (least_or_none Q decided n) [
   | inl found ↦ inl found
   | inr none ↦ elim (decided n) [
-      | inl here ↦ inl (record {
-          number = n;
-          passes = here;
-          least = λ other passes. elim (cases_lt other n) [ inl less ↦ absurd (none other less passes) | inr h ↦ h ];
-        })
-      | inr not_here ↦ inr (λ x below passes. elim (cases_eq x n) [
-          | inl same ↦ not_here (subst Q same passes)
-          | inr other ↦ none x (omega (arith, below, other)) passes
-        ])
-    ]
+    | inl here ↦ inl (record {
+      number = n;
+      passes = here;
+      least = λ other passes. elim (cases_lt other n) [ inl less ↦ absurd (none other less passes) | inr h ↦ h ];
+    })
+    | inr not_here ↦ inr (λ x below passes. elim (cases_eq x n) [
+      | inl same ↦ not_here (subst Q same passes)
+      | inr other ↦ none x (omega (arith, below, other)) passes
+    ])
+  ]
 ]
 
 -- lists that agree at each place where they agree before it
@@ -55,12 +55,12 @@ module _ (P : List ℕ → Type 0) where
   choice_is_one {front} {preferred} {x} {y} first second of_x of_y = elim (cases_eq x preferred) [
     | inl same ↦ same ∙ sym (second.preferred_if (subst (λ z. Begins (front ++ z ∷ [])) same of_x))
     | inr other ↦ elim (cases_eq y preferred) [
-        | inl same ↦ first.preferred_if (subst (λ z. Begins (front ++ z ∷ [])) same of_y) ∙ sym same
-        | inr neither ↦
-            let up = first.least_else y (λ can. other (first.preferred_if can)) of_y in
-            let down = second.least_else x (λ can. neither (second.preferred_if can)) of_x in
-            omega (arith, up, down)
-      ]
+      | inl same ↦ first.preferred_if (subst (λ z. Begins (front ++ z ∷ [])) same of_y) ∙ sym same
+      | inr neither ↦
+          let up = first.least_else y (λ can. other (first.preferred_if can)) of_y in
+          let down = second.least_else x (λ can. neither (second.preferred_if can)) of_x in
+          omega (arith, up, down)
+    ]
   ]
 
   -- with one item more
@@ -129,22 +129,23 @@ module _ (P : List ℕ → Type 0) where
 
       choose : (n : ℕ) {front : List ℕ} → length front + suc n ≡ size → Begins front → Choice front
       choose n {front} left begins =
-          let told : (x : ℕ) → IsDecided (Begins (front ++ x ∷ [])) = λ x. begins_decided n (front ++ x ∷ []) (omega (arith, left, length_push front x)) in
+          let told : (x : ℕ) → IsDecided (Begins (front ++ x ∷ [])) = λ x. begins_decided n (front ++ x ∷ [])
+          (omega (arith, left, length_push front x)) in
           let draw = get_or prefer (length front) 0 in
           elim (told draw) [
             | inl can ↦ record {
-                value = draw;
-                begins = can;
-                choice = record { preferred_if = λ again. refl; least_else = λ other cannot. absurd (cannot can) };
-              }
+              value = draw;
+              begins = can;
+              choice = record { preferred_if = λ again. refl; least_else = λ other cannot. absurd (cannot can) };
+            }
             | inr cannot ↦ elim (least_or_none (λ x. Begins (front ++ x ∷ [])) told bound) [
-                | inl found ↦ record {
-                    value = found.number;
-                    begins = found.passes;
-                    choice = record { preferred_if = λ can. absurd (cannot can); least_else = λ other no can. found.least other can };
-                  }
-                | inr none ↦ let next = next_begins n left begins in absurd (none next.0 next.1 next.2)
-              ]
+              | inl found ↦ record {
+                value = found.number;
+                begins = found.passes;
+                choice = record { preferred_if = λ can. absurd (cannot can); least_else = λ other no can. found.least other can };
+              }
+              | inr none ↦ let next = next_begins n left begins in absurd (none next.0 next.1 next.2)
+            ]
           ]
 
       -- from the end of the front on each item is the choice
@@ -176,7 +177,8 @@ module _ (P : List ℕ → Type 0) where
           first =
               subst (λ xs. IsChoice xs (get_or prefer (length front) 0) (get_or all (length front) 0))
               (sym (take-append_seam front (next.value ∷ more.rest)))
-              (subst (IsChoice front (get_or prefer (length front) 0)) (sym (get_or_at front next.value more.rest 0 (length front) refl)) next.choice)
+              (subst (IsChoice front (get_or prefer (length front) 0)) (sym (get_or_at front next.value more.rest 0 (length front) refl))
+              next.choice)
 
       greedy_from : (n : ℕ) (front : List ℕ) → length front + n ≡ size → Begins front → IsGreedyFrom front
       greedy_from zero front left begins = record {

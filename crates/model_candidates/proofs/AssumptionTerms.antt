@@ -27,10 +27,11 @@ module _ (P : List (ℤ × List ℕ) → Type 0) (keep : Poly → Bool) where
 
   pub all_kept : (ps : List Poly) → AllByRecursion (λ p. keep p ≡ true → P p.terms) ps → AllByRecursion P (polynomials (filter keep ps))
   all_kept [] each = tt
-  all_kept (p ∷ ps) each = elim (keep p) as (λ b. keep p ≡ b → AllByRecursion P (polynomials (cond b (p ∷ filter keep ps) (filter keep ps)))) [
-    | true ↦ λ is. (each.0 is, all_kept ps each.1)
-    | false ↦ λ is. all_kept ps each.1
-  ] refl
+  all_kept (p ∷ ps) each = elim (keep p) as (λ b. keep p ≡ b
+      → AllByRecursion P (polynomials (cond b (p ∷ filter keep ps) (filter keep ps)))) [
+        | true ↦ λ is. (each.0 is, all_kept ps each.1)
+        | false ↦ λ is. all_kept ps each.1
+      ] refl
 
 at_place : (Q : List (ℤ × List ℕ) → Type 0) (ps : List Poly) → AllByRecursion (λ p. Q p.terms) ps → (place : ℕ) → place < length ps
     → Q (get_or (polynomials ps) place [])
@@ -66,4 +67,5 @@ module _ {problem : Problem} {g : LinearAssumption} where
   linear_zero m all is =
       let few : List (ℤ × List ℕ) → Bool = has_few (quiver_of problem.parts.quiver) problem.parts.solved 1 in
       (at_place (λ p. few p ≡ true → IsZeroIn problem m p) problem.parts.assumptions
-      (of_kept (IsZeroIn problem m) (λ p. few p.terms) problem.parts.assumptions all) g.place is.place is.few).at g.sig.source.0 g.sig.target.0 is.source is.target is.typed
+      (of_kept (IsZeroIn problem m) (λ p. few p.terms) problem.parts.assumptions all) g.place is.place is.few).at g.sig.source.0
+      g.sig.target.0 is.source is.target is.typed

@@ -60,7 +60,8 @@ module _ (problem : Problem) (s : Shape) (drawn : List ℕ) where
     drawn_where_it_can = λ place inside can.
         (list.chosen place (subst (λ n. place < n) list.passes.one_each inside)).preferred_if (can_begin can);
     else_least = λ place value inside cannot can.
-        (list.chosen place (subst (λ n. place < n) list.passes.one_each inside)).least_else value (λ begins. cannot (begins_so begins)) (can_begin can);
+        (list.chosen place (subst (λ n. place < n) list.passes.one_each inside)).least_else value (λ begins. cannot (begins_so begins))
+        (can_begin can);
   }
 
   greedy_is_unique : {values others : List ℕ} → IsGreedy problem s drawn values → IsGreedy problem s drawn others → values ≡ others
@@ -124,13 +125,14 @@ module _ (flags : List Bool) (drawn values : List ℕ) where
   place_decided place = elim (cases_eq (get_or values place 0) (get_or drawn place 0)) [
     | inl same ↦ inl (λ unset. same)
     | inr other ↦ elim (get_or flags place false) as (λ b. IsDecided (b ≡ false → get_or values place 0 ≡ get_or drawn place 0)) [
-        | true ↦ inl (λ unset. absurd (false≢true (sym unset)))
-        | false ↦ inr (λ is. other (is refl))
-      ]
+      | true ↦ inl (λ unset. absurd (false≢true (sym unset)))
+      | false ↦ inr (λ is. other (is refl))
+    ]
   ]
 
   as_drawn_decided : IsDecided (IsAsDrawn flags drawn values)
-  as_drawn_decided = decided_by (range_of_all IsAsDrawnAt (λ place. place) (length flags)) (all_of_range IsAsDrawnAt (λ place. place) (length flags))
+  as_drawn_decided = decided_by (range_of_all IsAsDrawnAt (λ place. place) (length flags))
+      (all_of_range IsAsDrawnAt (λ place. place) (length flags))
       (each_decided IsAsDrawnAt place_decided (map (λ place. place) (range_with_len 0 (length flags))))
 
 module _ (problem : Problem) (s : Shape) (drawn : List ℕ) where
@@ -171,7 +173,7 @@ each_number_has_a_candidate problem number s seed k numbered =
     elim (is_exhaustive q s) as (λ b. is_exhaustive q s ≡ b → (c : Option Model) × IsCandidate problem number s seed k c) [
       | true ↦ λ all. (Some (model_by q s 0 (digits q s k)), IsCandidate.numbered all refl)
       | false ↦ λ other. elim (solved_or_not problem s (draws q s number seed k)) [
-          | inl found ↦ (Some (model_by q s 0 found.0), IsCandidate.drawn (ap not other) found.0 found.1 refl)
-          | inr none ↦ (None, IsCandidate.unsolvable (ap not other) none refl)
-        ]
+        | inl found ↦ (Some (model_by q s 0 found.0), IsCandidate.drawn (ap not other) found.0 found.1 refl)
+        | inr none ↦ (None, IsCandidate.unsolvable (ap not other) none refl)
+      ]
     ] refl

@@ -50,13 +50,14 @@ at_group : (g : ℕ → List Entry) (n k i : ℕ) → k < n → i < length (g k)
 at_group g zero k i below inside = absurd (omega (arith, below))
 at_group g (suc n) k i below inside =
     let all : ℕ → List Entry = λ l. flat_map g (range_with_len 0 l) in
-    subst (λ xs. (length (all k) + i < length xs) × (get_or xs (length (all k) + i) no_entry ≡ get_or (g k) i no_entry)) (sym (flat_map_next g n))
+    subst (λ xs. (length (all k) + i < length xs) × (get_or xs (length (all k) + i) no_entry ≡ get_or (g k) i no_entry))
+    (sym (flat_map_next g n))
     (elim (cases_eq k n) [
       | inl same ↦ (
-          omega (arith, length-append (all n) (g n), ap (λ l. length (all l)) same, ap (λ l. length (g l)) same, inside),
-          ap (λ l. get_or (all n ++ g n) (length (all l) + i) no_entry) same ∙ get_or-append-add (all n) (g n) i no_entry
-              ∙ ap (λ l. get_or (g l) i no_entry) (sym same),
-        )
+        omega (arith, length-append (all n) (g n), ap (λ l. length (all l)) same, ap (λ l. length (g l)) same, inside),
+        ap (λ l. get_or (all n ++ g n) (length (all l) + i) no_entry) same ∙ get_or-append-add (all n) (g n) i no_entry
+            ∙ ap (λ l. get_or (g l) i no_entry) (sym same),
+      )
       | inr other ↦
           let rest = at_group g n k i (omega (arith, below, other)) inside in
           (omega (arith, rest.0, length-append (all n) (g n)), get_or_append_left (all n) (g n) no_entry _ rest.0 ∙ rest.1)
@@ -84,7 +85,8 @@ each : {P Q : Entry → Type 0} → ((x : Entry) → P x → Q x) → (xs : List
 each step [] all = tt
 each step (x ∷ xs) all = (step x all.0, each step xs all.1)
 
-distinct-append : (xs ys : List Entry) → AreDistinct xs → AreDistinct ys → AllByRecursion (λ x. AllByRecursion (λ y. is_same_entry y x ≡ false) ys) xs
+distinct-append : (xs ys : List Entry) → AreDistinct xs → AreDistinct ys
+    → AllByRecursion (λ x. AllByRecursion (λ y. is_same_entry y x ≡ false) ys) xs
     → AreDistinct (xs ++ ys)
 distinct-append [] ys of_xs of_ys apart = of_ys
 distinct-append (x ∷ xs) ys of_xs of_ys apart =
@@ -98,14 +100,16 @@ module _ (label : Entry → ℕ) (shared : (x y : Entry) → is_same_entry x y �
   labels_from from (suc n) =
       all-append (λ x. from ≤ label x) (g from) (flat_map g (range_with_len (from + 1) n))
       (each {P = λ x. label x ≡ from} (λ x is. omega (arith, is)) (g from) (labelled from))
-      (each {P = λ x. from + 1 ≤ label x} (λ x least. omega (arith, least)) (flat_map g (range_with_len (from + 1) n)) (labels_from (from + 1) n))
+      (each {P = λ x. from + 1 ≤ label x} (λ x least. omega (arith, least)) (flat_map g (range_with_len (from + 1) n))
+      (labels_from (from + 1) n))
 
   distinct_groups : (from n : ℕ) → AreDistinct (flat_map g (range_with_len from n))
   distinct_groups from zero = tt
   distinct_groups from (suc n) =
       let rest = flat_map g (range_with_len (from + 1) n) in
       distinct-append (g from) rest (of_each from) (distinct_groups (from + 1) n)
-      (each {P = λ x. label x ≡ from} (λ x is. each {P = λ y. from + 1 ≤ label y} (λ y least. false_from_ne_true (is_same_entry y x) (λ same.
+      (each {P = λ x. label x ≡ from}
+      (λ x is. each {P = λ y. from + 1 ≤ label y} (λ y least. false_from_ne_true (is_same_entry y x) (λ same.
       absurd (omega (arith, shared y x same, is, least)))) rest (labels_from (from + 1) n)) (g from) (labelled from))
 
 -- the pieces of a map
@@ -144,15 +148,20 @@ module _ (a : ℕ) (self : Bool) (columns : ℕ) where
       let none : before + 0 ≡ before = omega arith in
       let piece_is : piece a self row column ≡ entry a row column ∷ [] = ap (λ b. cond b (entry a row column ∷ []) []) kept in
       let in_row = at_group (piece a self row) columns column 0 in_columns (subst (λ xs. 0 < length xs) (sym piece_is) (omega arith)) in
-      let in_map = at_group (row_pieces a self columns) rows row before in_rows (omega (arith, in_row.0)) in
-      (in_map.0, in_map.1 ∙ ap (λ k. get_or (row_pieces a self columns row) k no_entry) (sym none) ∙ in_row.1 ∙ ap (λ xs. get_or xs 0 no_entry) piece_is)
+      let in_map = at_group (row_pieces a self columns) rows row before in_rows (omega (arith, in_row.0)) in (
+        in_map.0,
+        in_map.1 ∙ ap (λ k. get_or (row_pieces a self columns row) k no_entry) (sym none) ∙ in_row.1
+            ∙ ap (λ xs. get_or xs 0 no_entry) piece_is,
+      )
 
 -- in a list of distinct entries each is the first that is the same
-earlier : (xs : List Entry) (j k : ℕ) → j < k → k < length xs → AreDistinct xs → is_same_entry (get_or xs k no_entry) (get_or xs j no_entry) ≡ false
+earlier : (xs : List Entry) (j k : ℕ) → j < k → k < length xs → AreDistinct xs
+    → is_same_entry (get_or xs k no_entry) (get_or xs j no_entry) ≡ false
 earlier [] j k less inside are = absurd (omega (arith, inside))
 earlier (x ∷ xs) j zero less inside are = absurd (omega (arith, less))
 earlier (x ∷ xs) zero (suc k) less inside are =
-    All-get_or (λ y. is_same_entry y x ≡ false) xs k no_entry (omega (arith, inside)) (All-from_recursion (λ y. is_same_entry y x ≡ false) xs are.0)
+    All-get_or (λ y. is_same_entry y x ≡ false) xs k no_entry (omega (arith, inside))
+    (All-from_recursion (λ y. is_same_entry y x ≡ false) xs are.0)
 earlier (x ∷ xs) (suc j) (suc k) less inside are = earlier xs j k (omega (arith, less)) (omega (arith, inside)) are.1
 
 module _ (q : Quiver) (s : Shape) where
@@ -192,13 +201,16 @@ module _ (q : Quiver) (s : Shape) where
       ]) 0 (letters q))
 
   -- the first place of the entry at a place is this place
-  pub place_of_own : {place : ℕ} → place < length (entries_of q s) → position (is_same_entry (get_or (entries_of q s) place no_entry)) (entries_of q s) ≡ Some place
+  pub place_of_own : {place : ℕ} → place < length (entries_of q s)
+      → position (is_same_entry (get_or (entries_of q s) place no_entry)) (entries_of q s) ≡ Some place
   place_of_own {place} inside =
       let x = get_or (entries_of q s) place no_entry in
-      first_place (is_same_entry x) (entries_of q s) no_entry inside (λ k before. earlier (entries_of q s) k place before inside distinct_entries) (own_entry x)
+      first_place (is_same_entry x) (entries_of q s) no_entry inside
+      (λ k before. earlier (entries_of q s) k place before inside distinct_entries) (own_entry x)
 
   -- one map more
-  entries_next : (n : ℕ) {b : Bool} → is_declared_map q n ≡ b → entries_before q s (n + 1) ≡ entries_before q s n ++ cond b (map_entries q s n) []
+  entries_next : (n : ℕ) {b : Bool} → is_declared_map q n ≡ b
+      → entries_before q s (n + 1) ≡ entries_before q s n ++ cond b (map_entries q s n) []
   entries_next n is =
       let next : n + 1 ≡ suc n = omega arith in
       ap (entries_before q s) next ∙ by_declared (suc n) ∙ flat_map_next declared_entries n
@@ -211,7 +223,8 @@ module _ (q : Quiver) (s : Shape) where
   entries_without n other = entries_next n other ∙ append-nil (entries_before q s n)
 
   -- the place of an entry
-  module _ {a row column : ℕ} (letter : a < letters q) (declared : is_declared_map q a ≡ true) (in_rows : row < rows a) (in_columns : column < columns a)
+  module _ {a row column : ℕ} (letter : a < letters q) (declared : is_declared_map q a ≡ true) (in_rows : row < rows a)
+      (in_columns : column < columns a)
       (kept : is_kept (is_self q a) row column ≡ true) where
     abbrev place : ℕ
     place = length (entries_before q s a) + place_within a (is_self q a) (columns a) row column
@@ -225,7 +238,8 @@ module _ (q : Quiver) (s : Shape) where
         let in_all = at_group declared_entries (letters q) a within letter (subst (λ xs. within < length xs) (sym is) in_map.0) in
         subst (λ xs. (place < length xs) × (get_or xs place no_entry ≡ entry a row column)) (sym (by_declared (letters q)))
         (subst (λ xs. (length xs + within < length (flat_map declared_entries (range_with_len 0 (letters q))))
-        × (get_or (flat_map declared_entries (range_with_len 0 (letters q))) (length xs + within) no_entry ≡ entry a row column)) (sym (by_declared a))
+        × (get_or (flat_map declared_entries (range_with_len 0 (letters q))) (length xs + within) no_entry ≡ entry a row column))
+        (sym (by_declared a))
         (in_all.0, in_all.1 ∙ ap (λ xs. get_or xs within no_entry) is ∙ in_map.1))
 
     pub kept_inside : place < length (entries_of q s)
@@ -246,7 +260,8 @@ shown_itself q a row column self = ap (λ b. cond (b && nat_lt column row) (entr
 
 pub shown_behind : (q : Quiver) (a row column : ℕ) → row ≤ column → entry_shown q a row column ≡ entry a row column
 shown_behind q a row column le =
-    ap (λ b. cond (is_self q a && b) (entry a column row) (entry a row column)) (lt-leb (suc column) row (omega arith)) ∙ ap (λ b. cond b (entry a column row) (entry a row column)) (and-false (is_self q a))
+    ap (λ b. cond (is_self q a && b) (entry a column row) (entry a row column)) (lt-leb (suc column) row (omega arith))
+    ∙ ap (λ b. cond b (entry a column row) (entry a row column)) (and-false (is_self q a))
 
 -- how many pieces there are
 row_of_all : (a row c : ℕ) → length (row_pieces a false c row) ≡ c

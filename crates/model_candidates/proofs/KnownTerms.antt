@@ -43,7 +43,8 @@ module _ (k : Known) (is : IsKnown k) (g : LinearAssumption) (asked : IsAssumpti
       → unknowns ≡ set_count (solved_flags (quiver_in k.given) s k.given.problem.now.parts.solved) → All (FitsTerm modulus unknowns) terms
   known_fit {modulus} {unknowns} modulus_is unknowns_are = subst (λ x. All (FitsTerm x unknowns) terms) (sym modulus_is)
       (subst (λ n. All (FitsTerm s.modulus n) terms) (sym unknowns_are)
-      (All-weaker Fit (FitsTerm s.modulus (set_count (solved_flags (quiver_in k.given) s k.given.problem.now.parts.solved))) (λ t fit. fit.fits) terms all_fit))
+      (All-weaker Fit (FitsTerm s.modulus (set_count (solved_flags (quiver_in k.given) s k.given.problem.now.parts.solved)))
+      (λ t fit. fit.fits) terms all_fit))
 
   pub known_sides : {value : Matrix} → IsArrow (matrices s.modulus) (side_in s g.sig.source.0) (side_in s g.sig.target.0) value
       → All (HasSides value.rows value.columns) terms

@@ -23,7 +23,8 @@ no_assumption = record { place = 0; sig = record { source = record { 0 = 0 }; ta
 
 module _ {problem : Problem} {s : Shape} {xs ys : List ℕ} (base : AreGiven problem s xs) (given : AreGiven problem s ys)
     (alike : IsAsDrawn (solved_flags (quiver_of problem.parts.quiver) s problem.parts.solved) xs ys) where
-  condition_same : (g : LinearAssumption) → IsAssumption problem 0 g → IsZeroAtSignature problem (model base) g → IsZeroAtSignature problem (model given) g
+  condition_same : (g : LinearAssumption) → IsAssumption problem 0 g → IsZeroAtSignature problem (model base) g
+      → IsZeroAtSignature problem (model given) g
   condition_same g is zero =
       let u = g.sig.source.0 in
       let v = g.sig.target.0 in
@@ -42,10 +43,13 @@ module _ {problem : Problem} {s : Shape} {xs ys : List ℕ} (base : AreGiven pro
       (All-get_or (IsZeroAtSignature problem (model base)) gs k no_assumption inside zero))
 
 -- each solution shows that they are zero
-pub conditions_of_solution : {problem : Problem} {s : Shape} {drawn : List ℕ} (given : AreGiven problem s drawn) (gs : List LinearAssumption)
-    → All (IsAssumption problem 0) gs → {values : List ℕ} → IsSolution problem s drawn values → All (IsZeroAtSignature problem (model given)) gs
+pub conditions_of_solution : {problem : Problem} {s : Shape} {drawn : List ℕ} (given : AreGiven problem s drawn)
+    (gs : List LinearAssumption)
+    → All (IsAssumption problem 0) gs → {values : List ℕ} → IsSolution problem s drawn values
+    → All (IsZeroAtSignature problem (model given)) gs
 conditions_of_solution {problem} {s} {drawn} given gs each {values} solution =
-    let by : AreGiven problem s values = record { shape = given.shape; entries = record { one_each = solution.one_each; below = solution.below } } in
+    let by : AreGiven problem s values = record
+    { shape = given.shape; entries = record { one_each = solution.one_each; below = solution.below } } in
     let as_drawn = drawn_by_flags (quiver_of problem.parts.quiver) s problem.parts.solved drawn values solution.as_drawn in
     conditions_same by given (λ place inside unset. sym (as_drawn place inside unset)) gs each
     (All-weaker (IsAssumption problem 0) (IsZeroAtSignature problem (model by)) (λ g is.

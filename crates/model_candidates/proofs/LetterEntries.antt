@@ -80,7 +80,8 @@ pub record StandsAt (q : Quiver) (s : Shape) (a i j : ℕ) : Type 0 where
   pub entry_is : (values : List ℕ) → entry_at (arrow_of q (model_by q s 0 values) a) i j ≡ get_or values place 0
 
 stands_by : {q : Quiver} {s : Shape} {a i j b row column : ℕ} → IsQuiver q → IsMap q b → map_behind q a ≡ b → row < side_in s (target q b)
-    → column < side_in s (source q b) → ((values : List ℕ) → letter_value q s values a i j ≡ value_of_entry q s values (entry_shown q b row column))
+    → column < side_in s (source q b)
+    → ((values : List ℕ) → letter_value q s values a i j ≡ value_of_entry q s values (entry_shown q b row column))
     → ((values : List ℕ) → entry_at (arrow_of q (model_by q s 0 values) a) i j ≡ value_of_entry q s values (entry_shown q b row column))
     → StandsAt q s a i j
 stands_by {q} {s} {b = b} {row = row} {column = column} quiver is behind in_rows in_columns value entry_is =
@@ -105,7 +106,8 @@ stands {q} {s} quiver shape {a} letter map {i} {j} in_rows in_columns = elim (ca
       let row : i < side_in s (source q b) = subst (λ v. i < side_in s v) (sym (quiver.star_source a letter)) in_rows in
       let column : j < side_in s (target q b) = subst (λ v. j < side_in s v) (sym (quiver.star_target a letter)) in_columns in
       stands_by quiver is (adjoint q a less) column row
-      (λ values. ap (λ c. cond c (value_of_entry q s values (entry_shown q a i j)) (value_of_entry q s values (entry_shown q b j i))) (lt-leb a b less))
+      (λ values. ap (λ c. cond c (value_of_entry q s values (entry_shown q a i j)) (value_of_entry q s values (entry_shown q b j i)))
+      (lt-leb a b less))
       (λ values.
       let x = matrix_by q s values b in
       ap (λ y. entry_at y i j) (arrow_of-adjoint q (model_by q s 0 values) a map less
@@ -115,11 +117,13 @@ stands {q} {s} quiver shape {a} letter map {i} {j} in_rows in_columns = elim (ca
   | inr least ↦
       let is : IsMap q a = record { map = map; letter = letter; declared = least } in
       stands_by quiver is (itself q a least) in_rows in_columns
-      (λ values. ap (λ c. cond c (value_of_entry q s values (entry_shown q a i j)) (value_of_entry q s values (entry_shown q (star q a) j i)))
+      (λ values. ap (λ c. cond c (value_of_entry q s values (entry_shown q a i j))
+      (value_of_entry q s values (entry_shown q (star q a) j i)))
       (le-leb a (star q a) least))
       (λ values.
       let x = matrix_by q s values a in
-      ap (λ y. entry_at y i j) (arrow_of-map q (model_by q s 0 values) a map least ∙ ap (matrix_or_zero s.modulus) (map_at-model_by s 0 values is))
+      ap (λ y. entry_at y i j) (arrow_of-map q (model_by q s 0 values) a map least
+      ∙ ap (matrix_or_zero s.modulus) (map_at-model_by s 0 values is))
       ∙ entry_at-matrix_of s.modulus x.rows x.columns (λ r c. value_of_entry q s values (entry_shown q a r c)) i j in_rows in_columns)
 ]
 
@@ -128,7 +132,8 @@ pub record HasSolvedMap (q : Quiver) (solved : List Letter) (a : ℕ) : Type 0 w
   pub map : q.objects ≤ a
   pub is_solved : is_solved_map solved (map_behind q a) ≡ true
 
-pub solved_map : {q : Quiver} {a : ℕ} (solved : List Letter) → AllByRecursion (λ l. IsMap q l.0) solved → is_solved_map solved a ≡ true → IsMap q a
+pub solved_map : {q : Quiver} {a : ℕ} (solved : List Letter) → AllByRecursion (λ l. IsMap q l.0) solved → is_solved_map solved a ≡ true
+    → IsMap q a
 solved_map [] are is = absurd (cc)
 solved_map {q} {a} (l ∷ solved) are is = elim (cases_eq a l.0) [
   | inl same ↦ subst (IsMap q) (sym same) are.0
@@ -143,7 +148,8 @@ or_none : (b c : Bool) → (b || c) ≡ false → (b ≡ false) × (c ≡ false)
 or_none true c none = absurd (cc)
 or_none false c none = (refl, none)
 
-module _ {q : Quiver} (quiver : IsQuiver q) (solved : List Letter) (maps : AllByRecursion (λ l. IsMap q l.0) solved) {a : ℕ} (letter : a < letters q) where
+module _ {q : Quiver} (quiver : IsQuiver q) (solved : List Letter) (maps : AllByRecursion (λ l. IsMap q l.0) solved) {a : ℕ}
+    (letter : a < letters q) where
   abbrev IsSolvedMap : ℕ → Bool
   IsSolvedMap b = is_solved_map solved b
 
@@ -191,7 +197,8 @@ module _ {q : Quiver} {s : Shape} {a i j : ℕ} (solved : List Letter) (at : Sta
         let n = set_count flags in
         let none : 0 + before flags at.place ≡ before flags at.place = omega arith in
         at.value (unknown_numbers flags)
-        ∙ filled_set flags (replicate (length flags) n) (range_with_len 0 n) at.place (length-replicate (length flags) n) (length-range_with_len 0 n)
+        ∙ filled_set flags (replicate (length flags) n) (range_with_len 0 n) at.place (length-replicate (length flags) n)
+        (length-range_with_len 0 n)
         flag_inside set
         ∙ get_or-range_with_len 0 n (before flags at.place) 0 (before_within flags at.place flag_inside set) ∙ none
 

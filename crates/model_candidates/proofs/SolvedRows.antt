@@ -46,7 +46,8 @@ module _ {m x z : ℕ} (sum : ℕ) (below : x < m) (small : z < m) (adds : x % m
 
 -- the sum of a row whose factors are these modulo m
 row_sum : (m n : ℕ) (f : ℕ → ℕ) (chosen : List ℕ)
-    → total (length (map (λ k. f k % m) (range_with_len 0 n))) (λ k. get_or (map (λ k. f k % m) (range_with_len 0 n)) k 0 * get_or chosen k 0) % m
+    → total (length (map (λ k. f k % m) (range_with_len 0 n)))
+    (λ k. get_or (map (λ k. f k % m) (range_with_len 0 n)) k 0 * get_or chosen k 0) % m
     ≡ total n (λ k. f k * get_or chosen k 0) % m
 row_sum m n f chosen =
     let factors = map (λ k. f k % m) (range_with_len 0 n) in
@@ -97,7 +98,8 @@ module _ {problem : Problem} {s : Shape} {xs ys : List ℕ} (base : AreGiven pro
 
       adds : entry_at reached i j % m
           ≡ (entry_at start i j + total (set_count flags) (λ k. terms_factor terms i j k * get_or chosen k 0)) % m
-      adds = value_adds base given alike zeros chosen are g.sig.source.0 g.sig.target.0 is.source is.target in_rows in_columns (terms_of problem g)
+      adds = value_adds base given alike zeros chosen are g.sig.source.0 g.sig.target.0 is.source is.target in_rows in_columns
+          (terms_of problem g)
           (assumption_paths is) (few_words q problem.parts.solved 1 (terms_of problem g) is.few)
 
       zero_there : Holds m chosen (row_by start.modulus i j) → entry_at reached i j ≡ 0

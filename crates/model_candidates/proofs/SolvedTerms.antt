@@ -137,7 +137,8 @@ module _ {problem : Problem} {s : Shape} {values : List ℕ} (given : AreGiven p
       subst (λ number. number < n) (sym (get_or-map-range_with_len f 0 size place place 0 within (omega arith)))
       (number_below solved at (flag_is solved at has.is_solved)))
 
-  pub term_fits : (t : ℤ × List ℕ) {place : ℕ} → is_path q u v t.1 ≡ true → position (is_solved q solved) t.1 ≡ Some place → Fits (around t place)
+  pub term_fits : (t : ℤ × List ℕ) {place : ℕ} → is_path q u v t.1 ≡ true → position (is_solved q solved) t.1 ≡ Some place
+      → Fits (around t place)
   term_fits t {place} path found =
       let at = solved_at q solved u v t.1 path found in
       let x = get_or t.1 place 0 in

@@ -101,7 +101,8 @@ module _ {problem : Problem} {s : Shape} {xs : List ℕ} (base : AreGiven proble
           let other = (represented base).arrows a letter in
           same_matrix m (arrow_of q (model given) a) (arrow_of q (model base) a) one.arrow other.arrow (one.target ∙ sym other.target)
           (one.source ∙ sym other.source) (λ i j in_rows in_columns.
-          let at = stands (quiver base) base.shape letter map (subst (λ x. i < x) one.target in_rows) (subst (λ x. j < x) one.source in_columns) in
+          let at = stands (quiver base) base.shape letter map (subst (λ x. i < x) one.target in_rows)
+          (subst (λ x. j < x) one.source in_columns) in
           at.entry_is ys ∙ alike at.place (flag_inside solved at)
           (flag_is solved at (no_solved_map (quiver base) solved (solved_maps problem) letter unsolved)) ∙ sym (at.entry_is xs))
     ]
@@ -120,12 +121,14 @@ module _ {problem : Problem} {s : Shape} {xs : List ℕ} (base : AreGiven proble
     terms_same u v i j (t ∷ p) paths few =
         let same = product_same u v t.1 (leads_of_path q u v t.1 paths.0) (omega (arith, few.0)) in
         sum_by-cons (term given u i j) t p
-        ∙ ap₂ ◌+◌ (ap (λ y. residue m t.0 * entry_at y i j) same) (terms_same u v i j p paths.1 few.1) ∙ sym (sum_by-cons (term base u i j) t p)
+        ∙ ap₂ ◌+◌ (ap (λ y. residue m t.0 * entry_at y i j) same) (terms_same u v i j p paths.1 few.1)
+        ∙ sym (sum_by-cons (term base u i j) t p)
 
     -- with these values at the entries that are solved for
     module _ (chosen : List ℕ) (are : AreChosen flags chosen ys) (u v : ℕ) (in_u : u < q.objects) {i j : ℕ} (in_rows : i < side_in s v)
         (in_columns : j < side_in s u) where
-      letter_entry : {a : ℕ} → a < letters q → is_solved q solved a ≡ true → {k l : ℕ} → k < side_in s (target q a) → l < side_in s (source q a)
+      letter_entry : {a : ℕ} → a < letters q → is_solved q solved a ≡ true → {k l : ℕ} → k < side_in s (target q a)
+          → l < side_in s (source q a)
           → entry_at (arrow_of q (model given) a) k l ≡ get_or chosen (number_at q s solved a k l) 0
       letter_entry letter is in_k in_l =
           let has = has_solved_map (quiver base) solved (solved_maps problem) letter is in
@@ -155,20 +158,27 @@ module _ {problem : Problem} {s : Shape} {xs : List ℕ} (base : AreGiven proble
             let letter = arrow_of q (model given) x in
             let rows = side_in s (target q x) in
             let columns = side_in s (source q x) in
-            let one : ℕ → ℕ → ℕ = λ k l. get_or chosen (number_at q s solved x k l) 0 * (entry_at made.left i k * entry_at made.right l j) in
+            let one : ℕ → ℕ → ℕ = λ k l. get_or chosen (number_at q s solved x k l) 0 * (entry_at made.left i k * entry_at made.right l j)
+            in
             let sum : entry_sum m made.left letter made.right i j ≡ total rows (λ k. total columns (one k)) =
-            ap₂ (λ a b. total a (λ k. total b (λ l. entry_at made.left i k * (entry_at letter k l * entry_at made.right l j)))) between.target between.source
+            ap₂ (λ a b. total a (λ k. total b (λ l. entry_at made.left i k * (entry_at letter k l * entry_at made.right l j))))
+            between.target between.source
             ∙ total_same rows _ _ (λ k in_k. total_same columns _ _ (λ l in_l.
-            ap (λ y. entry_at made.left i k * (y * entry_at made.right l j)) (letter_entry at.fit.letter at.there in_k in_l) ∙ grind arith)) in
-            let places : total (rows * columns) (λ p. one (p / columns) (p % columns)) ≡ chosen_sum (term_fits base u v in_u t path found).fits chosen i j =
+            ap (λ y. entry_at made.left i k * (y * entry_at made.right l j)) (letter_entry at.fit.letter at.there in_k in_l) ∙ grind arith))
+            in
+            let places : total (rows * columns) (λ p. one (p / columns) (p % columns)) ≡ chosen_sum
+            (term_fits base u v in_u t path found).fits chosen i j =
             total_same (rows * columns) _ _ (λ p inside.
             ap (λ y. get_or chosen y 0 * (entry_at made.left i (p / columns) * entry_at made.right (p % columns) j))
-            (sym (get_or-map-range_with_len (λ y. letter_value q s (unknown_numbers flags) x (y / columns) (y % columns)) 0 (rows * columns) p p 0 inside
+            (sym (get_or-map-range_with_len (λ y. letter_value q s (unknown_numbers flags) x (y / columns) (y % columns)) 0 (rows * columns)
+            p p 0 inside
             (omega arith))))
-            ∙ ap₂ (λ a b. total (a * b) (λ p. get_or chosen (get_or made.numbers p 0) 0 * (entry_at made.left i (p / b) * entry_at made.right (p % b) j)))
+            ∙ ap₂ (λ a b. total (a * b) (λ p. get_or chosen (get_or made.numbers p 0)
+            0 * (entry_at made.left i (p / b) * entry_at made.right (p % b) j)))
             (sym left.source) (sym right.target) in
             ap (λ w. entry_at (product given u w) i j) (sym at.whole)
-            ∙ ap (λ y. entry_at y i j) (product-append (matrices_laws m) q (f given) (represented given) v l (x ∷ r) in_u in_target at.fit.before at.fit.whole)
+            ∙ ap (λ y. entry_at y i j) (product-append (matrices_laws m) q (f given) (represented given) v l (x ∷ r) in_u in_target
+            at.fit.before at.fit.whole)
             ∙ triple_entry m (product given (target q x) l) letter (product given u r) i j
             ((product_ends given v l in_target at.fit.before).source ∙ sym between.target)
             (subst (λ y. i < y) (sym (product_ends given v l in_target at.fit.before).target) in_rows)
@@ -184,7 +194,8 @@ module _ {problem : Problem} {s : Shape} {xs : List ℕ} (base : AreGiven proble
             ∙ ap (λ y. y % m) (term_by_unknowns fits chosen i j)
 
   -- where the entries that are solved for are 0, a term with one of their letters adds nothing
-  pub nothing_added : AreChosen flags [] xs → (u v : ℕ) → u < q.objects → {i j : ℕ} → i < side_in s v → j < side_in s u → (t : ℤ × List ℕ) {place : ℕ}
+  pub nothing_added : AreChosen flags [] xs → (u v : ℕ) → u < q.objects → {i j : ℕ} → i < side_in s v → j < side_in s u
+      → (t : ℤ × List ℕ) {place : ℕ}
       → is_path q u v t.1 ≡ true → position (is_solved q solved) t.1 ≡ Some place → solved_count q solved t.1 ≤ 1 → term base u i j t ≡ 0
   nothing_added zeros u v in_u {i} {j} in_rows in_columns t path found few =
       let made = (term_fits base u v in_u t path found).fits in
@@ -202,7 +213,8 @@ module _ {problem : Problem} {s : Shape} {xs : List ℕ} (base : AreGiven proble
     abbrev sum_of : List SolvedTerm → ℕ
     sum_of ts = total n (λ k. terms_factor ts i j k * get_or chosen k 0)
 
-    one_term : (t : ℤ × List ℕ) → is_path q u v t.1 ≡ true → solved_count q solved t.1 ≤ 1 → (o : Option ℕ) → position (is_solved q solved) t.1 ≡ o
+    one_term : (t : ℤ × List ℕ) → is_path q u v t.1 ≡ true → solved_count q solved t.1 ≤ 1 → (o : Option ℕ)
+        → position (is_solved q solved) t.1 ≡ o
         → term given u i j t % m ≡ (term base u i j t + sum_of (listed (option_map (around base u v in_u t) o))) % m
     one_term t path few None none =
         let nothing : sum_of [] ≡ 0 = total_zero n _ (λ k within. zero-mul (get_or chosen k 0)) in
@@ -228,7 +240,8 @@ module _ {problem : Problem} {s : Shape} {xs : List ℕ} (base : AreGiven proble
         sym (ap (λ y. y * get_or chosen k 0) (sum_by-append (λ y. term_factor y i j k) ts (terms_of p))
         ∙ add-mul (terms_factor ts i j k) (terms_factor (terms_of p) i j k) (get_or chosen k 0))) in
         ap (λ y. y % m) (sum_by-cons (term given u i j) t p)
-        ∙ add_alike m (term given u i j t) (term base u i j t + sum_of ts) (sum_by (term given u i j) p) (sum_by (term base u i j) p + sum_of (terms_of p))
+        ∙ add_alike m (term given u i j t) (term base u i j t + sum_of ts) (sum_by (term given u i j) p)
+        (sum_by (term base u i j) p + sum_of (terms_of p))
         (one_term t paths.0 few.0 (position (is_solved q solved) t.1) refl) (terms_add p paths.1 few.1)
         ∙ ap (λ y. y % m) (omega (arith, both, sum_by-cons (term base u i j) t p))
 

@@ -61,7 +61,8 @@ module _ {problem : Problem} {s : Shape} {drawn : List ℕ} (given : AreGiven pr
   start = filled_given (unit_values n n) (unit_values_below n n (is_modulus given).at_least)
 
   as_start : (values : List ℕ) → IsAsDrawn solved drawn values → IsAsDrawn solved (filled solved drawn (unit_values n n)) values
-  as_start values as_drawn place inside unset = as_drawn place inside unset ∙ sym (filled_as_drawn solved drawn (unit_values n n) place inside unset)
+  as_start values as_drawn place inside unset = as_drawn place inside unset
+      ∙ sym (filled_as_drawn solved drawn (unit_values n n) place inside unset)
 
   module _ {conditions gs : List LinearAssumption} (are : AreLinearAssumptions problem conditions gs) where
     abbrev system : System

@@ -82,4 +82,5 @@ module _ (problem : Problem) (m : Model) where
       → AllByRecursion (IsZeroIn problem m) (polynomials (filter (λ r. keep r.terms) ps)) → IsZeroIn problem m p.terms
   zero_linear ps keep place {p} is kept all =
       all_at (λ r. keep r.terms ≡ true → IsZeroIn problem m r.terms) ps place p
-      (All-from_recursion (λ r. keep r.terms ≡ true → IsZeroIn problem m r.terms) ps (of_kept (IsZeroIn problem m) (λ r. keep r.terms) ps all)) is kept
+      (All-from_recursion (λ r. keep r.terms ≡ true → IsZeroIn problem m r.terms) ps
+      (of_kept (IsZeroIn problem m) (λ r. keep r.terms) ps all)) is kept

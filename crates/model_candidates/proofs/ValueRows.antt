@@ -61,10 +61,12 @@ module _ {problem : Problem} {s : Shape} {values : List ℕ} (given : AreGiven p
   module _ (i k : ℕ) (in_rows : i < rows) (in_columns : k < columns) where
     -- one term
     word_entry : (w : List ℕ) → is_path q u v w ≡ true → (c : ℤ)
-        → entry_at (multiple (matrices m) c (word_value (matrices m) (f given) none w)) i k ≡ (residue m c * entry_at (product given u w) i k) % m
+        → entry_at (multiple (matrices m) c (word_value (matrices m) (f given) none w)) i
+        k ≡ (residue m c * entry_at (product given u w) i k) % m
     word_entry w path c =
         let ends = product_ends given v w in_u (leads_of_path q u v w path) in
-        ap (λ y. entry_at (multiple (matrices m) c y) i k) (word_value-product (matrices_laws m) q (f given) (represented given) u v w none path)
+        ap (λ y. entry_at (multiple (matrices m) c y) i k)
+        (word_value-product (matrices_laws m) q (f given) (represented given) u v w none path)
         ∙ multiple_entry m c (product given u w) i k (positive given) (subst (λ n. i < n) (sym ends.target) in_rows)
         (subst (λ n. k < n) (sym ends.source) in_columns)
 
@@ -99,7 +101,8 @@ module _ {problem : Problem} {s : Shape} {values : List ℕ} (given : AreGiven p
         ap (λ xs. get_or xs place 0) are ∙ get_or-map (λ y. residue m y.0) p place t 0 (slice_get_within p place t there)
         ∙ ap (λ y. residue m y.0) here
 
-    pub sum_more : (i k : ℕ) → sum_by (term given u i k) (take (place + 1) p) ≡ sum_by (term given u i k) (take place p) + term given u i k t
+    pub sum_more : (i k : ℕ) → sum_by (term given u i k) (take (place + 1) p) ≡ sum_by (term given u i k) (take place p) + term given u i k
+        t
     sum_more i k =
         sum_by_more (term given u i k) p place t (slice_get_within p place t there)
         ∙ ap (λ y. sum_by (term given u i k) (take place p) + term given u i k y) here

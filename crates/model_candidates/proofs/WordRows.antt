@@ -125,12 +125,14 @@ module _ (x : EntryValues) (is : AreTabled x) where
         let s = x.shape.now in
         let has = has_table q s a (sym read ∙ some) in
         record {
-          table = subst (IsTable (length x.values.now)) (sym has.same) (is_table q (quiver given) s is.shape a letter has.map is.values.one_each);
+          table = subst (IsTable (length x.values.now)) (sym has.same)
+              (is_table q (quiver given) s is.shape a letter has.map is.values.one_each);
           rows = ap (λ y. y.rows) has.same;
           columns = ap (λ y. y.columns) has.same;
           entries = λ i j in_rows in_columns.
               ap (λ y. value_in_table x.values.now y i j) has.same
-              ∙ sym (entry_in_table q (quiver given) s is.shape a letter has.map i j (subst (λ n. i < n) (ap (λ y. y.rows) has.same) in_rows)
+              ∙ sym (entry_in_table q (quiver given) s is.shape a letter has.map i j
+              (subst (λ n. i < n) (ap (λ y. y.rows) has.same) in_rows)
               (subst (λ n. j < n) (ap (λ y. y.columns) has.same) in_columns) x.values.now);
         }
 

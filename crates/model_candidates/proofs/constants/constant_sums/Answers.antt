@@ -18,7 +18,8 @@ solved_place-requires-clause-over c =
     let u = c.args.ends.source.0 in
     let v = c.args.ends.target.0 in
     let w = c.term.result.1.now in
-    let path = path_at (given_of c.requires.known.given) u v c.requires.source c.requires.target p.terms c.loop-place.place (c.term.result.0, w) c.term.ensures
+    let path = path_at (given_of c.requires.known.given) u v c.requires.source c.requires.target p.terms c.loop-place.place
+    (c.term.result.0, w) c.term.ensures
     p.canonical c.requires.typed in
     subst (λ n. All (λ a. a < n) w) (letters-quiver_of x.problem.now.parts.quiver) (path_over (quiver_in x) u v w path)
 
@@ -32,7 +33,8 @@ loop-place-preserved-in-Some c =
     let m = c.from-modulus.result in
     let place = c.loop-place.place in
     let t : ℤ × List ℕ = (c.term.result.0, c.term.result.1.now) in
-    let path = path_at (given_of c.requires.known.given) u v c.requires.source c.requires.target p.terms place t c.term.ensures p.canonical c.requires.typed in
+    let path = path_at (given_of c.requires.known.given) u v c.requires.source c.requires.target p.terms place t c.term.ensures p.canonical
+    c.requires.typed in
     let few = few_at known c.requires.known p.terms c.requires.few place c.term.ensures in
     let now = c.loop-place.invariant in
     record {
@@ -42,7 +44,8 @@ loop-place-preserved-in-Some c =
           let within = subst (λ n. k < n) c.side_at-columns.ensures.value inside in
           let nothing = nothing_there known c.requires.known u v c.requires.source t path c.in-Some.field-0 (sym c.in-Some.ensures) few
           c.requires.row within in
-          let more = sum_more (given_of c.requires.known.given) u v c.requires.source c.requires.target p.terms place t c.term.ensures c.args.row k in
+          let more = sum_more (given_of c.requires.known.given) u v c.requires.source c.requires.target p.terms place t c.term.ensures
+          c.args.row k in
           let same : sum_by (term_entry x u c.args.row k) (take place p.terms) ≡ sum_by (term_entry x u c.args.row k) (take (place + 1) p.terms) =
           omega (arith, nothing, more) in
           now.each k inside ∙ ap (λ y. y % m) same;
@@ -56,7 +59,8 @@ word_row-product-requires-clause-leads c =
     let v = c.args.ends.target.0 in
     let w = c.term.result.1.now in
     word_leads (given_of c.requires.known.given) u v c.requires.source c.requires.target w c.len.ensures.exact
-    (path_at (given_of c.requires.known.given) u v c.requires.source c.requires.target p.terms c.loop-place.place (c.term.result.0, w) c.term.ensures p.canonical
+    (path_at (given_of c.requires.known.given) u v c.requires.source c.requires.target p.terms c.loop-place.place (c.term.result.0, w)
+    c.term.ensures p.canonical
     c.requires.typed)
 
 pub add_multiple-requires-clause-times : goal.add_multiple-requires-clause-times
@@ -69,7 +73,8 @@ add_multiple-requires-clause-times c =
     let k : ℤ = c.term.result.0 in
     subst (λ n. get_or c.args.coefficients.now c.loop-place.place 0 < n) (sym c.from-modulus.ensures)
     (subst (λ y. y < m)
-    (sym (coefficient_at (given_of c.requires.known.given) u v c.requires.source c.requires.target p.terms c.loop-place.place (k, c.term.result.1.now) c.term.ensures
+    (sym (coefficient_at (given_of c.requires.known.given) u v c.requires.source c.requires.target p.terms c.loop-place.place
+    (k, c.term.result.1.now) c.term.ensures
     c.args.coefficients.now c.requires.coefficients))
     (residue_below m k (positive (given_of c.requires.known.given))))
 
@@ -91,7 +96,8 @@ loop-place-preserved c =
       size = c.add_multiple.ensures.size;
       below = c.add_multiple.ensures.below;
       each = λ k inside.
-          let coefficient_is = coefficient_at (given_of c.requires.known.given) u v c.requires.source c.requires.target p.terms place t c.term.ensures
+          let coefficient_is = coefficient_at (given_of c.requires.known.given) u v c.requires.source c.requires.target p.terms place t
+          c.term.ensures
           c.args.coefficients.now c.requires.coefficients in
           let entry_is : get_or product k 0 ≡ entry_at (product_in x u w) i k =
           c.word_row-product.ensures.row k (subst (λ n. k < n) columns_are inside)
@@ -100,7 +106,8 @@ loop-place-preserved c =
           c.add_multiple.ensures.each k inside
           ∙ add_alike m (get_or c.loop-place.sums k 0) (sum_by (term_entry x u i k) (take place p.terms)) (times * get_or product k 0)
           (term_entry x u i k t) (c.loop-place.invariant.each k inside) (ap (λ y. y % m) term_is)
-          ∙ ap (λ y. y % m) (sym (sum_more (given_of c.requires.known.given) u v c.requires.source c.requires.target p.terms place t c.term.ensures i k));
+          ∙ ap (λ y. y % m) (sym (sum_more (given_of c.requires.known.given) u v c.requires.source c.requires.target p.terms place t
+          c.term.ensures i k));
     }
 
 pub returns : goal.returns

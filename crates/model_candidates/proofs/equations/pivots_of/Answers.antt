@@ -30,7 +30,8 @@ system_same : (c : After-as_slice-3)
     c.args.plan.now.assumptions.equations
     ≡ system_for c.args.problem.now c.args.shape.now c.args.plan.now.solved c.args.plan.now.assumptions.equations c.args.drawn.now
 system_same c =
-    ap₂ (λ xs n. system_in c.args.problem.now c.args.shape.now (model_by (quiver_of c.args.problem.now.parts.quiver) c.args.shape.now 0 xs) n
+    ap₂ (λ xs n. system_in c.args.problem.now c.args.shape.now (model_by (quiver_of c.args.problem.now.parts.quiver) c.args.shape.now 0 xs)
+    n
     c.args.plan.now.assumptions.equations) (values_are c) c.requires.plan.unknowns
 
 pub filled-requires-clause-one_for_each : goal.filled-requires-clause-one_for_each
