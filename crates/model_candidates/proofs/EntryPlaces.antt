@@ -27,10 +27,6 @@ flat_map-filter f keep (x ∷ xs) = go (keep x) refl (flat_map-filter f keep xs)
     go true kept rest = ap (λ ys. f x ++ ys) rest
     go false kept rest = rest
 
-map_pieces : {X Y : Type 0} (f : X → Y) (xs : List X) → map f xs ≡ flat_map (λ x. f x ∷ []) xs
-map_pieces f [] = refl
-map_pieces f (x ∷ xs) = ap (λ ys. f x ∷ ys) (map_pieces f xs)
-
 -- groups of a range, one behind another
 flat_map_next : {X : Type 0} (g : ℕ → List X) (n : ℕ) → flat_map g (range_with_len 0 (suc n)) ≡ flat_map g (range_with_len 0 n) ++ g n
 flat_map_next g n =

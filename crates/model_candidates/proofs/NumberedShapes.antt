@@ -9,7 +9,8 @@ use Rattle.adjoint_rules.specs.declared.parts.Shape.{Shape}
 use Rattle.adjoint_rules.specs.declared.problem.Problem.{Problem}
 use Rattle.adjoint_rules.specs.Problem.{IsShape}
 use Rattle.model_candidates.specs.Candidates.{IsShapeOf, digit, digits, entries_of, draws, word_of_stream}
-use Rattle.model_candidates.specs.Plans.{AreEntryValues}
+use Rattle.model_candidates.specs.Plans.{AreEntryValues, FitsShape, IsPlan}
+use Rattle.model_candidates.specs.declared.plan.Plan.{Plan}
 use Rattle.model_checker.proofs.Places.{all_at}
 
 pub shape_numbered : (problem : Problem) {number : ℕ} {s : Shape} → 1 ≤ number → slice_get problem.parts.shapes (number - 1) ≡ Some s
@@ -35,6 +36,11 @@ draws_are_values problem s number seed k positive =
           (All-from_get_or (λ j. draw j < s.modulus) (range_with_len 0 count) 0
           (λ i inside. mod-lt (word_of_stream seed number (k * count + get_or (range_with_len 0 count) i 0)) positive));
     }
+
+-- the shape of a plan, by its number
+pub plan_fits : {problem : Problem} {plan : Plan} {s : Shape} → IsPlan problem plan → slice_get problem.parts.shapes (plan.number - 1) ≡ Some s
+    → FitsShape problem s plan
+plan_fits {problem} {plan} {s} is there = is.fits s (shape_numbered problem is.least there)
 
 -- the digits of a candidate's number
 pub digits_are_values : (problem : Problem) (s : Shape) (k : ℕ) → 1 ≤ s.modulus → AreEntryValues problem s (digits (quiver_of problem.parts.quiver) s k)

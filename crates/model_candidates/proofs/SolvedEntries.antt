@@ -34,22 +34,7 @@ abbrev pub AreChosen : List Bool → List ℕ → List ℕ → Type 0
 AreChosen flags chosen values = (place : ℕ) → place < length flags → get_or flags place false ≡ true
     → get_or values place 0 ≡ get_or chosen (before flags place) 0
 
--- they are the drawn ones, filled with their own
-pub filled-picked : (flags : List Bool) (drawn values : List ℕ) → length drawn ≡ length flags → length values ≡ length flags
-    → IsAsDrawn flags drawn values
-    → values ≡ filled flags drawn (picked flags values)
-filled-picked [] drawn [] same_drawn same as_drawn = refl
-filled-picked [] drawn (x ∷ values) same_drawn same as_drawn = absurd (omega (arith, same))
-filled-picked (flag ∷ flags) [] values same_drawn same as_drawn = absurd (omega (arith, same_drawn))
-filled-picked (flag ∷ flags) (d ∷ drawn) [] same_drawn same as_drawn = absurd (omega (arith, same))
-filled-picked (false ∷ flags) (d ∷ drawn) (x ∷ values) same_drawn same as_drawn =
-    ap₂ (λ y ys. y ∷ ys) (as_drawn 0 (omega arith) refl)
-    (filled-picked flags drawn values (omega (arith, same_drawn)) (omega (arith, same)) (λ place inside unset. as_drawn (suc place)
-    (omega (arith, inside)) unset))
-filled-picked (true ∷ flags) (d ∷ drawn) (x ∷ values) same_drawn same as_drawn =
-    ap (λ ys. x ∷ ys) (filled-picked flags drawn values (omega (arith, same_drawn)) (omega (arith, same))
-    (λ place inside unset. as_drawn (suc place) (omega (arith, inside)) unset))
-
+-- values that are filled in
 pub filled_as_drawn : (flags : List Bool) (drawn values : List ℕ) → IsAsDrawn flags drawn (filled flags drawn values)
 filled_as_drawn [] drawn values place inside unset = absurd (omega (arith, inside))
 filled_as_drawn (flag ∷ flags) [] values place inside unset = refl

@@ -21,7 +21,7 @@ use Rattle.model_candidates.proofs.DrawnEntries.{flag_of_each, drawn_by_flags, d
 use Rattle.model_candidates.proofs.FilledValues.{length-filled, All-filled, unit_values_below, zeros_there}
 use Rattle.model_candidates.proofs.GivenValues.{AreGiven, is_modulus, maps_are, model, model_is}
 use Rattle.model_candidates.proofs.KnownValues.{conditions_same}
-use Rattle.model_candidates.proofs.SolvedEntries.{IsAsDrawn, length-picked, All-picked, filled-picked, filled_as_drawn, before, before_within, filled_set, picked_set, filled-take, picked-take}
+use Rattle.model_candidates.proofs.SolvedEntries.{IsAsDrawn, length-picked, All-picked, filled_as_drawn, before, before_within, filled_set, picked_set, filled-take, picked-take}
 use Rattle.model_candidates.proofs.SolvedRows.{all_hold, all_zero}
 
 -- a solution shows that each entry can take its value in it
