@@ -1,6 +1,6 @@
 -- In a model the linear assumptions are zero exactly where all linear generators are: adjoints are zero with what they are the adjoints of, and the relations of
 -- identities are zero anyway.
-use Rattle.std.proofs.Common.{◌≡◌, ◌≢◌, ℕ, ◌+◌, ◌<◌, ◌≤◌, ℤ, negsuc, pos, Bool, true, false, cond, ◌||◌, nat_eq, nat_le, List, [], ◌∷◌, ◌++◌, length, get_or, filter, refl, sym, ap, ap₂, subst, ◌∙◌, arith, eqb-true, eq-eqb, true≢false}
+use Rattle.std.proofs.Common.{◌≡◌, ◌≢◌, ℕ, ◌+◌, ◌<◌, ◌≤◌, ℤ, negsuc, pos, Bool, true, false, cond, ◌||◌, nat_eq, nat_le, List, [], ◌∷◌, ◌++◌, length, get_or, filter, refl, sym, ap, ap₂, subst, ◌∙◌, arith, eqb-true, eq-eqb}
 use Rattle.std.specs.List.{All, AllByRecursion, AllZip, flat_map, list_all, list_any}
 use Rattle.std.proofs.lemmas.Bool.{le-leb}
 use Rattle.std.proofs.lemmas.List.{length-append}
@@ -179,12 +179,10 @@ module _ (problem : Problem) (m : Model) where
 
     of_units : (starred : Bool) (marked : List ℕ) → AllByRecursion (λ v. v < q'.objects) marked
         → AllByRecursion IsZero (flat_map (units q' starred) marked)
-    of_units starred marked inside = go starred (sound.generators q' starred marked [] posed inside f rep tt)
-      where
-        go : (b : Bool) → AllByRecursion IsZero (cond b [] [] ++ flat_map (units q' starred) marked)
-            → AllByRecursion IsZero (flat_map (units q' starred) marked)
-        go true zero = zero
-        go false zero = zero
+    of_units starred marked inside =
+        elim starred as (λ b. AllByRecursion IsZero (cond b [] [] ++ flat_map (units q' starred) marked)
+        → AllByRecursion IsZero (flat_map (units q' starred) marked)) [ true ↦ λ zero. zero | false ↦ λ zero. zero ]
+        (sound.generators q' starred marked [] posed inside f rep tt)
 
     of_definition : (starred : Bool) (marked : List ℕ) → AllByRecursion (λ v. v < q'.objects) marked → (ps : List (List (ℤ × List ℕ)))
         → AllByRecursion IsZeroIfLinear ps

@@ -1,5 +1,5 @@
 -- Of each shape, seed and number there is one candidate.
-use Rattle.std.proofs.Common.{◌≡◌, ℕ, zero, suc, ◌<◌, Bool, true, false, not, List, [], ◌∷◌, ◌++◌, length, get_or, map, filter, cond, Option, Some, None, ◌⊎◌, inl, inr, refl, sym, ap, subst, ◌∙◌, arith}
+use Rattle.std.proofs.Common.{◌≡◌, ℕ, ◌<◌, Bool, true, false, not, List, [], ◌∷◌, length, get_or, map, filter, cond, Option, Some, None, ◌⊎◌, inl, inr, refl, sym, ap, subst, ◌∙◌}
 use Rattle.std.specs.List.{AllByRecursion, range_with_len}
 use Rattle.std.proofs.lemmas.Bool.{cases_eq, false≢true}
 use Rattle.definitions.specs.Quiver.{Quiver}
@@ -16,7 +16,7 @@ use Rattle.adjoint_rules.specs.Problem.{polynomials}
 use Rattle.adjoint_rules.proofs.Generators.{generators_have_signatures}
 use Rattle.model_checker.specs.Models.{IsZeroIn}
 use Rattle.model_checker.specs.Representations.{representation_of}
-use Rattle.model_candidates.specs.Candidates.{entries_of, model_by, is_exhaustive, digits, draws, is_linear, IsShapeOf, IsSolution, CanBegin, CanTake, IsGreedy, IsCandidate}
+use Rattle.model_candidates.specs.Candidates.{entries_of, model_by, is_exhaustive, digits, draws, is_linear, IsShapeOf, IsSolution, CanBegin, IsGreedy, IsCandidate}
 use Rattle.model_candidates.specs.Unknowns.{solved_flags}
 use Rattle.model_checker.proofs.Values.{zero_from_value}
 use Rattle.lists.proofs.Decided.{IsDecided, decided_by, both_decided, lt_decided}

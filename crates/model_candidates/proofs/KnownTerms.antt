@@ -1,5 +1,5 @@
 -- The terms of an assumption that are made in a known model fit its value.
-use Rattle.std.proofs.Common.{◌≡◌, ℕ, List, Some, get_or, slice_get, refl, sym, ap, subst, ◌∙◌}
+use Rattle.std.proofs.Common.{◌≡◌, ℕ, List, Some, get_or, slice_get, sym, ap, subst, ◌∙◌}
 use Rattle.nc_polynomial.specs.declared.poly.Poly.{Poly}
 use Rattle.model_candidates.specs.Residues.{residues}
 use Rattle.std.proofs.lemmas.List.{get_or-map}

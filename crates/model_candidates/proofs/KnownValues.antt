@@ -1,5 +1,5 @@
 -- An assumption with no solved letter has the value that the drawn entries give, whatever the solved ones are.
-use Rattle.std.proofs.Common.{◌≡◌, ℕ, ◌%◌, ◌<◌, List, length, get_or, sym, ap, ◌∙◌}
+use Rattle.std.proofs.Common.{ℕ, ◌%◌, List, get_or, sym, ap, ◌∙◌}
 use Rattle.std.specs.List.{All}
 use Rattle.std.proofs.lemmas.List.Elements.{All-get_or, All-from_get_or, All-weaker}
 use Rattle.quiver.specs.Declarations.{quiver_of}

@@ -1,9 +1,9 @@
 -- The tables of letters: the value in a table is the entry of the letter's matrix in the model by the values.
-use Rattle.std.proofs.Common.{◌≡◌, ℕ, ◌+◌, ◌*◌, ◌/◌, ◌%◌, ◌<◌, ◌≤◌, cond, List, length, get_or, Option, Some, None, ◌⊎◌, inl, inr, sym, ap, ap₂, subst, ◌∙◌, arith, div-lt_iff_lt-mul, mod-lt}
+use Rattle.std.proofs.Common.{◌≡◌, ℕ, ◌+◌, ◌*◌, ◌/◌, ◌%◌, ◌<◌, ◌≤◌, cond, List, length, get_or, Option, Some, None, inl, inr, sym, ap, ap₂, subst, ◌∙◌, arith, div-lt_iff_lt-mul, mod-lt}
 use Rattle.std.specs.List.{All}
 use Rattle.std.proofs.lemmas.Bool.{cases_lt, le-ltb, lt-ltb}
 use Rattle.std.proofs.lemmas.List.FromFn.{get_or-map-range_with_len, length-map-range_with_len, get_or-range_with_len}
-use Rattle.std.proofs.lemmas.List.Elements.{All-get_or, All-from_get_or}
+use Rattle.std.proofs.lemmas.List.Elements.{All-get_or}
 use Rattle.definitions.specs.Quiver.{Quiver, IsQuiver, letters, source, target}
 use Rattle.adjoint_rules.specs.Limits.{shape_side_limit}
 use Rattle.adjoint_rules.specs.declared.parts.Shape.{Shape}
@@ -17,6 +17,7 @@ use Rattle.model_candidates.specs.LetterNumbers.{letter_value, letter_values}
 use Rattle.model_candidates.specs.LetterTables.{IsTable, entry_numbers, letter_table, letter_tables, value_in_table}
 use Rattle.model_candidates.proofs.CandidateModels.{side_is_object}
 use Rattle.model_candidates.proofs.LetterEntries.{StandsAt, stands}
+use Rattle.model_candidates.proofs.Ranges.{all_of_range}
 
 -- the table of a letter that is no identity
 abbrev pub table_of : Quiver → Shape → ℕ → LetterTable
@@ -82,9 +83,7 @@ module _ (q : Quiver) (quiver : IsQuiver q) (s : Shape) (shape : IsShape q.objec
         few_columns = few (source q a) (quiver.source_is_object a letter);
         one_each = length-map-range_with_len f 0 size;
         below = subst (λ n. All (λ place. place < n) (letter_values q s (entry_numbers q s) a)) (sym count_is)
-            (All-from_get_or (λ number. number < length (entries_of q s)) (letter_values q s (entry_numbers q s) a) 0 (λ place within.
-            let inside : place < size = subst (λ k. place < k) (length-map-range_with_len f 0 size) within in
+            (all_of_range (λ number. number < length (entries_of q s)) f size (λ place inside.
             let at = stands quiver shape letter map ((div-lt_iff_lt-mul positive).1 inside) (mod-lt place positive) in
-            subst (λ number. number < length (entries_of q s))
-            (sym (get_or-map-range_with_len f 0 size place place 0 inside (omega arith) ∙ number_is at)) at.inside));
+            subst (λ number. number < length (entries_of q s)) (sym (number_is at)) at.inside));
       }

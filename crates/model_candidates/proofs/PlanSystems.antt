@@ -9,7 +9,7 @@ use Rattle.adjoint_rules.specs.declared.problem.Problem.{Problem}
 use Rattle.model_candidates.specs.declared.plan.Plan.{Plan}
 use Rattle.model_candidates.specs.Candidates.{IsSolution, IsGreedy, model_by}
 use Rattle.model_candidates.specs.Unknowns.{set_count, filled, picked, unit_values}
-use Rattle.model_candidates.specs.Plans.{FitsShape, AreEntryValues, IsZeroAtSignature}
+use Rattle.model_candidates.specs.Plans.{FitsShape, IsZeroAtSignature}
 use Rattle.model_candidates.specs.Equations.{system_for}
 use Rattle.model_candidates.proofs.DrawnEntries.{flag_of_each}
 use Rattle.model_candidates.proofs.GivenValues.{AreGiven}

@@ -1,5 +1,5 @@
 -- Linear assumptions are zero exactly where the values of the entries that are solved for solve their equations.
-use Rattle.std.proofs.Common.{◌≡◌, ℕ, ◌+◌, ◌-◌, ◌*◌, ◌/◌, ◌%◌, ◌<◌, Bool, List, [], ◌∷◌, length, get_or, map, refl, sym, ap, ap₂, subst, ◌∙◌, arith, div-lt_iff_lt-mul, mod-lt}
+use Rattle.std.proofs.Common.{◌≡◌, ℕ, ◌+◌, ◌-◌, ◌*◌, ◌/◌, ◌%◌, ◌<◌, Bool, List, [], ◌∷◌, length, get_or, map, refl, sym, ap, subst, ◌∙◌, arith, div-lt_iff_lt-mul, mod-lt}
 use Rattle.std.specs.List.{All, AllByRecursion, flat_map, range_with_len}
 use Rattle.std.proofs.Math.Nat.{mod-mod, mod-eq_of_lt, mod_self}
 use Rattle.std.proofs.lemmas.Nat.{div-mul-add, mod-mul-add, mul-mod_first}
@@ -24,7 +24,7 @@ use Rattle.model_candidates.specs.Factors.{equations_of, row_with, solved_terms,
 use Rattle.model_candidates.specs.Plans.{IsAssumption, IsZeroAtSignature, terms_of}
 use Rattle.model_candidates.specs.Unknowns.{set_count, solved_flags, unknown_numbers}
 use Rattle.model_candidates.proofs.AssumptionTerms.{assumption_paths}
-use Rattle.model_candidates.proofs.GivenValues.{AreGiven, model, positive, side_object}
+use Rattle.model_candidates.proofs.GivenValues.{AreGiven, model}
 use Rattle.model_candidates.proofs.Ranges.{all_back, all_front, all_of_range, range_of_all}
 use Rattle.model_candidates.proofs.SolvedEntries.{AreChosen, IsAsDrawn}
 use Rattle.model_candidates.proofs.SolvedValues.{value_adds}

@@ -1,9 +1,9 @@
 -- The terms with a solved letter: their sides and numbers.
-use Rattle.std.proofs.Common.{◌≡◌, ℕ, suc, ◌+◌, ◌-◌, ◌*◌, ◌/◌, ◌%◌, ◌<◌, ◌≤◌, ℤ, pos, negsuc, ◌&&◌, Bool, true, false, List, [], ◌∷◌, ◌++◌, length, get_or, replicate, take, drop, map, Option, Some, None, option_map, ◌⊎◌, inl, inr, refl, sym, ap, ap₂, subst, ◌∙◌, arith, mod-lt, div-lt_iff_lt-mul, cond}
+use Rattle.std.proofs.Common.{◌≡◌, ℕ, suc, ◌+◌, ◌-◌, ◌*◌, ◌/◌, ◌%◌, ◌<◌, ℤ, pos, negsuc, Bool, true, false, List, [], ◌∷◌, ◌++◌, length, get_or, replicate, take, drop, Option, Some, None, option_map, refl, sym, ap, ap₂, subst, ◌∙◌, arith, mod-lt, div-lt_iff_lt-mul, cond}
 use Rattle.std.specs.List.{All, AllByRecursion, position, range_with_len}
 use Rattle.std.proofs.lemmas.Option.{none-some}
 use Rattle.std.proofs.lemmas.List.{take-append-drop, length-replicate}
-use Rattle.std.proofs.lemmas.List.Elements.{All-nil, All-cons, All-from_get_or}
+use Rattle.std.proofs.lemmas.List.Elements.{All-nil, All-cons}
 use Rattle.std.proofs.lemmas.List.FromFn.{get_or-map-range_with_len, length-map-range_with_len}
 use Rattle.std.proofs.lemmas.List.Quantifiers.{position-Some}
 use Rattle.std.proofs.Math.Seq.{drop-cons}
@@ -23,6 +23,7 @@ use Rattle.model_candidates.proofs.DrawnEntries.{flag_of_each}
 use Rattle.model_candidates.proofs.FilledValues.{length-filled}
 use Rattle.model_candidates.proofs.GivenValues.{AreGiven, model, positive, product_ends, quiver, side_object, solved_maps}
 use Rattle.model_candidates.proofs.LetterEntries.{flag_is, has_solved_map, number_below, stands}
+use Rattle.model_candidates.proofs.Ranges.{all_of_range}
 use Rattle.model_candidates.proofs.WordProducts.{FitLetter, fit_letter}
 
 -- the letters of a path
@@ -131,11 +132,9 @@ module _ {problem : Problem} {s : Shape} {values : List ℕ} (given : AreGiven p
       let f : ℕ → ℕ = λ place. letter_value q s numbers x (place / columns) (place % columns) in
       let positive = (side_object given ((quiver given).source_is_object x letter)).is_side.positive in
       let has = has_solved_map (quiver given) solved (solved_maps problem) letter is in
-      All-from_get_or (λ number. number < n) (letter_values q s numbers x) 0 (λ place inside.
-      let within : place < size = subst (λ k. place < k) (length-map-range_with_len f 0 size) inside in
+      all_of_range (λ number. number < n) f size (λ place within.
       let at = stands (quiver given) given.shape letter has.map ((div-lt_iff_lt-mul positive).1 within) (mod-lt place positive) in
-      subst (λ number. number < n) (sym (get_or-map-range_with_len f 0 size place place 0 within (omega arith)))
-      (number_below solved at (flag_is solved at has.is_solved)))
+      number_below solved at (flag_is solved at has.is_solved))
 
   pub term_fits : (t : ℤ × List ℕ) {place : ℕ} → is_path q u v t.1 ≡ true → position (is_solved q solved) t.1 ≡ Some place
       → Fits (around t place)

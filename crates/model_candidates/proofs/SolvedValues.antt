@@ -1,12 +1,11 @@
 -- What the entries that are solved for add to the value of a polynomial with one of their letters at most in each word.
-use Rattle.std.proofs.Common.{◌≡◌, ℕ, zero, suc, ◌+◌, ◌*◌, ◌/◌, ◌%◌, ◌<◌, ◌≤◌, ℤ, Bool, true, false, cond, eqb, List, [], ◌∷◌, ◌++◌, length, get_or, take, drop, Option, Some, None, option_map, ◌⊎◌, inl, inr, refl, sym, ap, ap₂, subst, ◌∙◌, arith, mul_comm, add-mul, mul-zero, zero-mul}
+use Rattle.std.proofs.Common.{◌≡◌, ℕ, zero, suc, ◌+◌, ◌*◌, ◌/◌, ◌%◌, ◌<◌, ◌≤◌, ℤ, Bool, true, false, cond, eqb, List, [], ◌∷◌, ◌++◌, get_or, take, drop, Option, Some, None, option_map, inl, inr, refl, sym, ap, ap₂, subst, ◌∙◌, arith, mul_comm, add-mul, mul-zero, zero-mul}
 use Rattle.std.specs.List.{AllByRecursion, position, sum_by}
 use Rattle.std.proofs.Math.Nat.{mod-mod, mod-eq_of_lt, mod-add-mod}
 use Rattle.std.proofs.lemmas.Bool.{cases_lt}
 use Rattle.std.proofs.lemmas.Nat.{div-mul-add, mod-mul-add, mul-mod_second}
 use Rattle.std.proofs.lemmas.List.Elements.{All-get_or}
 use Rattle.std.proofs.lemmas.List.FromFn.{get_or-map-range_with_len}
-use Rattle.std.proofs.lemmas.List.Quantifiers.{position-Some}
 use Rattle.std.proofs.lemmas.List.Sums.{sum_by-append, sum_by-cons}
 use Rattle.definitions.specs.Quiver.{Quiver, letters, source, target, leads, is_path}
 use Rattle.definitions.proofs.Paths.{step}
@@ -14,7 +13,7 @@ use Rattle.quiver.specs.Declarations.{quiver_of}
 use Rattle.word_core.specs.declared.letter.Letter.{Letter}
 use Rattle.adjoint_rules.specs.declared.parts.Shape.{Shape}
 use Rattle.adjoint_rules.specs.declared.problem.Problem.{Problem}
-use Rattle.matrix_models.specs.Matrix.{Matrix, entry_at}
+use Rattle.matrix_models.specs.Matrix.{entry_at}
 use Rattle.matrix_models.specs.Matrices.{matrix_product, total}
 use Rattle.matrix_models.specs.Entries.{same_matrix}
 use Rattle.matrix_models.specs.Laws.{matrices_laws}

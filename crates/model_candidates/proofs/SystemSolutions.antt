@@ -180,20 +180,19 @@ module _ {problem : Problem} {s : Shape} {drawn : List ℕ} (given : AreGiven pr
               (subst (of_system.CanTake system values unknown) draw_is preferred))) (taken_by_unknown value can))
 
         drawn_there : CanTake problem s drawn all place (get_or drawn place 0) → get_or all place 0 ≡ get_or drawn place 0
-        drawn_there can = go (get_or solved place false) refl
-          where
-            go : (b : Bool) → get_or solved place false ≡ b → get_or all place 0 ≡ get_or drawn place 0
-            go true set = drawn_if_set set can
-            go false unset = not_solved unset
+        drawn_there can =
+            elim (get_or solved place false) as (λ b. get_or solved place false ≡ b → get_or all place 0 ≡ get_or drawn place 0) [
+              | true ↦ λ set. drawn_if_set set can
+              | false ↦ λ unset. not_solved unset
+            ] refl
 
         least_there : (value : ℕ) → (CanTake problem s drawn all place (get_or drawn place 0) → ⊥)
             → CanTake problem s drawn all place value → get_or all place 0 ≤ value
-        least_there value cannot can = go (get_or solved place false) refl
-          where
-            go : (b : Bool) → get_or solved place false ≡ b → get_or all place 0 ≤ value
-            go true set = least_if_set set value cannot can
-            go false unset = absurd (cannot (subst (CanTake problem s drawn all place) (not_solved unset) (can_take_own
-                (subst (λ x. place < x) (sym size_of_all) inside) solution)))
+        least_there value cannot can = elim (get_or solved place false) as (λ b. get_or solved place false ≡ b → get_or all place 0 ≤ value) [
+          | true ↦ λ set. least_if_set set value cannot can
+          | false ↦ λ unset. absurd (cannot (subst (CanTake problem s drawn all place) (not_solved unset) (can_take_own
+              (subst (λ x. place < x) (sym size_of_all) inside) solution)))
+        ] refl
 
       pub greedy_filled : IsGreedy problem s drawn all
       greedy_filled = record {
