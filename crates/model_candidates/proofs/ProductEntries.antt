@@ -10,6 +10,10 @@ use Rattle.matrix_models.specs.Totals.{total_mul, total_mod}
 use Rattle.matrix_models.proofs.Congruences.{add_cancel}
 use Rattle.model_candidates.specs.Factors.{residue}
 
+pub residue_below : (m : ℕ) (k : ℤ) → 0 < m → residue m k < m
+residue_below m (pos n) positive = mod-lt n positive
+residue_below m (negsuc n) positive = mod-lt (m - suc n % m) positive
+
 -- multiples have the sides of the matrix
 pub multiple_rows : (m : ℕ) (k : ℤ) (a : Matrix) → (multiple (matrices m) k a).rows ≡ a.rows
 multiple_rows m (pos zero) a = refl

@@ -1,5 +1,5 @@
 -- The terms with a solved letter: their sides and numbers.
-use Rattle.std.proofs.Common.{◌≡◌, ℕ, suc, ◌+◌, ◌-◌, ◌*◌, ◌/◌, ◌%◌, ◌<◌, ℤ, pos, negsuc, Bool, true, false, List, [], ◌∷◌, ◌++◌, length, get_or, replicate, take, drop, Option, Some, None, option_map, refl, sym, ap, ap₂, subst, ◌∙◌, arith, mod-lt, div-lt_iff_lt-mul, cond}
+use Rattle.std.proofs.Common.{◌≡◌, ℕ, suc, ◌+◌, ◌*◌, ◌/◌, ◌%◌, ◌<◌, ℤ, Bool, true, false, List, [], ◌∷◌, ◌++◌, length, get_or, replicate, take, drop, Option, Some, None, option_map, refl, sym, ap, ap₂, subst, ◌∙◌, arith, mod-lt, div-lt_iff_lt-mul, cond}
 use Rattle.std.specs.List.{All, AllByRecursion, position, range_with_len}
 use Rattle.std.proofs.lemmas.Option.{none-some}
 use Rattle.std.proofs.lemmas.List.{take-append-drop, length-replicate}
@@ -18,11 +18,12 @@ use Rattle.model_candidates.specs.declared.solved_terms.SolvedTerm.{SolvedTerm}
 use Rattle.model_candidates.specs.Candidates.{side_in, entries_of, is_solved}
 use Rattle.model_candidates.specs.Unknowns.{solved_flags, set_count, unknown_numbers}
 use Rattle.model_candidates.specs.LetterNumbers.{letter_numbers, letter_value, letter_values, numbers_of_letters}
-use Rattle.model_candidates.specs.Factors.{residue, term_around, solved_term, listed, solved_terms, FitsTerm, HasSides}
+use Rattle.model_candidates.specs.Factors.{term_around, solved_term, listed, solved_terms, FitsTerm, HasSides}
 use Rattle.model_candidates.proofs.DrawnEntries.{flag_of_each}
 use Rattle.model_candidates.proofs.FilledValues.{length-filled}
 use Rattle.model_candidates.proofs.GivenValues.{AreGiven, model, positive, product_ends, quiver, side_object, solved_maps}
 use Rattle.model_candidates.proofs.LetterEntries.{flag_is, has_solved_map, number_below, stands}
+use Rattle.model_candidates.proofs.ProductEntries.{residue_below}
 use Rattle.model_candidates.proofs.Ranges.{all_of_range}
 use Rattle.model_candidates.proofs.WordProducts.{FitLetter, fit_letter}
 
@@ -97,10 +98,6 @@ unsolved_where_none q s solved {a} d are same letter found =
     none_if : (b : Bool) (values : List ℕ) → cond b (Some values) None ≡ None → b ≡ false
     none_if true values is = absurd (none-some values (sym is))
     none_if false values is = refl
-
-pub residue_below : (m : ℕ) (k : ℤ) → 0 < m → residue m k < m
-residue_below m (pos n) positive = mod-lt n positive
-residue_below m (negsuc n) positive = mod-lt (m - suc n % m) positive
 
 -- terms
 module _ {problem : Problem} {s : Shape} {values : List ℕ} (given : AreGiven problem s values) (u v : ℕ)

@@ -19,13 +19,14 @@ use Rattle.matrix_models.specs.Matrices.{matrices, matrix_sum, zero_matrix}
 use Rattle.matrix_models.specs.Entries.{entry_at-matrix_of, same_matrix}
 use Rattle.matrix_models.specs.Laws.{matrices_laws}
 use Rattle.matrix_models.specs.Totals.{add_mod}
+use Rattle.matrix_models.proofs.Congruences.{add_alike}
 use Rattle.adjoint_rules.specs.declared.parts.Shape.{Shape}
 use Rattle.adjoint_rules.specs.declared.problem.Problem.{Problem}
 use Rattle.model_checker.proofs.Places.{all_at}
 use Rattle.model_candidates.specs.Candidates.{side_in}
 use Rattle.model_candidates.specs.Residues.{residue, residues}
 use Rattle.model_candidates.proofs.GivenValues.{AreGiven, f, positive, product, product_ends, represented, side_object, term}
-use Rattle.model_candidates.proofs.ProductEntries.{multiple_columns, multiple_entry, multiple_rows}
+use Rattle.model_candidates.proofs.ProductEntries.{multiple_columns, multiple_entry, multiple_rows, residue_below}
 use Rattle.model_candidates.proofs.WordProducts.{leads_of_path, word_value-product}
 
 -- all letters of a word
@@ -52,7 +53,7 @@ module _ {problem : Problem} {s : Shape} {values : List ℕ} (given : AreGiven p
   abbrev pub value : List (ℤ × List ℕ) → Matrix
   value p = value_at (matrices m) q (f given) u v p
 
-  pub word_leads : (w : List ℕ) {to : ℕ} → to ≡ length w → is_path q u v w ≡ true → leads q u v (drop 0 (take to w)) ≡ true
+  word_leads : (w : List ℕ) {to : ℕ} → to ≡ length w → is_path q u v w ≡ true → leads q u v (drop 0 (take to w)) ≡ true
   word_leads w all path = subst (λ xs. leads q u v xs ≡ true) (sym (whole_word w all)) (leads_of_path q u v w path)
 
   pub value_ends : (p : List (ℤ × List ℕ)) → IsArrow (matrices m) columns rows (value p)
@@ -101,11 +102,25 @@ module _ {problem : Problem} {s : Shape} {values : List ℕ} (given : AreGiven p
         ap (λ xs. get_or xs place 0) are ∙ get_or-map (λ y. residue m y.0) p place t 0 (slice_get_within p place t there)
         ∙ ap (λ y. residue m y.0) here
 
+    pub coefficient_below : (coefficients : List ℕ) → coefficients ≡ residues m p → get_or coefficients place 0 < m
+    coefficient_below coefficients are = subst (λ y. y < m) (sym (coefficient_at coefficients are)) (residue_below m t.0 (positive given))
+
+    pub leads_at : IsCanonical p → IsTyped q u v p → {to : ℕ} → to ≡ length t.1 → leads q u v (drop 0 (take to t.1)) ≡ true
+    leads_at canonical typed all = word_leads t.1 all (path_at canonical typed)
+
     pub sum_more : (i k : ℕ) → sum_by (term given u i k) (take (place + 1) p) ≡ sum_by (term given u i k) (take place p) + term given u i k
         t
     sum_more i k =
         sum_by_more (term given u i k) p place t (slice_get_within p place t there)
         ∙ ap (λ y. sum_by (term given u i k) (take place p) + term given u i k y) here
+
+    -- the sum after the term, by its coefficient and the entry of the product
+    pub next_sum : (coefficients : List ℕ) → coefficients ≡ residues m p → (by i k old new : ℕ) {entry : ℕ}
+        → entry ≡ entry_at (product given u t.1) i k → old % by ≡ sum_by (term given u i k) (take place p) % by
+        → new % by ≡ (old + get_or coefficients place 0 * entry) % by → new % by ≡ sum_by (term given u i k) (take (place + 1) p) % by
+    next_sum coefficients are by i k old new {entry} entry_is so_far added =
+        added ∙ add_alike by old (sum_by (term given u i k) (take place p)) (get_or coefficients place 0 * entry) (term given u i k t) so_far
+        (ap (λ y. y % by) (ap₂ ◌*◌ (coefficient_at coefficients are) entry_is)) ∙ ap (λ y. y % by) (sym (sum_more i k))
 
   pub paths_of : {p : List (ℤ × List ℕ)} → IsCanonical p → IsTyped q u v p → AllByRecursion (λ t. is_path q u v t.1 ≡ true) p
   paths_of {p} canonical typed = recursion_from_All (λ t. is_path q u v t.1 ≡ true) p (words_are_paths q u v p canonical typed)
