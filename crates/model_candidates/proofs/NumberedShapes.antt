@@ -31,11 +31,13 @@ draws_are_values problem s number seed k positive =
     let draw : ℕ → ℕ = λ j. word_of_stream seed number (k * count + j) % s.modulus in
     record {
       one_each = length-map-range_with_len draw 0 count;
-      below = all_of_range (λ value. value < s.modulus) draw count (λ j inside. mod-lt (word_of_stream seed number (k * count + j)) positive);
+      below = all_of_range (λ value. value < s.modulus) draw count
+          (λ j inside. mod-lt (word_of_stream seed number (k * count + j)) positive);
     }
 
 -- the shape of a plan, by its number
-pub plan_fits : {problem : Problem} {plan : Plan} {s : Shape} → IsPlan problem plan → slice_get problem.parts.shapes (plan.number - 1) ≡ Some s
+pub plan_fits : {problem : Problem} {plan : Plan} {s : Shape} → IsPlan problem plan
+    → slice_get problem.parts.shapes (plan.number - 1) ≡ Some s
     → FitsShape problem s plan
 plan_fits {problem} {plan} {s} is there = is.fits s (shape_numbered problem is.least there)
 

@@ -27,7 +27,8 @@ module _ {problem : Problem} {s : Shape} {plan : Plan} (fits : FitsShape problem
     zeros = filled plan.solved drawn (unit_values (set_count plan.solved) (set_count plan.solved))
 
     pub plan_start : AreGiven problem s zeros
-    plan_start = subst (λ flags. AreGiven problem s (filled flags drawn (unit_values (set_count flags) (set_count flags)))) (sym fits.solved)
+    plan_start = subst (λ flags. AreGiven problem s (filled flags drawn (unit_values (set_count flags) (set_count flags))))
+        (sym fits.solved)
         (start given)
 
     pub value_of_each_flag : length drawn ≡ length plan.solved

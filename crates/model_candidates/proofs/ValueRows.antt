@@ -119,7 +119,8 @@ module _ {problem : Problem} {s : Shape} {values : List ℕ} (given : AreGiven p
         → entry ≡ entry_at (product given u t.1) i k → old % by ≡ sum_by (term given u i k) (take place p) % by
         → new % by ≡ (old + get_or coefficients place 0 * entry) % by → new % by ≡ sum_by (term given u i k) (take (place + 1) p) % by
     next_sum coefficients are by i k old new {entry} entry_is so_far added =
-        added ∙ add_alike by old (sum_by (term given u i k) (take place p)) (get_or coefficients place 0 * entry) (term given u i k t) so_far
+        added ∙ add_alike by old (sum_by (term given u i k) (take place p)) (get_or coefficients place 0 * entry) (term given u i k t)
+        so_far
         (ap (λ y. y % by) (ap₂ ◌*◌ (coefficient_at coefficients are) entry_is)) ∙ ap (λ y. y % by) (sym (sum_more i k))
 
   pub paths_of : {p : List (ℤ × List ℕ)} → IsCanonical p → IsTyped q u v p → AllByRecursion (λ t. is_path q u v t.1 ≡ true) p

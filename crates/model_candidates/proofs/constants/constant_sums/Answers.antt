@@ -53,13 +53,15 @@ loop-place-preserved-in-Some c =
 pub word_row-product-requires-clause-leads : goal.word_row-product-requires-clause-leads
 word_row-product-requires-clause-leads c =
     let p = c.args.poly.now in
-    leads_at (given_of c.requires.known.given) c.args.ends.source.0 c.args.ends.target.0 c.requires.source c.requires.target p.terms c.loop-place.place
+    leads_at (given_of c.requires.known.given) c.args.ends.source.0 c.args.ends.target.0 c.requires.source c.requires.target p.terms
+    c.loop-place.place
     (c.term.result.0, c.term.result.1.now) c.term.ensures p.canonical c.requires.typed c.len.ensures.exact
 
 pub add_multiple-requires-clause-times : goal.add_multiple-requires-clause-times
 add_multiple-requires-clause-times c =
     subst (λ n. get_or c.args.coefficients.now c.loop-place.place 0 < n) (sym c.from-modulus.ensures)
-    (coefficient_below (given_of c.requires.known.given) c.args.ends.source.0 c.args.ends.target.0 c.requires.source c.requires.target c.args.poly.now.terms
+    (coefficient_below (given_of c.requires.known.given) c.args.ends.source.0 c.args.ends.target.0 c.requires.source c.requires.target
+    c.args.poly.now.terms
     c.loop-place.place (c.term.result.0, c.term.result.1.now) c.term.ensures c.args.coefficients.now c.requires.coefficients)
 
 pub loop-place-preserved : goal.loop-place-preserved
@@ -70,7 +72,8 @@ loop-place-preserved c =
       size = c.add_multiple.ensures.size;
       below = c.add_multiple.ensures.below;
       each = λ k inside.
-          next_sum (given_of c.requires.known.given) u c.args.ends.target.0 c.requires.source c.requires.target c.args.poly.now.terms c.loop-place.place
+          next_sum (given_of c.requires.known.given) u c.args.ends.target.0 c.requires.source c.requires.target c.args.poly.now.terms
+          c.loop-place.place
           (c.term.result.0, w) c.term.ensures c.args.coefficients.now c.requires.coefficients c.from-modulus.result c.args.row k _ _
           (c.word_row-product.ensures.row k (subst (λ n. k < n) c.side_at-columns.ensures.value inside)
           ∙ ap (λ xs. entry_at (product_in c.args.known.now.given u xs) c.args.row k) (whole_word w c.len.ensures.exact))
