@@ -12,7 +12,8 @@ use Rattle.matrix_models.specs.declared.system.System.{System}
 use Rattle.matrix_models.specs.Systems.{AreValues, Holds, Solves}
 use Rattle.matrix_models.specs.Greedy.{Extends, CanTake, IsGreedy, HasGreedySolution}
 use Rattle.matrix_models.specs.Blocks.{IsWithin, IsOutside, IsPart, numbered, AreParts, HasSolution, joined}
-use Rattle.matrix_models.proofs.GreedySolutions.{can_take_own, same_fronts}
+use Rattle.matrix_models.proofs.GreedyLists.{same_fronts}
+use Rattle.matrix_models.proofs.GreedySolutions.{can_take_own}
 use Rattle.matrix_models.proofs.GreedyExistence.{has_greedy_solution}
 
 -- an equation holds with other values for unknowns whose factor is 0

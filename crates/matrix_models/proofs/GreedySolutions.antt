@@ -1,14 +1,13 @@
--- Greedy solutions: what is left by pivots is one, there is at most one, and a solvable system has one.
-use Rattle.std.proofs.Common.{◌≡◌, ℕ, zero, suc, ◌+◌, ◌*◌, ◌%◌, ◌<◌, ◌≤◌, List, [], ◌∷◌, ◌++◌, length, get_or, take, drop, Option, Some, None, ◌⊎◌, inl, inr, sym, refl, ap, ap₂, subst, ◌∙◌, arith}
-use Rattle.std.proofs.lemmas.Bool.{cases_eq}
-use Rattle.std.proofs.lemmas.List.{get_or_at, get_or_append_left, get_or-take, length-take-le, take_all, take_more, take_more_same, take-append-drop, append_assoc}
+-- What is left by pivots is a greedy solution.
+use Rattle.std.proofs.Common.{◌≡◌, ℕ, ◌+◌, ◌*◌, ◌%◌, ◌<◌, ◌≤◌, List, [], ◌∷◌, ◌++◌, length, get_or, take, drop, Option, Some, None, sym, refl, ap, ap₂, subst, ◌∙◌, arith}
+use Rattle.std.proofs.lemmas.List.{get_or_at, get_or_append_left, get_or-take, length-take-le, take_more, take-append-drop, append_assoc}
 use Rattle.std.proofs.lemmas.List.Elements.{All-get_or}
 use Rattle.std.proofs.Math.Nat.{mod-eq_of_lt}
 use Rattle.matrix_models.specs.Matrices.{total}
 use Rattle.matrix_models.specs.Totals.{total_same}
 use Rattle.matrix_models.specs.declared.system.System.{System}
 use Rattle.matrix_models.specs.Systems.{Solves}
-use Rattle.matrix_models.specs.Greedy.{Extends, CanTake, IsGreedy}
+use Rattle.matrix_models.specs.Greedy.{CanTake, IsGreedy}
 use Rattle.matrix_models.specs.Elimination.{MeetsAll, ArePivots}
 use Rattle.matrix_models.specs.Pivots.{Pivots, StandFor}
 use Rattle.matrix_models.proofs.Congruences.{add_cancel}
@@ -98,41 +97,3 @@ greedy-left s p prefer values stand so_far =
     solved : IsSolvedTo s.modulus s.unknowns s.unknowns p.rows prefer values
     solved = subst (λ n. IsSolvedTo s.modulus n n p.rows prefer values) stand.size
         (subst (λ m. IsSolvedTo m (length p.rows) (length p.rows) p.rows prefer values) stand.modulus so_far)
-
--- lists that agree at each place where they agree before it
-pub same_fronts : (values others : List ℕ) (n : ℕ) → n ≤ length values → n ≤ length others
-    → ((place : ℕ) → place < n → take place values ≡ take place others → get_or values place 0 ≡ get_or others place 0) → take n values ≡ take n others
-same_fronts values others zero in_values in_others step = refl
-same_fronts values others (suc n) in_values in_others step =
-    let before = same_fronts values others n (omega arith) (omega arith) (λ place within. step place (omega arith)) in
-    let next : suc n ≡ n + 1 = omega arith in
-    ap (λ x. take x values) next ∙ take_more_same values others n 0 (omega arith) (omega arith) before (step n (omega arith) before) ∙ ap (λ x. take x others) (sym next)
-
-pub greedy_is_unique : (s : System) (prefer values others : List ℕ) → IsGreedy s prefer values → IsGreedy s prefer others → values ≡ others
-greedy_is_unique s prefer values others first second =
-    sym (take_all s.unknowns values (omega (arith, first.solves.are_values.one_each)))
-    ∙ same_fronts values others s.unknowns (omega (arith, first.solves.are_values.one_each)) (omega (arith, second.solves.are_values.one_each)) one_place
-    ∙ take_all s.unknowns others (omega (arith, second.solves.are_values.one_each))
-  where
-    -- preferred by one, and so by the other
-    shared : (values others : List ℕ) → IsGreedy s prefer values → IsGreedy s prefer others → (place : ℕ) → place < s.unknowns → take place values ≡ take place others
-        → get_or values place 0 ≡ get_or prefer place 0 → get_or values place 0 ≡ get_or others place 0
-    shared values others first second place within same chosen =
-        chosen ∙ sym (second.preferred place within
-        (subst (λ x. Extends s (x ++ get_or prefer place 0 ∷ [])) same
-        (subst (CanTake s values place) chosen (can_take_own s values place within first.solves))))
-
-    one_place : (place : ℕ) → place < s.unknowns → take place values ≡ take place others → get_or values place 0 ≡ get_or others place 0
-    one_place place within same = go (cases_eq (get_or values place 0) (get_or prefer place 0)) (cases_eq (get_or others place 0) (get_or prefer place 0))
-      where
-        go : (get_or values place 0 ≡ get_or prefer place 0) ⊎ (get_or values place 0 ≡ get_or prefer place 0 → ⊥)
-            → (get_or others place 0 ≡ get_or prefer place 0) ⊎ (get_or others place 0 ≡ get_or prefer place 0 → ⊥)
-            → get_or values place 0 ≡ get_or others place 0
-        go (inl chosen) _ = shared values others first second place within same chosen
-        go (inr not_chosen) (inl chosen) = sym (shared others values second first place within (sym same) chosen)
-        go (inr not_chosen) (inr not_chosen_either) =
-            let up = first.least place (get_or others place 0) within (λ can. not_chosen (first.preferred place within can))
-            (subst (λ x. Extends s (x ++ get_or others place 0 ∷ [])) (sym same) (can_take_own s others place within second.solves)) in
-            let down = second.least place (get_or values place 0) within (λ can. not_chosen_either (second.preferred place within can))
-            (subst (λ x. Extends s (x ++ get_or values place 0 ∷ [])) same (can_take_own s values place within first.solves)) in
-            omega (arith, up, down)

@@ -8,6 +8,7 @@ pub mod Reducing
 pub mod BackSolving
 pub mod Reduction
 pub mod AddedEquations
+pub mod GreedyLists
 pub mod GreedySolutions
 pub mod GreedyExistence
 pub mod Blocks

@@ -2,8 +2,8 @@
 use Rattle.std.proofs.Common.{◌≡◌, ℕ, ◌+◌, ◌<◌, ℤ, pos, Bool, true, false, cond, not, ◌&&◌, List, [], ◌∷◌, ◌++◌, get_or, take, filter, Some, slice_get, option_map, refl, sym, ap, subst, ◌∙◌}
 use Rattle.std.specs.List.{All, AllByRecursion}
 use Rattle.std.proofs.lemmas.Bool.{and_parts}
-use Rattle.std.proofs.lemmas.List.{take_more, map-append}
-use Rattle.std.proofs.lemmas.List.Elements.{All-from_get_or, All-from_recursion, All-get_or, filter-append}
+use Rattle.std.proofs.lemmas.List.{take_more}
+use Rattle.std.proofs.lemmas.List.Elements.{All-from_get_or, All-from_recursion, All-get_or}
 use Rattle.std.proofs.lemmas.Option.{get_or_from_slice_get, slice_get-map, slice_get_within}
 use Rattle.definitions.specs.Quiver.{Quiver, letters, IsTyped, is_path}
 use Rattle.definitions.specs.Soundness.{HasSignature, HasValueZeroAt}
@@ -25,27 +25,17 @@ use Rattle.model_candidates.specs.Candidates.{is_linear}
 use Rattle.model_candidates.specs.Plans.{AreAsked, AreLinearAssumptions, IsAssumption, IsZeroAtSignature, has_few, is_asked}
 use Rattle.model_checker.proofs.Places.{all_at, zip_at}
 use Rattle.model_checker.proofs.Values.{zero_from_value}
+use Rattle.model_candidates.proofs.AssumptionTerms.{all_kept, of_kept}
 
--- lists that are filtered
-pub filter_more : {X : Type 0} (keep : X → Bool) (xs : List X) (k : ℕ) {x : X} → slice_get xs k ≡ Some x
-    → filter keep (take (k + 1) xs) ≡ filter keep (take k xs) ++ cond (keep x) (x ∷ []) []
-filter_more keep xs k {x} is =
-    ap (filter keep) (take_more xs k x (slice_get_within xs k x is) ∙ ap (λ y. take k xs ++ y ∷ []) (get_or_from_slice_get xs k x x is))
-    ∙ filter-append keep (take k xs) (x ∷ [])
-
+-- with one polynomial more
 pub kept_more : (P : List (ℤ × List ℕ) → Type 0) (keep : Poly → Bool) (ps : List Poly) (k : ℕ) {p : Poly} → slice_get ps k ≡ Some p
     → AllByRecursion P (polynomials (filter keep (take k ps))) → (keep p ≡ true → P p.terms)
     → AllByRecursion P (polynomials (filter keep (take (k + 1) ps)))
-kept_more P keep ps k {p} is before here = subst (λ xs. AllByRecursion P (polynomials xs)) (sym (filter_more keep ps k is))
-    (go (keep p) here)
-  where
-    go : (b : Bool) → (b ≡ true → P p.terms) → AllByRecursion P (polynomials (filter keep (take k ps) ++ cond b (p ∷ []) []))
-    go b h = subst (AllByRecursion P) (sym (map-append (λ (r : Poly). r.terms) (filter keep (take k ps)) (cond b (p ∷ []) [])))
-        (all-append P (polynomials (filter keep (take k ps))) (polynomials (cond b (p ∷ []) [])) before (one b h))
-      where
-        one : (b : Bool) → (b ≡ true → P p.terms) → AllByRecursion P (polynomials (cond b (p ∷ []) []))
-        one true h = (h refl, tt)
-        one false h = tt
+kept_more P keep ps k {p} is before here =
+    let more = take_more ps k p (slice_get_within ps k p is) ∙ ap (λ y. take k ps ++ y ∷ []) (get_or_from_slice_get ps k p p is) in
+    let Kept : Poly → Type 0 = λ r. keep r ≡ true → P r.terms in
+    all_kept P keep (take (k + 1) ps)
+    (subst (AllByRecursion Kept) (sym more) (all-append Kept (take k ps) (p ∷ []) (of_kept P keep (take k ps) before) (here, tt)))
 
 -- assumptions
 pub letters_within : {q : Quiver} (p : Poly) → HasSignature q p.terms → All (λ t. All (λ letter. letter < letters q) t.1) p.terms
@@ -102,42 +92,27 @@ module _ (problem : Problem) where
 
   -- both kinds
   split : (P : List (ℤ × List ℕ) → Type 0) (ps : List Poly)
-      → AllByRecursion P (polynomials (filter (λ p. is_asked q problem.parts.solved true p.terms) ps))
-      → AllByRecursion P (polynomials (filter (λ p. is_asked q problem.parts.solved false p.terms) ps))
-      → AllByRecursion P (polynomials (filter (is_linear q problem.parts.solved) ps))
+      → AllByRecursion (λ p. is_asked q problem.parts.solved true p.terms ≡ true → P p.terms) ps
+      → AllByRecursion (λ p. is_asked q problem.parts.solved false p.terms ≡ true → P p.terms) ps
+      → AllByRecursion (λ p. is_linear q problem.parts.solved p ≡ true → P p.terms) ps
   split P [] known other = tt
-  split P (p ∷ ps) known other = go (has_few q problem.parts.solved 0 p.terms) (has_few q problem.parts.solved 1 p.terms) known other (split P ps)
-    where
-      front_rest : List Poly
-      front_rest = filter (λ r. is_asked q problem.parts.solved true r.terms) ps
-
-      back_rest : List Poly
-      back_rest = filter (λ r. is_asked q problem.parts.solved false r.terms) ps
-
-      whole_rest : List Poly
-      whole_rest = filter (is_linear q problem.parts.solved) ps
-
-      front : Bool → List Poly
-      front b = cond b (p ∷ front_rest) front_rest
-
-      back : Bool → List Poly
-      back b = cond b (p ∷ back_rest) back_rest
-
-      whole : Bool → List Poly
-      whole b = cond b (p ∷ whole_rest) whole_rest
-
-      go : (b c : Bool) → AllByRecursion P (polynomials (front b)) → AllByRecursion P (polynomials (back (c && not b)))
-          → (AllByRecursion P (polynomials front_rest) → AllByRecursion P (polynomials back_rest) → AllByRecursion P (polynomials whole_rest))
-          → AllByRecursion P (polynomials (whole c))
-      go true true known other later = (known.0, later known.1 other)
-      go true false known other later = later known.1 other
-      go false true known other later = (other.0, later known other.1)
-      go false false known other later = later known other
+  split P (p ∷ ps) known other = (
+    λ linear. elim (has_few q problem.parts.solved 0 p.terms) as
+        (λ b. (b ≡ true → P p.terms) → ((has_few q problem.parts.solved 1 p.terms && not b) ≡ true → P p.terms) → P p.terms) [
+          | true ↦ λ by_known by_other. by_known refl
+          | false ↦ λ by_known by_other. by_other (ap (λ b. b && true) linear)
+        ] known.0 other.0,
+    split P ps known.1 other.1,
+  )
 
   pub both_asked : {conditions equations : List LinearAssumption} → AreAsked problem true conditions → AreAsked problem false equations
       → AreLinearAssumptions problem conditions equations
   both_asked known other = record {
     each_condition = known.each;
     each = other.each;
-    all = λ m holds zero. split (IsZeroIn problem m) problem.parts.assumptions (known.all m holds) (other.all m zero);
+    all = λ m holds zero.
+        let ps = problem.parts.assumptions in
+        all_kept (IsZeroIn problem m) (is_linear q problem.parts.solved) ps (split (IsZeroIn problem m) ps
+        (of_kept (IsZeroIn problem m) (λ p. is_asked q problem.parts.solved true p.terms) ps (known.all m holds))
+        (of_kept (IsZeroIn problem m) (λ p. is_asked q problem.parts.solved false p.terms) ps (other.all m zero)));
   }

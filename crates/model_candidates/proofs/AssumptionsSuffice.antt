@@ -1,6 +1,6 @@
 -- In a model the linear assumptions are zero exactly where all linear generators are: adjoints are zero with what they are the adjoints of, and the relations of
 -- identities are zero anyway.
-use Rattle.std.proofs.Common.{◌≡◌, ◌≢◌, ℕ, ◌+◌, ◌<◌, ◌≤◌, ℤ, negsuc, pos, Bool, true, false, cond, ◌||◌, nat_eq, nat_le, List, [], ◌∷◌, ◌++◌, length, get_or, filter, refl, sym, ap, ap₂, subst, ◌∙◌, arith, eqb-true, eq-eqb, true≢false}
+use Rattle.std.proofs.Common.{◌≡◌, ◌≢◌, ℕ, ◌+◌, ◌<◌, ◌≤◌, ℤ, negsuc, pos, Bool, true, false, cond, ◌||◌, nat_eq, nat_le, List, [], ◌∷◌, ◌++◌, length, get_or, filter, refl, sym, ap, ap₂, subst, ◌∙◌, arith, eqb-true, eq-eqb}
 use Rattle.std.specs.List.{All, AllByRecursion, AllZip, flat_map, list_all, list_any}
 use Rattle.std.proofs.lemmas.Bool.{le-leb}
 use Rattle.std.proofs.lemmas.List.{length-append}
@@ -32,7 +32,8 @@ use Rattle.model_checker.specs.Representations.{representation_of}
 use Rattle.model_checker.proofs.Arrows.{star_represents}
 use Rattle.model_candidates.specs.Candidates.{is_linear, is_solved, linear_generators, solved_count}
 use Rattle.model_candidates.specs.Plans.{linear_assumptions}
-use Rattle.model_candidates.proofs.AffineValues.{few_words}
+use Rattle.model_candidates.proofs.AssumptionTerms.{all_kept, of_kept}
+use Rattle.model_candidates.proofs.SolvedWords.{few_words, kept_first}
 
 -- linear polynomials
 same_truth : (b c : Bool) → (b ≡ true → c ≡ true) → (c ≡ true → b ≡ true) → b ≡ c
@@ -94,29 +95,14 @@ module _ (q : Quiver) (quiver : IsQuiver q) (solved : List Letter) where
           ap₂ ◌||◌ (star_moved a l.0) (star_moved a (star q l.0) ∙ ap (nat_eq a) (star_star_each q quiver l.0))
           ∙ or_turned (nat_eq a (star q l.0)) (nat_eq a l.0)
 
-  count_one : (a : ℕ) → solved_count q solved (a ∷ []) ≡ cond (is_solved q solved a) 1 0
-  count_one a = go (is_solved q solved a)
-    where
-      go : (b : Bool) → length (cond b (a ∷ []) []) ≡ cond b 1 0
-      go true = refl
-      go false = refl
-
-  count_first : (a : ℕ) (w : List ℕ) → solved_count q solved (a ∷ w) ≡ cond (is_solved q solved a) 1 0 + solved_count q solved w
-  count_first a w = go (is_solved q solved a)
-    where
-      go : (b : Bool) → length (cond b (a ∷ filter (is_solved q solved) w) (filter (is_solved q solved) w))
-          ≡ cond b 1 0 + solved_count q solved w
-      go true = omega arith
-      go false = omega arith
-
   count-adjoint_word : (w : List ℕ) → solved_count q solved (adjoint_word q w) ≡ solved_count q solved w
   count-adjoint_word [] = refl
   count-adjoint_word (a ∷ w) =
       let keep = is_solved q solved in
       let both = ap length (filter-append keep (adjoint_word q w) (star q a ∷ []))
       ∙ length-append (filter keep (adjoint_word q w)) (filter keep (star q a ∷ [])) in
-      let last = count_one (star q a) ∙ ap (λ b. cond b 1 0) (solved_adjoint a) in
-      omega (arith, both, last, count-adjoint_word w, count_first a w)
+      let last = kept_first keep (star q a) [] ∙ ap (λ b. cond b 1 0 + 0) (solved_adjoint a) in
+      omega (arith, both, last, count-adjoint_word w, kept_first keep a w)
 
   linear_from_adjoint : (p : List (ℤ × List ℕ)) → IsLinear (adjoint_poly q p) → IsLinear p
   linear_from_adjoint p linear w there =
@@ -142,24 +128,18 @@ module _ (problem : Problem) (m : Model) where
 
   -- from the generators
   first_ones : (ps : List Poly) (more : List (List (ℤ × List ℕ))) (gs : List Poly) → AllZip SamePolynomial (polynomials gs) (polynomials ps ++ more)
-      → AllByRecursion IsZero (polynomials (filter keep gs)) → AllByRecursion IsZero (polynomials (filter keep ps))
+      → AllByRecursion (λ g. keep g ≡ true → IsZero g.terms) gs → AllByRecursion (λ p. keep p ≡ true → IsZero p.terms) ps
   first_ones [] more gs same zero = tt
   first_ones (p ∷ ps) more [] same zero = absurd same
   first_ones (p ∷ ps) more (g ∷ gs) same zero =
-      subst (λ b. AllByRecursion IsZero (polynomials (cond b (p ∷ filter keep ps) (filter keep ps))))
-      (ap (λ ts. list_all (λ t. nat_le (solved_count q' maps t.1) 1) ts) terms) (go (keep g) zero (first_ones ps more gs same.1))
-    where
-      terms : g.terms ≡ p.terms
-      terms = canonical_unique g.terms p.terms g.canonical p.canonical same.0
-
-      go : (b : Bool) → AllByRecursion IsZero (polynomials (cond b (g ∷ filter keep gs) (filter keep gs)))
-          → (AllByRecursion IsZero (polynomials (filter keep gs)) → AllByRecursion IsZero (polynomials (filter keep ps)))
-          → AllByRecursion IsZero (polynomials (cond b (p ∷ filter keep ps) (filter keep ps)))
-      go true rest later = (subst IsZero terms rest.0, later rest.1)
-      go false rest later = later rest
+      let terms = canonical_unique g.terms p.terms g.canonical p.canonical same.0 in (
+        subst (λ ts. list_all (λ t. nat_le (solved_count q' maps t.1) 1) ts ≡ true → IsZero ts) terms zero.0,
+        first_ones ps more gs same.1 zero.1,
+      )
 
   pub linear_assumptions_are_zero : AllByRecursion IsZero (polynomials (linear_generators problem)) → AllByRecursion IsZero (linear_assumptions problem)
-  linear_assumptions_are_zero = first_ones problem.parts.assumptions _ problem.generators problem.closed.same
+  linear_assumptions_are_zero zero = all_kept IsZero keep problem.parts.assumptions
+      (first_ones problem.parts.assumptions _ problem.generators problem.closed.same (of_kept IsZero keep problem.generators zero))
 
   -- from the assumptions
   module _ (model : IsModel q' m) (matrices_are : HaveMatrices q' m (letters q')) where
@@ -176,15 +156,9 @@ module _ (problem : Problem) (m : Model) where
     abbrev IsZeroIfLinear : List (ℤ × List ℕ) → Type 0
     IsZeroIfLinear p = IsLinear q' posed maps p → IsZero p
 
-    own : (ps : List Poly) → AllByRecursion IsZero (polynomials (filter keep ps)) → AllByRecursion IsZeroIfLinear (polynomials ps)
+    own : (ps : List Poly) → AllByRecursion (λ p. keep p ≡ true → IsZero p.terms) ps → AllByRecursion IsZeroIfLinear (polynomials ps)
     own [] zero = tt
-    own (p ∷ ps) zero = go (keep p) refl zero (own ps)
-      where
-        go : (b : Bool) → keep p ≡ b → AllByRecursion IsZero (polynomials (cond b (p ∷ filter keep ps) (filter keep ps)))
-            → (AllByRecursion IsZero (polynomials (filter keep ps)) → AllByRecursion IsZeroIfLinear (polynomials ps))
-            → AllByRecursion IsZeroIfLinear (polynomials (p ∷ ps))
-        go true kept rest later = (λ linear. rest.0, later rest.1)
-        go false other rest later = (λ linear. absurd (true≢false (sym (poly_linear q' posed maps p linear) ∙ other)), later rest)
+    own (p ∷ ps) zero = (λ linear. zero.0 (poly_linear q' posed maps p linear), own ps zero.1)
 
     of_adjoint : (p : List (ℤ × List ℕ)) → IsZeroIfLinear p → AllByRecursion IsZeroIfLinear (new_adjoint q' p)
     of_adjoint p zero = go (poly_eq (adjoint_poly q' p) p || poly_eq (adjoint_poly q' p) (poly_multiple (negsuc 0) p))
@@ -205,12 +179,10 @@ module _ (problem : Problem) (m : Model) where
 
     of_units : (starred : Bool) (marked : List ℕ) → AllByRecursion (λ v. v < q'.objects) marked
         → AllByRecursion IsZero (flat_map (units q' starred) marked)
-    of_units starred marked inside = go starred (sound.generators q' starred marked [] posed inside f rep tt)
-      where
-        go : (b : Bool) → AllByRecursion IsZero (cond b [] [] ++ flat_map (units q' starred) marked)
-            → AllByRecursion IsZero (flat_map (units q' starred) marked)
-        go true zero = zero
-        go false zero = zero
+    of_units starred marked inside =
+        elim starred as (λ b. AllByRecursion IsZero (cond b [] [] ++ flat_map (units q' starred) marked)
+        → AllByRecursion IsZero (flat_map (units q' starred) marked)) [ true ↦ λ zero. zero | false ↦ λ zero. zero ]
+        (sound.generators q' starred marked [] posed inside f rep tt)
 
     of_definition : (starred : Bool) (marked : List ℕ) → AllByRecursion (λ v. v < q'.objects) marked → (ps : List (List (ℤ × List ℕ)))
         → AllByRecursion IsZeroIfLinear ps
@@ -227,20 +199,17 @@ module _ (problem : Problem) (m : Model) where
     same_zero {r} {p} same zero = (zero_along (matrices_laws m.modulus) q' f rep.represents (r ∷ []) (p ∷ []) (same, tt) (zero, tt)).0
 
     back : (gs : List Poly) (ps : List (List (ℤ × List ℕ))) → AllZip SamePolynomial (polynomials gs) ps → AllByRecursion IsZeroIfLinear ps
-        → AllByRecursion IsZero (polynomials (filter keep gs))
+        → AllByRecursion (λ g. keep g ≡ true → IsZero g.terms) gs
     back [] [] same zero = tt
     back [] (p ∷ ps) same zero = absurd same
     back (g ∷ gs) [] same zero = absurd same
-    back (g ∷ gs) (p ∷ ps) same zero = go (keep g) refl (back gs ps same.1 zero.1)
-      where
-        go : (b : Bool) → keep g ≡ b → AllByRecursion IsZero (polynomials (filter keep gs))
-            → AllByRecursion IsZero (polynomials (cond b (g ∷ filter keep gs) (filter keep gs)))
-        go true kept rest =
-            (same_zero same.0 (zero.0 (linear_same q' posed maps g.terms p same.0 (linear_poly q' posed maps g kept))), rest)
-        go false other rest = rest
+    back (g ∷ gs) (p ∷ ps) same zero = (
+      λ kept. same_zero same.0 (zero.0 (linear_same q' posed maps g.terms p same.0 (linear_poly q' posed maps g kept))),
+      back gs ps same.1 zero.1,
+    )
 
     pub linear_generators_are_zero : AllByRecursion IsZero (linear_assumptions problem) → AllByRecursion IsZero (polynomials (linear_generators problem))
     linear_generators_are_zero zero =
-        back problem.generators (generators_in problem.parts) problem.closed.same
+        all_kept IsZero keep problem.generators (back problem.generators (generators_in problem.parts) problem.closed.same
         (of_definition problem.parts.starred (numbers problem.parts.marked) (marked_are_objects problem.parts problem.posed)
-        (polynomials problem.parts.assumptions) (own problem.parts.assumptions zero))
+        (polynomials problem.parts.assumptions) (own problem.parts.assumptions (of_kept IsZero keep problem.parts.assumptions zero))))

@@ -41,13 +41,15 @@ shown_either_way q a i j self = go (cases_order i j)
     go (inr (inl less)) = shown_mirrored q a self less ∙ sym (shown_behind q a i j (omega (arith, less)))
     go (inr (inr less)) = shown_behind q a j i (omega (arith, less)) ∙ sym (shown_mirrored q a self less)
 
+pub is_declared : {q : Quiver} {a : ℕ} → IsMap q a → is_declared_map q a ≡ true
+is_declared {q} {a} is = ap₂ ◌&&◌ (le-leb q.objects a is.map) (le-leb a (star q a) is.declared)
+
 -- a declared map has the matrix of its entries, whatever the values are
 pub map_at-model_by : {q : Quiver} (s : Shape) (claim : ℕ) (values : List ℕ) {a : ℕ} → IsMap q a
     → map_at (model_by q s claim values) a ≡ Some (matrix_by q s values a)
 map_at-model_by {q} s claim values {a} is =
-    let declared : is_declared_map q a ≡ true = ap₂ ◌&&◌ (le-leb q.objects a is.map) (le-leb a (star q a) is.declared) in
     get_or-map-range_with_len (place_by q s values) 0 (letters q) a a None is.letter (omega arith)
-    ∙ ap (λ b. cond b (Some (matrix_by q s values a)) None) declared
+    ∙ ap (λ b. cond b (Some (matrix_by q s values a)) None) (is_declared is)
 
 module _ (q : Quiver) (s : Shape) (quiver : IsQuiver q) (shape : IsShape q.objects s) where
   pub modulus_of_shape : IsModulus s.modulus

@@ -1,7 +1,7 @@
 -- Values are drawn at the entries that aren't solved for exactly where they are where the flag isn't set.
-use Rattle.std.proofs.Common.{◌≡◌, ℕ, ◌<◌, Bool, true, false, not, ◌&&◌, nat_eq, eqb-true, List, length, get_or, Some, refl, sym, ap, subst, ◌∙◌}
+use Rattle.std.proofs.Common.{◌≡◌, ℕ, ◌<◌, Bool, true, false, not, List, length, get_or, Some, refl, sym, ap, subst, ◌∙◌}
 use Rattle.std.specs.List.{position}
-use Rattle.std.proofs.lemmas.Bool.{false≢true, and_parts}
+use Rattle.std.proofs.lemmas.Bool.{false≢true}
 use Rattle.std.proofs.lemmas.List.{length-map, get_or-map}
 use Rattle.std.proofs.lemmas.List.Quantifiers.{position-Some}
 use Rattle.definitions.specs.Quiver.{Quiver}
@@ -9,11 +9,8 @@ use Rattle.word_core.specs.declared.letter.Letter.{Letter}
 use Rattle.adjoint_rules.specs.declared.parts.Shape.{Shape}
 use Rattle.model_candidates.specs.Candidates.{Entry, entry, is_same_entry, is_solved_map, entries_of}
 use Rattle.model_candidates.specs.Unknowns.{solved_flags}
-use Rattle.model_candidates.proofs.DistinctEntries.{place_of_own}
+use Rattle.model_candidates.proofs.EntryPlaces.{place_of_own, same_entry}
 use Rattle.model_candidates.proofs.SolvedEntries.{IsAsDrawn}
-
-same_entry : (x y : Entry) → is_same_entry x y ≡ true → x.map ≡ y.map
-same_entry x y same = eqb-true x.map y.map (and_parts (nat_eq x.map y.map) (nat_eq x.row y.row && nat_eq x.column y.column) same).0
 
 not_set : (b : Bool) → not b ≡ true → b ≡ false
 not_set true h = absurd (false≢true h)
@@ -31,7 +28,7 @@ module _ (q : Quiver) (s : Shape) (maps : List Letter) where
   pub flag_of_each : length flags ≡ length (entries_of q s)
   flag_of_each = length-map (entries_of q s) (λ x. is_solved_map maps x.map)
 
-  flag_at : {place : ℕ} → place < length flags → get_or flags place false ≡ is_solved_map maps
+  pub flag_at : {place : ℕ} → place < length flags → get_or flags place false ≡ is_solved_map maps
       (get_or (entries_of q s) place (entry 0 0 0)).map
   flag_at {place} inside = get_or-map (λ x. is_solved_map maps x.map) (entries_of q s) place (entry 0 0 0) false
       (subst (λ n. place < n) flag_of_each inside)

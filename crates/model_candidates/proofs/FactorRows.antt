@@ -5,9 +5,9 @@ use Rattle.std.specs.List.{All, sum_by, range_with_len}
 use Rattle.std.proofs.Math.Nat.{mod-mod, mod-eq_of_lt}
 use Rattle.std.proofs.lemmas.Bool.{cases_eq}
 use Rattle.std.proofs.lemmas.Nat.{div-mul-add, mod-mul-add, mul-mod_first}
-use Rattle.std.proofs.lemmas.List.{ext_get_or, get_or-set_same, get_or-set_other, take_more}
-use Rattle.std.proofs.lemmas.List.Elements.{All-get_or, All-map, All-from_get_or}
-use Rattle.std.proofs.lemmas.List.FromFn.{get_or-map-range_with_len, length-map-range_with_len}
+use Rattle.std.proofs.lemmas.List.{get_or-set_same, get_or-set_other, take_more}
+use Rattle.std.proofs.lemmas.List.Elements.{All-get_or}
+use Rattle.std.proofs.lemmas.List.FromFn.{fill_by_all, length-map-range_with_len}
 use Rattle.std.proofs.lemmas.List.Sums.{sum_by_push}
 use Rattle.matrix_models.specs.Matrix.{Matrix, entry_at}
 use Rattle.matrix_models.specs.Matrices.{total}
@@ -16,6 +16,7 @@ use Rattle.matrix_models.specs.Totals.{total_zero}
 use Rattle.matrix_models.proofs.Congruences.{add_alike}
 use Rattle.model_candidates.specs.declared.solved_terms.SolvedTerm.{SolvedTerm}
 use Rattle.model_candidates.specs.Factors.{line_factor, place_factor, term_factor, terms_factor, row_with}
+use Rattle.model_candidates.proofs.Ranges.{all_of_range}
 
 -- Numbers below m, so many, that are what the unknowns add in these terms.
 pub record AreSums (m n : ℕ) (ts : List SolvedTerm) (i j : ℕ) (factors : List ℕ) : Type 0 where
@@ -147,11 +148,8 @@ term_added m i j k old new {index} ts {t} inside is added so_far =
 -- a list of residues
 pub residues : {m n : ℕ} (f : ℕ → ℕ) {xs : List ℕ} → length xs ≡ n → All (λ x. x < m) xs → ((k : ℕ) → k < n → get_or xs k 0 % m ≡ f k % m)
     → xs ≡ map (λ k. f k % m) (range_with_len 0 n)
-residues {m} {n} f {xs} size below each =
-    ext_get_or 0 xs (map (λ k. f k % m) (range_with_len 0 n)) (size ∙ sym (length-map-range_with_len (λ k. f k % m) 0 n)) (λ k inside.
-    let within : k < n = omega (arith, inside, size) in
-    sym (mod-eq_of_lt (All-get_or (λ x. x < m) xs k 0 inside below)) ∙ each k within
-    ∙ sym (get_or-map-range_with_len (λ k. f k % m) 0 n k k 0 within (omega arith)))
+residues {m} {n} f {xs} size below each = fill_by_all (λ k. f k % m) xs n 0 size (λ k within.
+    sym (mod-eq_of_lt (All-get_or (λ x. x < m) xs k 0 (omega (arith, within, size)) below)) ∙ each k within)
 
 -- the row of an entry is one of an equation
 pub row_is_equation : (n : ℕ) (value : Matrix) (ts : List SolvedTerm) (place : ℕ) → 0 < value.modulus
@@ -161,8 +159,6 @@ row_is_equation n value ts place positive =
     let j = place % value.columns in
     let f : ℕ → ℕ = λ k. terms_factor ts i j k % value.modulus in record {
       one_each = length-map-range_with_len f 0 n;
-      factors_below = All-map (λ factor. factor < value.modulus) f (range_with_len 0 n)
-          (All-from_get_or (λ k. f k < value.modulus) (range_with_len 0 n) 0
-          (λ k inside. mod-lt (terms_factor ts i j (get_or (range_with_len 0 n) k 0)) positive));
+      factors_below = all_of_range (λ factor. factor < value.modulus) f n (λ k inside. mod-lt (terms_factor ts i j k) positive);
       right_below = mod-lt (value.modulus - entry_at value i j) positive;
     }

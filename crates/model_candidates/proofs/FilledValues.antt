@@ -1,11 +1,11 @@
 -- What stands at a place of drawn values that values have been filled into: a drawn value, or one of these.
-use Rattle.std.proofs.Common.{◌≡◌, ℕ, zero, suc, ◌<◌, ◌%◌, Bool, true, false, List, [], ◌∷◌, length, get_or, refl, sym, ap, arith}
+use Rattle.std.proofs.Common.{◌≡◌, ℕ, suc, ◌<◌, ◌≤◌, Bool, true, false, cond, eqb, List, [], ◌∷◌, length, get_or, refl, ap, ◌∙◌, arith, ne_eqb}
 use Rattle.std.specs.List.{All}
-use Rattle.std.proofs.lemmas.Bool.{false≢true}
 use Rattle.std.proofs.lemmas.List.Elements.{All-nil, All-cons, All-head, All-tail}
-use Rattle.model_candidates.specs.Unknowns.{set_count, filled}
-use Rattle.model_candidates.proofs.Affine.{IsAffine}
-use Rattle.model_candidates.proofs.AffineNumbers.{affine_alike, affine_constant, affine_unknown}
+use Rattle.std.proofs.lemmas.List.FromFn.{get_or-map-range_with_len, length-map-range_with_len}
+use Rattle.model_candidates.specs.Unknowns.{set_count, filled, unit_values}
+use Rattle.model_candidates.proofs.Ranges.{all_of_range}
+use Rattle.model_candidates.proofs.SolvedEntries.{AreChosen, before, before_within, filled_set}
 
 -- as a list
 pub length-filled : (flags : List Bool) (drawn values : List ℕ) → length drawn ≡ length flags
@@ -38,60 +38,25 @@ filled_again (false ∷ flags) (d ∷ drawn) values = ap (λ xs. d ∷ xs) (fill
 filled_again (true ∷ flags) (d ∷ drawn) [] = ap (λ xs. d ∷ xs) (filled_again flags drawn [])
 filled_again (true ∷ flags) (d ∷ drawn) (x ∷ values) = ap (λ xs. x ∷ xs) (filled_again flags drawn values)
 
--- where the flag isn't set, the values count for nothing
-pub filled_unset : (flags : List Bool) (drawn values : List ℕ) (place : ℕ) → get_or flags place false ≡ false
-    → get_or (filled flags drawn values) place 0 ≡ get_or (filled flags drawn []) place 0
-filled_unset [] drawn values place unset = refl
-filled_unset (flag ∷ flags) [] values place unset = refl
-filled_unset (false ∷ flags) (d ∷ drawn) values zero unset = refl
-filled_unset (false ∷ flags) (d ∷ drawn) values (suc place) unset = filled_unset flags drawn values place unset
-filled_unset (true ∷ flags) (d ∷ drawn) values zero unset = absurd (false≢true (sym unset))
-filled_unset (true ∷ flags) (d ∷ drawn) [] (suc place) unset = refl
-filled_unset (true ∷ flags) (d ∷ drawn) (x ∷ values) (suc place) unset = filled_unset flags drawn values place unset
+-- units
+pub length-unit_values : (n k : ℕ) → length (unit_values n k) ≡ n
+length-unit_values n k = length-map-range_with_len (λ j. cond (eqb j k) 1 0) 0 n
 
--- A number that is the same for all values, or one of the values.
-pub data ComesFrom (n : ℕ) (f : List ℕ → ℕ) : Type 0 where
-  same : (c : ℕ) → ((values : List ℕ) → f values ≡ c) → ComesFrom n f
-  one : (place : ℕ) → place < n → ((values : List ℕ) → length values ≡ n → f values ≡ get_or values place 0) → ComesFrom n f
+pub unit_at : {n : ℕ} (k : ℕ) {j : ℕ} → j < n → get_or (unit_values n k) j 0 ≡ cond (eqb j k) 1 0
+unit_at {n} k {j} inside = get_or-map-range_with_len (λ j. cond (eqb j k) 1 0) 0 n j j 0 inside (omega arith)
 
-filled_from : (flags : List Bool) (drawn : List ℕ) (place : ℕ)
-    → ComesFrom (set_count flags) (λ values. get_or (filled flags drawn values) place 0)
-filled_from [] drawn place = same 0 (λ values. refl)
-filled_from (flag ∷ flags) [] place = same 0 (λ values. refl)
-filled_from (false ∷ flags) (d ∷ drawn) zero = same d (λ values. refl)
-filled_from (false ∷ flags) (d ∷ drawn) (suc place) = filled_from flags drawn place
-filled_from (true ∷ flags) (d ∷ drawn) zero = one 0 (omega arith) first
+pub unit_values_below : {m : ℕ} (n k : ℕ) → 2 ≤ m → All (λ value. value < m) (unit_values n k)
+unit_values_below {m} n k least = all_of_range (λ value. value < m) (λ j. cond (eqb j k) 1 0) n (λ j within. one_or_none (eqb j k))
   where
-    first : (values : List ℕ) → length values ≡ suc (set_count flags)
-        → get_or (filled (true ∷ flags) (d ∷ drawn) values) 0 0 ≡ get_or values 0 0
-    first [] count = absurd (omega (arith, count))
-    first (x ∷ values) count = refl
-filled_from (true ∷ flags) (d ∷ drawn) (suc place) = go (filled_from flags drawn place)
-  where
-    go : ComesFrom (set_count flags) (λ values. get_or (filled flags drawn values) place 0)
-        → ComesFrom (suc (set_count flags)) (λ values. get_or (filled (true ∷ flags) (d ∷ drawn) values) (suc place) 0)
-    go (same c is) = same c each
-      where
-        each : (values : List ℕ) → get_or (filled (true ∷ flags) (d ∷ drawn) values) (suc place) 0 ≡ c
-        each [] = is []
-        each (x ∷ values) = is values
-    go (one k inside is) = one (suc k) (omega (arith, inside)) later
-      where
-        later : (values : List ℕ) → length values ≡ suc (set_count flags)
-            → get_or (filled (true ∷ flags) (d ∷ drawn) values) (suc place) 0 ≡ get_or values (suc k) 0
-        later [] count = absurd (omega (arith, count))
-        later (x ∷ values) count = is values (omega (arith, count))
+    one_or_none : (b : Bool) → cond b 1 0 < m
+    one_or_none true = omega (arith, least)
+    one_or_none false = omega (arith, least)
 
-pub filled_is_affine : (m : ℕ) (flags : List Bool) (drawn : List ℕ) (place : ℕ)
-    → IsAffine m (set_count flags) (λ values. get_or (filled flags drawn values) place 0)
-filled_is_affine m flags drawn place = go (filled_from flags drawn place)
-  where
-    number : List ℕ → ℕ
-    number values = get_or (filled flags drawn values) place 0
-
-    go : ComesFrom (set_count flags) number → IsAffine m (set_count flags) number
-    go (same c is) = affine_alike m (set_count flags) number (λ values. c) (λ values one_each below. ap (λ x. x % m) (is values))
-        (affine_constant m (set_count flags) c)
-    go (one k inside is) =
-        affine_alike m (set_count flags) number (λ values. get_or values k 0) (λ values one_each below. ap (λ x. x % m)
-        (is values one_each)) (affine_unknown m (set_count flags) k inside)
+-- where units are filled in of which none is 1, the values are 0
+pub zeros_there : (flags : List Bool) (drawn : List ℕ) → length drawn ≡ length flags
+    → AreChosen flags [] (filled flags drawn (unit_values (set_count flags) (set_count flags)))
+zeros_there flags drawn same place inside set =
+    let n = set_count flags in
+    let within = before_within flags place inside set in
+    filled_set flags drawn (unit_values n n) place same (length-unit_values n n) inside set ∙ unit_at n within
+    ∙ ap (λ b. cond b 1 0) (ne_eqb (before flags place) n (λ is. omega (arith, is, within)))

@@ -1,5 +1,5 @@
 -- The terms of an assumption that are made in a known model fit its value.
-use Rattle.std.proofs.Common.{◌≡◌, ℕ, List, Some, get_or, slice_get, refl, sym, ap, subst, ◌∙◌}
+use Rattle.std.proofs.Common.{◌≡◌, ℕ, List, Some, get_or, slice_get, sym, ap, subst, ◌∙◌}
 use Rattle.nc_polynomial.specs.declared.poly.Poly.{Poly}
 use Rattle.model_candidates.specs.Residues.{residues}
 use Rattle.std.proofs.lemmas.List.{get_or-map}
@@ -7,66 +7,46 @@ use Rattle.std.proofs.lemmas.Option.{get_or_from_slice_get, slice_get_within}
 use Rattle.std.specs.List.{All}
 use Rattle.std.proofs.lemmas.List.Elements.{All-weaker, All-from_recursion}
 use Rattle.definitions.specs.Category.{IsArrow}
-use Rattle.definitions.specs.Quiver.{Quiver, IsQuiver, letters}
 use Rattle.matrix_models.specs.Matrix.{Matrix}
 use Rattle.matrix_models.specs.Matrices.{matrices}
-use Rattle.matrix_models.specs.declared.model.Model.{Model}
-use Rattle.adjoint_rules.proofs.Generators.{posed_quiver}
 use Rattle.adjoint_rules.specs.declared.parts.Shape.{Shape}
-use Rattle.model_checker.specs.Models.{IsModel, HaveMatrices}
-use Rattle.model_checker.specs.Representations.{side_of}
 use Rattle.model_candidates.specs.declared.plan.LinearAssumption.{LinearAssumption}
 use Rattle.model_candidates.specs.declared.solved_terms.Known.{Known}
 use Rattle.model_candidates.specs.declared.solved_terms.SolvedTerm.{SolvedTerm}
+use Rattle.model_candidates.specs.Candidates.{side_in}
 use Rattle.model_candidates.specs.Known.{IsKnown, numbers_in}
 use Rattle.model_candidates.specs.WordRows.{model_in, quiver_in}
 use Rattle.model_candidates.specs.Plans.{terms_of, IsAssumption}
 use Rattle.model_candidates.specs.Unknowns.{solved_flags, set_count}
 use Rattle.model_candidates.specs.Factors.{solved_terms, FitsTerm, HasSides}
-use Rattle.model_candidates.proofs.AssumptionFactors.{solved_declared}
-use Rattle.model_candidates.proofs.AssumptionRows.{assumption_paths}
-use Rattle.model_candidates.proofs.CandidateModels.{model_by_is_model, model_by_has_matrices}
+use Rattle.model_candidates.proofs.AssumptionTerms.{assumption_paths}
+use Rattle.model_candidates.proofs.GivenValues.{given_of}
 use Rattle.model_candidates.proofs.SolvedTerms.{Fits, terms_fit}
 
 module _ (k : Known) (is : IsKnown k) (g : LinearAssumption) (asked : IsAssumption k.given.problem.now 1 g)
     (terms : List SolvedTerm)
     (terms_are : terms ≡ solved_terms (quiver_in k.given) k.given.shape.now k.given.problem.now.parts.solved (numbers_in k)
     (model_in k.given) g.sig.source.0 (terms_of k.given.problem.now g)) where
-  abbrev q : Quiver
-  q = quiver_in k.given
-
   abbrev s : Shape
   s = k.given.shape.now
 
-  abbrev m : Model
-  m = model_in k.given
-
-  quiver : IsQuiver q
-  quiver = posed_quiver k.given.problem.now.parts k.given.problem.now.posed
-
-  model : IsModel q m
-  model = model_by_is_model q s quiver is.given.shape 0 k.given.values.now
-
-  maps : HaveMatrices q m (letters q)
-  maps = model_by_has_matrices q s quiver is.given.shape k.given.values.now is.given.values.one_each is.given.values.below 0
-
   abbrev Fit : SolvedTerm → Type 0
-  Fit = Fits q s k.given.problem.now.parts.solved quiver is.given.shape (solved_declared k.given.problem.now) m model maps refl
-      g.sig.source.0 g.sig.target.0 asked.source
+  Fit = Fits (given_of is.given) g.sig.source.0 g.sig.target.0 asked.source
 
   all_fit : All Fit terms
   all_fit =
       subst (All Fit) (sym terms_are)
-      (All-from_recursion Fit _ (terms_fit q s k.given.problem.now.parts.solved quiver is.given.shape (solved_declared k.given.problem.now) m
-      model maps refl g.sig.source.0 g.sig.target.0 asked.source (terms_of k.given.problem.now g) (assumption_paths asked)))
+      (All-from_recursion Fit _ (terms_fit (given_of is.given) g.sig.source.0 g.sig.target.0 asked.source (terms_of k.given.problem.now g)
+      (assumption_paths asked)))
 
   pub known_fit : {modulus unknowns : ℕ} → modulus ≡ s.modulus
-      → unknowns ≡ set_count (solved_flags q s k.given.problem.now.parts.solved) → All (FitsTerm modulus unknowns) terms
+      → unknowns ≡ set_count (solved_flags (quiver_in k.given) s k.given.problem.now.parts.solved) → All (FitsTerm modulus unknowns) terms
   known_fit {modulus} {unknowns} modulus_is unknowns_are = subst (λ x. All (FitsTerm x unknowns) terms) (sym modulus_is)
       (subst (λ n. All (FitsTerm s.modulus n) terms) (sym unknowns_are)
-      (All-weaker Fit (FitsTerm s.modulus (set_count (solved_flags q s k.given.problem.now.parts.solved))) (λ t fit. fit.fits) terms all_fit))
+      (All-weaker Fit (FitsTerm s.modulus (set_count (solved_flags (quiver_in k.given) s k.given.problem.now.parts.solved)))
+      (λ t fit. fit.fits) terms all_fit))
 
-  pub known_sides : {value : Matrix} → IsArrow (matrices s.modulus) (side_of m g.sig.source.0) (side_of m g.sig.target.0) value
+  pub known_sides : {value : Matrix} → IsArrow (matrices s.modulus) (side_in s g.sig.source.0) (side_in s g.sig.target.0) value
       → All (HasSides value.rows value.columns) terms
   known_sides {value} ends = All-weaker Fit (HasSides value.rows value.columns) (λ t fit. record {
     rows_are = fit.has_sides.rows_are ∙ sym ends.target;

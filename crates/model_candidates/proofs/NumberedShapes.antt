@@ -1,7 +1,5 @@
 -- The shape with a number, and the draws of its entries.
 use Rattle.std.proofs.Common.{◌≡◌, ℕ, ◌+◌, ◌-◌, ◌*◌, ◌/◌, ◌%◌, ◌^◌, ◌<◌, ◌≤◌, length, get_or, Some, None, slice_get, ◌⊎◌, inl, inr, sym, ap, ◌∙◌, arith, mod-lt}
-use Rattle.std.specs.List.{range_with_len}
-use Rattle.std.proofs.lemmas.List.Elements.{All-map, All-from_get_or}
 use Rattle.std.proofs.lemmas.List.FromFn.{length-map-range_with_len}
 use Rattle.std.proofs.lemmas.Option.{get_or_from_slice_get, slice_get_cases}
 use Rattle.quiver.specs.Declarations.{object_count, quiver_of}
@@ -9,8 +7,10 @@ use Rattle.adjoint_rules.specs.declared.parts.Shape.{Shape}
 use Rattle.adjoint_rules.specs.declared.problem.Problem.{Problem}
 use Rattle.adjoint_rules.specs.Problem.{IsShape}
 use Rattle.model_candidates.specs.Candidates.{IsShapeOf, digit, digits, entries_of, draws, word_of_stream}
-use Rattle.model_candidates.specs.Plans.{AreEntryValues}
+use Rattle.model_candidates.specs.Plans.{AreEntryValues, FitsShape, IsPlan}
+use Rattle.model_candidates.specs.declared.plan.Plan.{Plan}
 use Rattle.model_checker.proofs.Places.{all_at}
+use Rattle.model_candidates.proofs.Ranges.{all_of_range}
 
 pub shape_numbered : (problem : Problem) {number : ℕ} {s : Shape} → 1 ≤ number → slice_get problem.parts.shapes (number - 1) ≡ Some s
     → IsShapeOf problem number s
@@ -31,10 +31,15 @@ draws_are_values problem s number seed k positive =
     let draw : ℕ → ℕ = λ j. word_of_stream seed number (k * count + j) % s.modulus in
     record {
       one_each = length-map-range_with_len draw 0 count;
-      below = All-map (λ value. value < s.modulus) draw (range_with_len 0 count)
-          (All-from_get_or (λ j. draw j < s.modulus) (range_with_len 0 count) 0
-          (λ i inside. mod-lt (word_of_stream seed number (k * count + get_or (range_with_len 0 count) i 0)) positive));
+      below = all_of_range (λ value. value < s.modulus) draw count
+          (λ j inside. mod-lt (word_of_stream seed number (k * count + j)) positive);
     }
+
+-- the shape of a plan, by its number
+pub plan_fits : {problem : Problem} {plan : Plan} {s : Shape} → IsPlan problem plan
+    → slice_get problem.parts.shapes (plan.number - 1) ≡ Some s
+    → FitsShape problem s plan
+plan_fits {problem} {plan} {s} is there = is.fits s (shape_numbered problem is.least there)
 
 -- the digits of a candidate's number
 pub digits_are_values : (problem : Problem) (s : Shape) (k : ℕ) → 1 ≤ s.modulus → AreEntryValues problem s (digits (quiver_of problem.parts.quiver) s k)
@@ -43,9 +48,7 @@ digits_are_values problem s k positive =
     let count = length (entries_of (quiver_of problem.parts.quiver) s) in
     record {
       one_each = length-map-range_with_len (digit m k) 0 count;
-      below = All-map (λ value. value < m) (digit m k) (range_with_len 0 count)
-          (All-from_get_or (λ j. digit m k j < m) (range_with_len 0 count) 0
-          (λ i inside. mod-lt (k / m ^ get_or (range_with_len 0 count) i 0) positive));
+      below = all_of_range (λ value. value < m) (digit m k) count (λ j inside. mod-lt (k / m ^ j) positive);
     }
 
 -- and no other

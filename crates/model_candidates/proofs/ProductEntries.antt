@@ -1,5 +1,5 @@
 -- The entries of a product of three matrices modulo m, as sums over the entries of the one between, and those of a multiple.
-use Rattle.std.proofs.Common.{◌≡◌, ℕ, zero, suc, ◌+◌, ◌-◌, ◌*◌, ◌%◌, ◌<◌, ℤ, pos, negsuc, sym, ap, ◌∙◌, arith, mod-lt, add-mul, zero-mul}
+use Rattle.std.proofs.Common.{◌≡◌, ℕ, zero, suc, ◌+◌, ◌-◌, ◌*◌, ◌%◌, ◌<◌, ℤ, pos, negsuc, refl, sym, ap, ◌∙◌, arith, mod-lt, add-mul, zero-mul}
 use Rattle.std.proofs.lemmas.Nat.{mul-mod_first, mul-mod_second}
 use Rattle.std.proofs.Math.Nat.{mod-mod, mod-eq_of_lt, mod_self, add-mod-mod, mul-mod_right}
 use Rattle.definitions.specs.Representation.{natural_multiple, multiple}
@@ -9,6 +9,21 @@ use Rattle.matrix_models.specs.Entries.{entry_at-matrix_of}
 use Rattle.matrix_models.specs.Totals.{total_mul, total_mod}
 use Rattle.matrix_models.proofs.Congruences.{add_cancel}
 use Rattle.model_candidates.specs.Factors.{residue}
+
+pub residue_below : (m : ℕ) (k : ℤ) → 0 < m → residue m k < m
+residue_below m (pos n) positive = mod-lt n positive
+residue_below m (negsuc n) positive = mod-lt (m - suc n % m) positive
+
+-- multiples have the sides of the matrix
+pub multiple_rows : (m : ℕ) (k : ℤ) (a : Matrix) → (multiple (matrices m) k a).rows ≡ a.rows
+multiple_rows m (pos zero) a = refl
+multiple_rows m (pos (suc n)) a = refl
+multiple_rows m (negsuc n) a = refl
+
+pub multiple_columns : (m : ℕ) (k : ℤ) (a : Matrix) → (multiple (matrices m) k a).columns ≡ a.columns
+multiple_columns m (pos zero) a = refl
+multiple_columns m (pos (suc n)) a = refl
+multiple_columns m (negsuc n) a = refl
 
 module _ (m : ℕ) where
   -- products

@@ -1,5 +1,5 @@
 -- Values of the entries that are solved for, among the values of all entries.
-use Rattle.std.proofs.Common.{◌≡◌, ℕ, zero, suc, ◌+◌, ◌<◌, ◌≤◌, Bool, true, false, cond, List, [], ◌∷◌, ◌++◌, length, get_or, take, drop, refl, sym, ap, ap₂, ◌∙◌, arith}
+use Rattle.std.proofs.Common.{◌≡◌, ℕ, zero, suc, ◌+◌, ◌<◌, ◌≤◌, Bool, true, false, cond, List, [], ◌∷◌, ◌++◌, length, get_or, take, drop, refl, sym, ap, ◌∙◌, arith}
 use Rattle.std.specs.List.{All}
 use Rattle.std.proofs.lemmas.Bool.{false≢true}
 use Rattle.std.proofs.lemmas.List.{take_all, take_more}
@@ -20,27 +20,21 @@ All-picked P (false ∷ flags) (x ∷ values) all = All-picked P flags values (A
 All-picked P (true ∷ flags) (x ∷ values) all = All-cons P x (picked flags values) (All-head P x values all)
     (All-picked P flags values (All-tail P x values all))
 
+-- how many entries are solved for before a place
+abbrev pub before : List Bool → ℕ → ℕ
+before flags place = set_count (take place flags)
+
 -- values that are as drawn where the flag isn't set
 abbrev pub IsAsDrawn : List Bool → List ℕ → List ℕ → Type 0
 IsAsDrawn flags drawn values = (place : ℕ) → place < length flags → get_or flags place false ≡ false
     → get_or values place 0 ≡ get_or drawn place 0
 
--- they are the drawn ones, filled with their own
-pub filled-picked : (flags : List Bool) (drawn values : List ℕ) → length drawn ≡ length flags → length values ≡ length flags
-    → IsAsDrawn flags drawn values
-    → values ≡ filled flags drawn (picked flags values)
-filled-picked [] drawn [] same_drawn same as_drawn = refl
-filled-picked [] drawn (x ∷ values) same_drawn same as_drawn = absurd (omega (arith, same))
-filled-picked (flag ∷ flags) [] values same_drawn same as_drawn = absurd (omega (arith, same_drawn))
-filled-picked (flag ∷ flags) (d ∷ drawn) [] same_drawn same as_drawn = absurd (omega (arith, same))
-filled-picked (false ∷ flags) (d ∷ drawn) (x ∷ values) same_drawn same as_drawn =
-    ap₂ (λ y ys. y ∷ ys) (as_drawn 0 (omega arith) refl)
-    (filled-picked flags drawn values (omega (arith, same_drawn)) (omega (arith, same)) (λ place inside unset. as_drawn (suc place)
-    (omega (arith, inside)) unset))
-filled-picked (true ∷ flags) (d ∷ drawn) (x ∷ values) same_drawn same as_drawn =
-    ap (λ ys. x ∷ ys) (filled-picked flags drawn values (omega (arith, same_drawn)) (omega (arith, same))
-    (λ place inside unset. as_drawn (suc place) (omega (arith, inside)) unset))
+-- and where it is set, these in their order
+abbrev pub AreChosen : List Bool → List ℕ → List ℕ → Type 0
+AreChosen flags chosen values = (place : ℕ) → place < length flags → get_or flags place false ≡ true
+    → get_or values place 0 ≡ get_or chosen (before flags place) 0
 
+-- values that are filled in
 pub filled_as_drawn : (flags : List Bool) (drawn values : List ℕ) → IsAsDrawn flags drawn (filled flags drawn values)
 filled_as_drawn [] drawn values place inside unset = absurd (omega (arith, inside))
 filled_as_drawn (flag ∷ flags) [] values place inside unset = refl
@@ -51,10 +45,6 @@ filled_as_drawn (true ∷ flags) (d ∷ drawn) values zero inside unset = absurd
 filled_as_drawn (true ∷ flags) (d ∷ drawn) [] (suc place) inside unset = filled_as_drawn flags drawn [] place (omega (arith, inside)) unset
 filled_as_drawn (true ∷ flags) (d ∷ drawn) (x ∷ values) (suc place) inside unset = filled_as_drawn flags drawn values place
     (omega (arith, inside)) unset
-
--- how many entries are solved for before a place
-abbrev pub before : List Bool → ℕ → ℕ
-before flags place = set_count (take place flags)
 
 pub before_within : (flags : List Bool) (place : ℕ) → place < length flags → get_or flags place false ≡ true
     → before flags place < set_count flags

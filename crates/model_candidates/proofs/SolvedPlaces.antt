@@ -1,16 +1,16 @@
 -- The first place in a list at which a test passes, and the letters of a word from a place on.
 use Rattle.std.proofs.Common.{◌≡◌, ℕ, suc, ◌+◌, ◌<◌, ◌≤◌, Bool, true, false, cond, ltb, List, ◌∷◌, length, get_or, take, drop, Some, None, ap, ◌∙◌, arith}
 use Rattle.std.specs.List.{position, position_or_len}
-use Rattle.std.proofs.lemmas.Bool.{le-ltb}
+use Rattle.std.proofs.lemmas.Bool.{le-ltb, lt-ltb}
 use Rattle.std.proofs.lemmas.List.{get_or-take, length-take-le}
 use Rattle.std.proofs.lemmas.List.Sums.{position_or_len_is}
 use Rattle.std.proofs.Math.Seq.{drop-cons}
-use Rattle.model_candidates.proofs.EntryPlaces.{found}
 
-pub first_place : (p : ℕ → Bool) (xs : List ℕ) {place : ℕ} → place < length xs → ((k : ℕ) → k < place → p (get_or xs k 0) ≡ false)
-    → p (get_or xs place 0) ≡ true → position p xs ≡ Some place
-first_place p xs {place} inside before here =
-    found p xs place record { inside = inside; first = position_or_len_is p xs place 0 (omega (arith, inside)) before (λ _. here) }
+pub first_place : {X : Type 0} (p : X → Bool) (xs : List X) (d : X) {place : ℕ} → place < length xs
+    → ((k : ℕ) → k < place → p (get_or xs k d) ≡ false) → p (get_or xs place d) ≡ true → position p xs ≡ Some place
+first_place p xs d {place} inside before here =
+    let first : position_or_len p xs ≡ place = position_or_len_is p xs place d (omega (arith, inside)) before (λ _. here) in
+    ap (λ n. cond (ltb n (length xs)) (Some n) None) first ∙ ap (λ b. cond b (Some place) None) (lt-ltb place (length xs) inside)
 
 pub no_place : (p : ℕ → Bool) (xs : List ℕ) (count : ℕ) → length xs ≤ count → ((k : ℕ) → k < count → p (get_or xs k 0) ≡ false) → position p xs ≡ None
 no_place p xs count all none =

@@ -1,35 +1,31 @@
 -- The terms with a solved letter: their sides and numbers.
-use Rattle.std.proofs.Common.{◌≡◌, ℕ, suc, ◌+◌, ◌-◌, ◌*◌, ◌/◌, ◌%◌, ◌<◌, ◌≤◌, ℤ, pos, negsuc, ◌&&◌, Bool, true, false, List, [], ◌∷◌, ◌++◌, length, get_or, replicate, take, drop, map, Option, Some, None, option_map, ◌⊎◌, inl, inr, refl, sym, ap, ap₂, subst, ◌∙◌, arith, mod-lt, div-lt_iff_lt-mul, cond}
+use Rattle.std.proofs.Common.{◌≡◌, ℕ, suc, ◌+◌, ◌*◌, ◌/◌, ◌%◌, ◌<◌, ℤ, Bool, true, false, List, [], ◌∷◌, ◌++◌, length, get_or, replicate, take, drop, Option, Some, None, option_map, refl, sym, ap, ap₂, subst, ◌∙◌, arith, mod-lt, div-lt_iff_lt-mul, cond}
 use Rattle.std.specs.List.{All, AllByRecursion, position, range_with_len}
-use Rattle.std.proofs.lemmas.Bool.{cases_lt, le-leb}
 use Rattle.std.proofs.lemmas.Option.{none-some}
 use Rattle.std.proofs.lemmas.List.{take-append-drop, length-replicate}
-use Rattle.std.proofs.lemmas.List.Elements.{All-nil, All-cons, All-from_get_or}
+use Rattle.std.proofs.lemmas.List.Elements.{All-nil, All-cons}
 use Rattle.std.proofs.lemmas.List.FromFn.{get_or-map-range_with_len, length-map-range_with_len}
 use Rattle.std.proofs.lemmas.List.Quantifiers.{position-Some}
 use Rattle.std.proofs.Math.Seq.{drop-cons}
-use Rattle.definitions.specs.Quiver.{Quiver, IsQuiver, letters, source, target, star, leads, is_path}
+use Rattle.definitions.specs.Quiver.{Quiver, letters, source, target, leads, is_path}
 use Rattle.definitions.proofs.Paths.{step}
 use Rattle.definitions.proofs.UnitSound.{all-append}
 use Rattle.word_core.specs.declared.letter.Letter.{Letter}
 use Rattle.adjoint_rules.specs.declared.parts.Shape.{Shape}
-use Rattle.adjoint_rules.specs.Problem.{IsShape}
-use Rattle.matrix_models.specs.Laws.{matrices_laws}
-use Rattle.matrix_models.specs.declared.model.Model.{Model}
-use Rattle.model_checker.specs.Models.{IsModel, HaveMatrices}
-use Rattle.model_checker.specs.Representations.{representation_of, side_of}
-use Rattle.model_checker.proofs.Arrows.{represents}
+use Rattle.quiver.specs.Declarations.{quiver_of}
+use Rattle.adjoint_rules.specs.declared.problem.Problem.{Problem}
 use Rattle.model_candidates.specs.declared.solved_terms.SolvedTerm.{SolvedTerm}
-use Rattle.model_candidates.specs.Candidates.{side_in, entries_of, is_declared_map, is_solved}
+use Rattle.model_candidates.specs.Candidates.{side_in, entries_of, is_solved}
 use Rattle.model_candidates.specs.Unknowns.{solved_flags, set_count, unknown_numbers}
-use Rattle.model_candidates.specs.LetterNumbers.{letter_numbers, numbers_of_letters}
-use Rattle.model_candidates.specs.Factors.{residue, term_around, solved_term, listed, solved_terms, FitsTerm, HasSides}
-use Rattle.model_candidates.specs.LetterNumbers.{map_behind, letter_value, letter_values}
-use Rattle.model_candidates.proofs.CandidateModels.{side_is_object}
+use Rattle.model_candidates.specs.LetterNumbers.{letter_numbers, letter_value, letter_values, numbers_of_letters}
+use Rattle.model_candidates.specs.Factors.{term_around, solved_term, listed, solved_terms, FitsTerm, HasSides}
 use Rattle.model_candidates.proofs.DrawnEntries.{flag_of_each}
 use Rattle.model_candidates.proofs.FilledValues.{length-filled}
-use Rattle.model_candidates.proofs.LetterEntries.{IsDeclared, itself, adjoint, number_below}
-use Rattle.model_candidates.proofs.WordProducts.{FitLetter, fit_letter, product_is_arrow}
+use Rattle.model_candidates.proofs.GivenValues.{AreGiven, model, positive, product_ends, quiver, side_object, solved_maps}
+use Rattle.model_candidates.proofs.LetterEntries.{flag_is, has_solved_map, number_below, stands}
+use Rattle.model_candidates.proofs.ProductEntries.{residue_below}
+use Rattle.model_candidates.proofs.Ranges.{all_of_range}
+use Rattle.model_candidates.proofs.WordProducts.{FitLetter, fit_letter}
 
 -- the letters of a path
 letters_by : (q : Quiver) (u v : ℕ) (w : List ℕ) → leads q u v w ≡ true → All (λ a. a < letters q) w
@@ -45,6 +41,7 @@ pub record SolvedAt (q : Quiver) (solved : List Letter) (u v : ℕ) (w : List �
   pub inside : place < length w
   pub there : is_solved q solved (get_or w place 0) ≡ true
   pub fit : FitLetter q u v (take place w) (get_or w place 0) (drop (place + 1) w)
+  pub whole : take place w ++ get_or w place 0 ∷ drop (place + 1) w ≡ w
 
 pub solved_at : (q : Quiver) (solved : List Letter) (u v : ℕ) (w : List ℕ) {place : ℕ} → is_path q u v w ≡ true
     → position (is_solved q solved) w ≡ Some place → SolvedAt q solved u v w place
@@ -59,27 +56,8 @@ solved_at q solved u v w {place} path found =
       inside = at.0;
       there = at.1;
       fit = fit_letter q u v (take place w) x (drop (place + 1) w) (subst (λ xs. is_path q u v xs ≡ true) (sym parts) path);
+      whole = parts;
     }
-
--- the map behind a solved letter is declared
-pub declared_behind : {q : Quiver} → IsQuiver q → {a : ℕ} → a < letters q → q.objects ≤ a → is_declared_map q (map_behind q a) ≡ true
-declared_behind {q} quiver {a} letter map = go (cases_lt (star q a) a)
-  where
-    -- the adjoint of a map is no identity
-    star_is_map : (star q a < q.objects) ⊎ (q.objects ≤ star q a) → q.objects ≤ star q a
-    star_is_map (inl small) =
-        let same : a ≡ star q a = sym (quiver.star_star a letter) ∙ quiver.identity_star (star q a) small in
-        absurd (omega (arith, same, small, map))
-    star_is_map (inr is) = is
-
-    go : (star q a < a) ⊎ (a ≤ star q a) → is_declared_map q (map_behind q a) ≡ true
-    go (inr least) =
-        ap (is_declared_map q) (itself q quiver a letter least) ∙ ap₂ ◌&&◌ (le-leb q.objects a map) (le-leb a (star q a) least)
-    go (inl less) =
-        let b = star q a in
-        let least : b ≤ star q b = omega (arith, less, quiver.star_star a letter) in
-        ap (is_declared_map q) (adjoint q quiver a letter less)
-        ∙ ap₂ ◌&&◌ (le-leb q.objects b (star_is_map (cases_lt b q.objects))) (le-leb b (star q b) least)
 
 -- each entry of the shape has a number
 pub number_of_each : (q : Quiver) (s : Shape) (solved : List Letter) → length (unknown_numbers (solved_flags q s solved)) ≡ length (entries_of q s)
@@ -121,74 +99,68 @@ unsolved_where_none q s solved {a} d are same letter found =
     none_if true values is = absurd (none-some values (sym is))
     none_if false values is = refl
 
-pub residue_below : (m : ℕ) (k : ℤ) → 0 < m → residue m k < m
-residue_below m (pos n) positive = mod-lt n positive
-residue_below m (negsuc n) positive = mod-lt (m - suc n % m) positive
-
 -- terms
-module _ (q : Quiver) (s : Shape) (solved : List Letter) (quiver : IsQuiver q) (shape : IsShape q.objects s)
-    (declared : AllByRecursion (λ l. IsDeclared q l.0) solved) (m : Model) (model : IsModel q m) (maps : HaveMatrices q m (letters q))
-    (sides : m.sides ≡ s.sides)
-    (u v : ℕ) (in_u : u < q.objects) where
+module _ {problem : Problem} {s : Shape} {values : List ℕ} (given : AreGiven problem s values) (u v : ℕ)
+    (in_u : u < (quiver_of problem.parts.quiver).objects) where
+  abbrev q : Quiver
+  q = quiver_of problem.parts.quiver
+
+  abbrev solved : List Letter
+  solved = problem.parts.solved
+
   abbrev numbers : List ℕ
   numbers = unknown_numbers (solved_flags q s solved)
 
   abbrev n : ℕ
   n = set_count (solved_flags q s solved)
 
+  abbrev pub around : ℤ × List ℕ → ℕ → SolvedTerm
+  around t place = term_around q s numbers (model given) u t place
+
   -- it fits, and it has the sides of the value
   pub record Fits (t : SolvedTerm) : Type 0 where
-    pub fits : FitsTerm m.modulus n t
-    pub has_sides : HasSides (side_of m v) (side_of m u) t
-
-  side_is : (a : ℕ) → side_of m a ≡ side_in s a
-  side_is a = ap (λ xs. get_or xs a 1) sides
+    pub fits : FitsTerm s.modulus n t
+    pub has_sides : HasSides (side_in s v) (side_in s u) t
 
   values_below : {x : ℕ} → x < letters q → is_solved q solved x ≡ true → All (λ number. number < n) (letter_values q s numbers x)
   values_below {x} letter is =
       let columns = side_in s (source q x) in
       let size = side_in s (target q x) * columns in
       let f : ℕ → ℕ = λ place. letter_value q s numbers x (place / columns) (place % columns) in
-      let positive = (side_is_object q s quiver shape (quiver.source_is_object x letter)).is_side.positive in
-      All-from_get_or (λ number. number < n) (letter_values q s numbers x) 0 (λ place inside.
-      let within : place < size = subst (λ k. place < k) (length-map-range_with_len f 0 size) inside in
-      subst (λ number. number < n) (sym (get_or-map-range_with_len f 0 size place place 0 within (omega arith)))
-      (number_below q s solved numbers (number_of_each q s solved) quiver shape declared x letter is (place / columns) (place % columns)
-      ((div-lt_iff_lt-mul positive).1 within) (mod-lt place positive)))
+      let positive = (side_object given ((quiver given).source_is_object x letter)).is_side.positive in
+      let has = has_solved_map (quiver given) solved (solved_maps problem) letter is in
+      all_of_range (λ number. number < n) f size (λ place within.
+      let at = stands (quiver given) given.shape letter has.map ((div-lt_iff_lt-mul positive).1 within) (mod-lt place positive) in
+      number_below solved at (flag_is solved at has.is_solved))
 
-  term_fits : (t : ℤ × List ℕ) {place : ℕ} → is_path q u v t.1 ≡ true → position (is_solved q solved) t.1 ≡ Some place
-      → Fits (term_around q s numbers m u t place)
+  pub term_fits : (t : ℤ × List ℕ) {place : ℕ} → is_path q u v t.1 ≡ true → position (is_solved q solved) t.1 ≡ Some place
+      → Fits (around t place)
   term_fits t {place} path found =
       let at = solved_at q solved u v t.1 path found in
       let x = get_or t.1 place 0 in
       let columns = side_in s (source q x) in
       let size = side_in s (target q x) * columns in
-      let f : ℕ → ℕ = λ k. letter_value q s numbers x (k / columns) (k % columns) in
-      let rep = represents q quiver m model maps in
-      let left = product_is_arrow (matrices_laws m.modulus) q (representation_of q m) rep (target q x) v (take place t.1)
-      (quiver.target_is_object x at.fit.letter) at.fit.before in
-      let right = product_is_arrow (matrices_laws m.modulus) q (representation_of q m) rep u (source q x) (drop (place + 1) t.1) in_u at.fit.behind in
-      let least = model.modulus.at_least in
+      let g : ℕ → ℕ = λ k. letter_value q s numbers x (k / columns) (k % columns) in
+      let left = product_ends given v (take place t.1) ((quiver given).target_is_object x at.fit.letter) at.fit.before in
+      let right = product_ends given (source q x) (drop (place + 1) t.1) in_u at.fit.behind in
       record {
         fits = record {
-          coefficient = residue_below m.modulus t.0 (omega (arith, least));
+          coefficient = residue_below s.modulus t.0 (positive given);
           left = left.arrow;
           right = right.arrow;
-          one_each = length-map-range_with_len f 0 size
-              ∙ ap₂ ◌*◌ (sym (side_is (target q x)) ∙ sym left.source) (sym (side_is (source q x)) ∙ sym right.target);
+          one_each = length-map-range_with_len g 0 size ∙ ap₂ ◌*◌ (sym left.source) (sym right.target);
           below = values_below at.fit.letter at.there;
         };
         has_sides = record { rows_are = left.target; columns_are = right.source };
       }
 
   pub terms_fit : (p : List (ℤ × List ℕ)) → AllByRecursion (λ t. is_path q u v t.1 ≡ true) p
-      → AllByRecursion Fits (solved_terms q s solved numbers m u p)
+      → AllByRecursion Fits (solved_terms q s solved numbers (model given) u p)
   terms_fit [] paths = tt
   terms_fit (t ∷ p) paths =
-      all-append Fits (listed (solved_term q s solved numbers m u t)) (solved_terms q s solved numbers m u p)
-      (go (position (is_solved q solved) t.1) refl) (terms_fit p paths.1)
-    where
-      go : (o : Option ℕ) → position (is_solved q solved) t.1 ≡ o
-          → AllByRecursion Fits (listed (option_map (term_around q s numbers m u t) o))
-      go None none = tt
-      go (Some place) found = (term_fits t paths.0 found, tt)
+      all-append Fits (listed (solved_term q s solved numbers (model given) u t)) (solved_terms q s solved numbers (model given) u p)
+      (elim (position (is_solved q solved) t.1) as
+      (λ o. position (is_solved q solved) t.1 ≡ o → AllByRecursion Fits (listed (option_map (around t) o))) [
+        | None ↦ λ none. tt
+        | Some place ↦ λ found. (term_fits t paths.0 found, tt)
+      ] refl) (terms_fit p paths.1)

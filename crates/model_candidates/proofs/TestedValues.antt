@@ -21,7 +21,7 @@ use Rattle.model_checker.proofs.Values.{zero_from_value}
 use Rattle.model_candidates.specs.Candidates.{IsCandidate, IsGreedy, IsSolution, draws, is_exhaustive, model_by}
 use Rattle.model_candidates.specs.Plans.{AreEntryValues, linear_assumptions}
 use Rattle.model_candidates.specs.Residues.{residues}
-use Rattle.model_candidates.proofs.AssumptionEntries.{kept_one}
+use Rattle.model_candidates.proofs.AssumptionTerms.{of_kept}
 use Rattle.model_candidates.proofs.AssumptionsSuffice.{linear_assumptions_are_zero}
 
 -- the greedy values of draws
@@ -81,7 +81,6 @@ module _ (problem : Problem) (m : Model) where
   pub zero_linear : (ps : List Poly) (keep : List (ℤ × List ℕ) → Bool) (place : ℕ) {p : Poly} → slice_get ps place ≡ Some p → keep p.terms ≡ true
       → AllByRecursion (IsZeroIn problem m) (polynomials (filter (λ r. keep r.terms) ps)) → IsZeroIn problem m p.terms
   zero_linear ps keep place {p} is kept all =
-      let here : get_or (polynomials ps) place [] ≡ p.terms =
-      get_or_from_slice_get (polynomials ps) place p.terms [] (slice_get-map (λ r. r.terms) ps place ∙ ap (option_map (λ r. r.terms)) is) in
-      subst (IsZeroIn problem m) here
-      (kept_one (IsZeroIn problem m) keep ps place (slice_get_within ps place p is) (ap keep here ∙ kept) all)
+      all_at (λ r. keep r.terms ≡ true → IsZeroIn problem m r.terms) ps place p
+      (All-from_recursion (λ r. keep r.terms ≡ true → IsZeroIn problem m r.terms) ps
+      (of_kept (IsZeroIn problem m) (λ r. keep r.terms) ps all)) is kept

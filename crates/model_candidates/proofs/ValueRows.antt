@@ -8,9 +8,10 @@ use Rattle.std.proofs.lemmas.List.Elements.{recursion_from_All}
 use Rattle.std.proofs.Math.Nat.{mod-eq_of_lt}
 use Rattle.definitions.specs.Category.{IsArrow}
 use Rattle.definitions.specs.Quiver.{Quiver, leads, is_path, IsTyped}
-use Rattle.definitions.specs.Representation.{Representation, multiple, word_value}
+use Rattle.definitions.specs.Representation.{multiple, word_value, value_at}
 use Rattle.definitions.specs.Soundness.{HasValueZeroAt}
 use Rattle.nc_polynomial.specs.Shape.{IsCanonical}
+use Rattle.quiver.specs.Declarations.{quiver_of}
 use Rattle.representations.proofs.TermSums.{value_is_arrow}
 use Rattle.representations.proofs.TypedTerms.{words_are_paths}
 use Rattle.matrix_models.specs.Matrix.{Matrix, entry_at}
@@ -18,77 +19,75 @@ use Rattle.matrix_models.specs.Matrices.{matrices, matrix_sum, zero_matrix}
 use Rattle.matrix_models.specs.Entries.{entry_at-matrix_of, same_matrix}
 use Rattle.matrix_models.specs.Laws.{matrices_laws}
 use Rattle.matrix_models.specs.Totals.{add_mod}
-use Rattle.model_checker.specs.Representations.{representation_of}
+use Rattle.matrix_models.proofs.Congruences.{add_alike}
+use Rattle.adjoint_rules.specs.declared.parts.Shape.{Shape}
+use Rattle.adjoint_rules.specs.declared.problem.Problem.{Problem}
 use Rattle.model_checker.proofs.Places.{all_at}
-use Rattle.model_candidates.specs.declared.word_rows.EntryValues.{EntryValues}
 use Rattle.model_candidates.specs.Candidates.{side_in}
 use Rattle.model_candidates.specs.Residues.{residue, residues}
-use Rattle.model_candidates.specs.WordRows.{AreTabled, model_in, product_in, quiver_in, term_entry, value_in}
-use Rattle.model_candidates.proofs.CandidateModels.{side_is_object}
-use Rattle.model_candidates.proofs.FactorSums.{multiple_columns, multiple_rows}
-use Rattle.model_candidates.proofs.ProductEntries.{multiple_entry}
+use Rattle.model_candidates.proofs.GivenValues.{AreGiven, f, positive, product, product_ends, represented, side_object, term}
+use Rattle.model_candidates.proofs.ProductEntries.{multiple_columns, multiple_entry, multiple_rows, residue_below}
 use Rattle.model_candidates.proofs.WordProducts.{leads_of_path, word_value-product}
-use Rattle.model_candidates.proofs.WordRows.{is_modulus, product_ends, quiver, represented}
 
 -- all letters of a word
 pub whole_word : (w : List ℕ) {to : ℕ} → to ≡ length w → drop 0 (take to w) ≡ w
 whole_word w {to} all = take_all to w (omega (arith, all))
 
-module _ (x : EntryValues) (is : AreTabled x) (u v : ℕ) (in_u : u < (quiver_in x).objects) (in_v : v < (quiver_in x).objects) where
+module _ {problem : Problem} {s : Shape} {values : List ℕ} (given : AreGiven problem s values) (u v : ℕ)
+    (in_u : u < (quiver_of problem.parts.quiver).objects) (in_v : v < (quiver_of problem.parts.quiver).objects) where
   abbrev q : Quiver
-  q = quiver_in x
+  q = quiver_of problem.parts.quiver
 
   abbrev m : ℕ
-  m = x.shape.now.modulus
+  m = s.modulus
 
   abbrev rows : ℕ
-  rows = side_in x.shape.now v
+  rows = side_in s v
 
   abbrev columns : ℕ
-  columns = side_in x.shape.now u
-
-  abbrev f : Representation ℕ Matrix
-  f = representation_of q (model_in x)
+  columns = side_in s u
 
   abbrev none : Matrix
   none = zero_matrix m rows columns
 
-  pub positive : 0 < m
-  positive = let least = (is_modulus x is).at_least in omega (arith, least)
+  abbrev pub value : List (ℤ × List ℕ) → Matrix
+  value p = value_at (matrices m) q (f given) u v p
 
-  pub word_leads : (w : List ℕ) {to : ℕ} → to ≡ length w → is_path q u v w ≡ true → leads q u v (drop 0 (take to w)) ≡ true
+  word_leads : (w : List ℕ) {to : ℕ} → to ≡ length w → is_path q u v w ≡ true → leads q u v (drop 0 (take to w)) ≡ true
   word_leads w all path = subst (λ xs. leads q u v xs ≡ true) (sym (whole_word w all)) (leads_of_path q u v w path)
 
-  pub value_ends : (p : List (ℤ × List ℕ)) → IsArrow (matrices m) columns rows (value_in x u v p)
-  value_ends p = value_is_arrow (matrices_laws m) q f (represented x is) u v in_u in_v p
+  pub value_ends : (p : List (ℤ × List ℕ)) → IsArrow (matrices m) columns rows (value p)
+  value_ends p = value_is_arrow (matrices_laws m) q (f given) (represented given) u v in_u in_v p
 
   module _ (i k : ℕ) (in_rows : i < rows) (in_columns : k < columns) where
     -- one term
     word_entry : (w : List ℕ) → is_path q u v w ≡ true → (c : ℤ)
-        → entry_at (multiple (matrices m) c (word_value (matrices m) f none w)) i k ≡ (residue m c * entry_at (product_in x u w) i k) % m
+        → entry_at (multiple (matrices m) c (word_value (matrices m) (f given) none w)) i
+        k ≡ (residue m c * entry_at (product given u w) i k) % m
     word_entry w path c =
-        let ends = product_ends x is v w in_u (leads_of_path q u v w path) in
-        ap (λ y. entry_at (multiple (matrices m) c y) i k) (word_value-product (matrices_laws m) q f (represented x is) u v w none path)
-        ∙ multiple_entry m c (product_in x u w) i k positive (subst (λ n. i < n) (sym ends.target) in_rows)
+        let ends = product_ends given v w in_u (leads_of_path q u v w path) in
+        ap (λ y. entry_at (multiple (matrices m) c y) i k)
+        (word_value-product (matrices_laws m) q (f given) (represented given) u v w none path)
+        ∙ multiple_entry m c (product given u w) i k (positive given) (subst (λ n. i < n) (sym ends.target) in_rows)
         (subst (λ n. k < n) (sym ends.source) in_columns)
 
     pub value_entry : (p : List (ℤ × List ℕ)) → AllByRecursion (λ t. is_path q u v t.1 ≡ true) p
-        → entry_at (value_in x u v p) i k ≡ sum_by (term_entry x u i k) p % m
-    value_entry [] paths = entry_at-matrix_of m rows columns (λ row column. 0) i k in_rows in_columns ∙ sym (mod-eq_of_lt positive)
+        → entry_at (value p) i k ≡ sum_by (term given u i k) p % m
+    value_entry [] paths = entry_at-matrix_of m rows columns (λ row column. 0) i k in_rows in_columns ∙ sym (mod-eq_of_lt (positive given))
     value_entry (t ∷ p) paths =
-        let ends = product_ends x is v t.1 in_u (leads_of_path q u v t.1 paths.0) in
-        let word = word_value (matrices m) f none t.1 in
-        let word_is = word_value-product (matrices_laws m) q f (represented x is) u v t.1 none paths.0 in
+        let ends = product_ends given v t.1 in_u (leads_of_path q u v t.1 paths.0) in
+        let word = word_value (matrices m) (f given) none t.1 in
+        let word_is = word_value-product (matrices_laws m) q (f given) (represented given) u v t.1 none paths.0 in
         let a = multiple (matrices m) t.0 word in
-        let rest = value_in x u v p in
+        let rest = value p in
         let rows_are : a.rows ≡ rows = multiple_rows m t.0 word ∙ ap (λ y. y.rows) word_is ∙ ends.target in
         let columns_are : a.columns ≡ columns = multiple_columns m t.0 word ∙ ap (λ y. y.columns) word_is ∙ ends.source in
         ap (λ b. entry_at (cond b (matrix_sum m a rest) rest) i k) paths.0
         ∙ entry_at-matrix_of m a.rows a.columns (λ row column. (entry_at a row column + entry_at rest row column) % m) i k
         (subst (λ n. i < n) (sym rows_are) in_rows) (subst (λ n. k < n) (sym columns_are) in_columns)
         ∙ ap₂ (λ y z. (y + z) % m) (word_entry t.1 paths.0 t.0) (value_entry p paths.1)
-        ∙ add_mod m (term_entry x u i k t) (sum_by (term_entry x u i k) p)
-        ∙ ap (λ y. y % m) (sym (sum_by-cons (term_entry x u i k) t p))
+        ∙ add_mod m (term given u i k t) (sum_by (term given u i k) p)
+        ∙ ap (λ y. y % m) (sym (sum_by-cons (term given u i k) t p))
 
   -- the term at a place
   module _ (p : List (ℤ × List ℕ)) (place : ℕ) (t : ℤ × List ℕ) (there : slice_get p place ≡ Some t) where
@@ -103,28 +102,43 @@ module _ (x : EntryValues) (is : AreTabled x) (u v : ℕ) (in_u : u < (quiver_in
         ap (λ xs. get_or xs place 0) are ∙ get_or-map (λ y. residue m y.0) p place t 0 (slice_get_within p place t there)
         ∙ ap (λ y. residue m y.0) here
 
-    pub sum_more : (i k : ℕ) → sum_by (term_entry x u i k) (take (place + 1) p) ≡ sum_by (term_entry x u i k) (take place p) + term_entry x u i k t
+    pub coefficient_below : (coefficients : List ℕ) → coefficients ≡ residues m p → get_or coefficients place 0 < m
+    coefficient_below coefficients are = subst (λ y. y < m) (sym (coefficient_at coefficients are)) (residue_below m t.0 (positive given))
+
+    pub leads_at : IsCanonical p → IsTyped q u v p → {to : ℕ} → to ≡ length t.1 → leads q u v (drop 0 (take to t.1)) ≡ true
+    leads_at canonical typed all = word_leads t.1 all (path_at canonical typed)
+
+    pub sum_more : (i k : ℕ) → sum_by (term given u i k) (take (place + 1) p) ≡ sum_by (term given u i k) (take place p) + term given u i k
+        t
     sum_more i k =
-        sum_by_more (term_entry x u i k) p place t (slice_get_within p place t there)
-        ∙ ap (λ y. sum_by (term_entry x u i k) (take place p) + term_entry x u i k y) here
+        sum_by_more (term given u i k) p place t (slice_get_within p place t there)
+        ∙ ap (λ y. sum_by (term given u i k) (take place p) + term given u i k y) here
+
+    -- the sum after the term, by its coefficient and the entry of the product
+    pub next_sum : (coefficients : List ℕ) → coefficients ≡ residues m p → (by i k old new : ℕ) {entry : ℕ}
+        → entry ≡ entry_at (product given u t.1) i k → old % by ≡ sum_by (term given u i k) (take place p) % by
+        → new % by ≡ (old + get_or coefficients place 0 * entry) % by → new % by ≡ sum_by (term given u i k) (take (place + 1) p) % by
+    next_sum coefficients are by i k old new {entry} entry_is so_far added =
+        added ∙ add_alike by old (sum_by (term given u i k) (take place p)) (get_or coefficients place 0 * entry) (term given u i k t)
+        so_far
+        (ap (λ y. y % by) (ap₂ ◌*◌ (coefficient_at coefficients are) entry_is)) ∙ ap (λ y. y % by) (sym (sum_more i k))
 
   pub paths_of : {p : List (ℤ × List ℕ)} → IsCanonical p → IsTyped q u v p → AllByRecursion (λ t. is_path q u v t.1 ≡ true) p
   paths_of {p} canonical typed = recursion_from_All (λ t. is_path q u v t.1 ≡ true) p (words_are_paths q u v p canonical typed)
 
   -- zero, where all entries are
   abbrev IsZeroThere : List (ℤ × List ℕ) → Type 0
-  IsZeroThere p = HasValueZeroAt (matrices m) q f u v p
+  IsZeroThere p = HasValueZeroAt (matrices m) q (f given) u v p
 
-  pub entry_of_zero : (p : List (ℤ × List ℕ)) → IsZeroThere p → {i k : ℕ} → i < rows → k < columns → entry_at (value_in x u v p) i k ≡ 0
+  pub entry_of_zero : (p : List (ℤ × List ℕ)) → IsZeroThere p → {i k : ℕ} → i < rows → k < columns → entry_at (value p) i k ≡ 0
   entry_of_zero p zero {i} {k} in_rows in_columns =
       ap (λ y. entry_at y i k) zero ∙ entry_at-matrix_of m rows columns (λ row column. 0) i k in_rows in_columns
 
-  pub zero_by_entries : (p : List (ℤ × List ℕ)) → ((i k : ℕ) → i < rows → k < columns → entry_at (value_in x u v p) i k ≡ 0) → IsZeroThere p
+  pub zero_by_entries : (p : List (ℤ × List ℕ)) → ((i k : ℕ) → i < rows → k < columns → entry_at (value p) i k ≡ 0) → IsZeroThere p
   zero_by_entries p each =
       let ends = value_ends p in
-      let zero = (matrices_laws m).zero_is_arrow columns rows (side_is_object q x.shape.now (quiver x is) is.shape in_u)
-      (side_is_object q x.shape.now (quiver x is) is.shape in_v) in
-      same_matrix m (value_in x u v p) none ends.arrow zero.arrow ends.target ends.source (λ i k in_rows in_columns.
+      let zero = (matrices_laws m).zero_is_arrow columns rows (side_object given in_u) (side_object given in_v) in
+      same_matrix m (value p) none ends.arrow zero.arrow ends.target ends.source (λ i k in_rows in_columns.
       each i k (subst (λ n. i < n) ends.target in_rows) (subst (λ n. k < n) ends.source in_columns)
       ∙ sym (entry_at-matrix_of m rows columns (λ row column. 0) i k (subst (λ n. i < n) ends.target in_rows)
       (subst (λ n. k < n) ends.source in_columns)))

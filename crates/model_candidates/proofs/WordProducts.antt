@@ -1,7 +1,7 @@
 -- The value of a path is the product of its letters: at each of them, the product before it, its arrow, and the product behind it.
 use Rattle.std.proofs.Common.{◌≡◌, ℕ, ◌<◌, true, List, [], ◌∷◌, ◌++◌, sym, ap, subst, ◌∙◌, eqb-true}
 use Rattle.definitions.specs.Category.{Structure, IsArrow, PreadditiveLaws}
-use Rattle.definitions.specs.Quiver.{Quiver, IsQuiver, letters, source, target, leads, is_path}
+use Rattle.definitions.specs.Quiver.{Quiver, letters, source, target, leads, is_path}
 use Rattle.definitions.specs.Representation.{Representation, Represents, path_value, word_value}
 use Rattle.definitions.proofs.Paths.{step, split}
 use Rattle.definitions.proofs.Values.{letter_is_arrow}
@@ -57,7 +57,7 @@ module _ {Object Arrow : Type 0} {s : Structure Object Arrow} (laws : Preadditiv
   word_value-product u v (a ∷ w) none path = path_value-product u v a w path
 
   -- two words
-  product-append : {u t : ℕ} (v : ℕ) (l r : List ℕ) → u < q.objects → t < q.objects → leads q t v l ≡ true → leads q u t r ≡ true
+  pub product-append : {u t : ℕ} (v : ℕ) (l r : List ℕ) → u < q.objects → t < q.objects → leads q t v l ≡ true → leads q u t r ≡ true
       → letters_product s f u (l ++ r) ≡ s.compose (letters_product s f t l) (letters_product s f u r)
   product-append {u} {t} v [] r in_u in_t left right =
       sym (laws.identity_left (f.object u) (f.object t) (letters_product s f u r) (product_is_arrow u t r in_u right))
@@ -67,12 +67,3 @@ module _ {Object Arrow : Type 0} {s : Structure Object Arrow} (laws : Preadditiv
       ∙ sym (laws.compose_assoc (f.object u) (f.object t) (f.object (source q a)) (f.object v) (f.arrow a) (letters_product s f t l) (letters_product s f u r)
       (letter_is_arrow laws q f rep v a first.letter first.target) (product_is_arrow t (source q a) l in_t first.rest)
       (product_is_arrow u t r in_u right))
-
-  -- at a letter
-  pub word_value-letter : IsQuiver q → {u : ℕ} (v : ℕ) (l : List ℕ) (x : ℕ) (r : List ℕ) (none : Arrow) → u < q.objects
-      → is_path q u v (l ++ x ∷ r) ≡ true
-      → word_value s f none (l ++ x ∷ r) ≡ s.compose (letters_product s f (target q x) l) (s.compose (f.arrow x) (letters_product s f u r))
-  word_value-letter quiver {u} v l x r none in_u path =
-      let fit = fit_letter q u v l x r path in
-      word_value-product u v (l ++ x ∷ r) none path
-      ∙ product-append v l (x ∷ r) in_u (quiver.target_is_object x fit.letter) fit.before fit.whole

@@ -8,31 +8,26 @@ use Rattle.std.proofs.lemmas.List.Elements.{All-get_or}
 use Rattle.std.proofs.lemmas.List.FromFn.{length-map-range_with_len}
 use Rattle.std.proofs.Math.Nat.{mod-eq_of_lt}
 use Rattle.definitions.specs.Category.{IsArrow}
-use Rattle.definitions.specs.Quiver.{Quiver, IsQuiver, letters, source, target, leads}
-use Rattle.definitions.specs.Representation.{Represents}
+use Rattle.definitions.specs.Quiver.{Quiver, letters, source, target, leads}
 use Rattle.definitions.proofs.Paths.{Step, step}
 use Rattle.quiver.specs.Declarations.{letter_count}
 use Rattle.quiver.proofs.Counts.{letters-quiver_of}
-use Rattle.matrix_models.specs.Matrix.{IsModulus, entry_at}
+use Rattle.matrix_models.specs.Matrix.{entry_at}
 use Rattle.matrix_models.specs.Matrices.{identity_matrix, matrices, total}
 use Rattle.matrix_models.specs.Entries.{entry_at-matrix_of}
-use Rattle.matrix_models.specs.Laws.{matrices_laws}
 use Rattle.matrix_models.specs.Totals.{total_mod, total_pick, total_same, total_swap}
 use Rattle.adjoint_rules.specs.Limits.{shape_side_limit}
 use Rattle.adjoint_rules.specs.Problem.{IsSide}
-use Rattle.adjoint_rules.proofs.Generators.{posed_quiver}
-use Rattle.model_checker.specs.Representations.{representation_of}
-use Rattle.model_checker.proofs.Arrows.{arrow_of-identity, represents}
+use Rattle.model_checker.proofs.Arrows.{arrow_of-identity}
 use Rattle.model_candidates.specs.declared.word_rows.EntryValues.{EntryValues}
 use Rattle.model_candidates.specs.declared.letter_tables.LetterTable.{LetterTable}
 use Rattle.model_candidates.specs.Candidates.{side_in}
 use Rattle.model_candidates.specs.LetterNumbers.{letter_values}
 use Rattle.model_candidates.specs.LetterTables.{IsTable, letter_table, value_in_table}
 use Rattle.model_candidates.specs.WordRows.{AreTabled, IsRow, matrix_in, model_in, product_in, quiver_in}
-use Rattle.model_candidates.proofs.CandidateModels.{model_by_is_model, model_by_has_matrices, modulus_of_shape}
+use Rattle.model_candidates.proofs.GivenValues.{AreGiven, given_of, positive, product_ends, quiver, represented}
 use Rattle.model_candidates.proofs.LetterTables.{entry_in_table, has_none, has_table, is_table}
 use Rattle.model_candidates.proofs.SolvedPlaces.{letters_from}
-use Rattle.model_candidates.proofs.WordProducts.{product_is_arrow}
 
 -- an identity
 flipped : (i k : ℕ) → eqb i k ≡ eqb k i
@@ -98,22 +93,11 @@ module _ (x : EntryValues) (is : AreTabled x) where
   abbrev side : ℕ → ℕ
   side v = side_in x.shape.now v
 
-  pub quiver : IsQuiver q
-  quiver = posed_quiver x.problem.now.parts x.problem.now.posed
-
-  pub is_modulus : IsModulus m
-  is_modulus = modulus_of_shape q x.shape.now quiver is.shape
-
-  pub represented : Represents (matrices m) q (representation_of q (model_in x))
-  represented =
-      represents q quiver (model_in x) (model_by_is_model q x.shape.now quiver is.shape 0 x.values.now)
-      (model_by_has_matrices q x.shape.now quiver is.shape x.values.now is.values.one_each is.values.below 0)
+  abbrev given : AreGiven x.problem.now x.shape.now x.values.now
+  given = given_of is
 
   pub letter_ends : {a : ℕ} → a < letters q → IsArrow (matrices m) (side (source q a)) (side (target q a)) (matrix_in x a)
-  letter_ends {a} letter = represented.arrows a letter
-
-  pub product_ends : {u : ℕ} (v : ℕ) (w : List ℕ) → u < q.objects → leads q u v w ≡ true → IsArrow (matrices m) (side u) (side v) (product_in x u w)
-  product_ends {u} v w in_u path = product_is_arrow (matrices_laws m) q (representation_of q (model_in x)) represented u v w in_u path
+  letter_ends {a} letter = (represented given).arrows a letter
 
   -- entries of a row, and zeros behind them
   pub entry_below : (row : List ℕ) (k : ℕ) → All (λ entry. entry < m) row → get_or row k 0 < m
@@ -121,7 +105,7 @@ module _ (x : EntryValues) (is : AreTabled x) where
     where
       go : (k < length row) ⊎ (length row ≤ k) → get_or row k 0 < m
       go (inl inside) = All-get_or (λ entry. entry < m) row k 0 inside below
-      go (inr past) = subst (λ e. e < m) (sym (get_or_past row k 0 past)) (let least = is_modulus.at_least in omega (arith, least))
+      go (inr past) = subst (λ e. e < m) (sym (get_or_past row k 0 past)) (positive given)
 
   -- letters
   pub letter_inside : {a : ℕ} → a < letter_count x.problem.now.parts.quiver → a < letters q
@@ -141,12 +125,14 @@ module _ (x : EntryValues) (is : AreTabled x) where
         let s = x.shape.now in
         let has = has_table q s a (sym read ∙ some) in
         record {
-          table = subst (IsTable (length x.values.now)) (sym has.same) (is_table q quiver s is.shape a letter has.map is.values.one_each);
+          table = subst (IsTable (length x.values.now)) (sym has.same)
+              (is_table q (quiver given) s is.shape a letter has.map is.values.one_each);
           rows = ap (λ y. y.rows) has.same;
           columns = ap (λ y. y.columns) has.same;
           entries = λ i j in_rows in_columns.
               ap (λ y. value_in_table x.values.now y i j) has.same
-              ∙ sym (entry_in_table q quiver s is.shape a letter has.map i j (subst (λ n. i < n) (ap (λ y. y.rows) has.same) in_rows)
+              ∙ sym (entry_in_table q (quiver given) s is.shape a letter has.map i j
+              (subst (λ n. i < n) (ap (λ y. y.rows) has.same) in_rows)
               (subst (λ n. j < n) (ap (λ y. y.columns) has.same) in_columns) x.values.now);
         }
 
@@ -155,8 +141,8 @@ module _ (x : EntryValues) (is : AreTabled x) where
         let identity = has_none q x.shape.now a (sym read ∙ none) in
         record {
           matrix = arrow_of-identity q (model_in x) a identity;
-          source_is = quiver.identity_source a identity;
-          target_is = quiver.identity_target a identity;
+          source_is = (quiver given).identity_source a identity;
+          target_is = (quiver given).identity_target a identity;
         }
 
   pub side_few : {v : ℕ} → v < q.objects → side v ≤ shape_side_limit
@@ -168,7 +154,7 @@ module _ (x : EntryValues) (is : AreTabled x) where
   few_numbers numbers {a} letter =
       let size = side (target q a) * side (source q a) in
       subst (λ n. n ≤ shape_side_limit * shape_side_limit) (sym (length-map-range_with_len _ 0 size))
-      (mul-le _ _ _ _ (side_few (quiver.target_is_object a letter)) (side_few (quiver.source_is_object a letter)))
+      (mul-le _ _ _ _ (side_few ((quiver given).target_is_object a letter)) (side_few ((quiver given).source_is_object a letter)))
 
   -- the product of a letter and more
   product_entry : (u v a : ℕ) (w : List ℕ) → u < q.objects → leads q u v (a ∷ w) ≡ true → (i k : ℕ) → i < side v → k < side u
@@ -177,7 +163,7 @@ module _ (x : EntryValues) (is : AreTabled x) where
   product_entry u v a w in_u path i k in_rows in_columns =
       let first = step q u v a w path in
       let left = letter_ends first.letter in
-      let right = product_ends (source q a) w in_u first.rest in
+      let right = product_ends given (source q a) w in_u first.rest in
       let sum : ℕ → ℕ → ℕ → ℕ = λ n row column. total n (λ j. entry_at (matrix_in x a) row j * entry_at (product_in x u w) j column) in
       entry_at-matrix_of m (matrix_in x a).rows (product_in x u w).columns (λ row column. sum (matrix_in x a).columns row column % m) i k
       (subst (λ n. i < n) (sym (left.target ∙ ap side first.target)) in_rows) (subst (λ n. k < n) (sym right.source) in_columns)

@@ -6,7 +6,7 @@ use Rattle.std.specs.List.{All, flat_map, range_with_len, sum_by}
 use Rattle.std.specs.Option.{option_map}
 use Rattle.definitions.specs.Category.{Structure}
 use Rattle.definitions.specs.Quiver.{Quiver, target}
-use Rattle.definitions.specs.Representation.{Representation}
+use Rattle.definitions.specs.Representation.{Representation, value_at}
 use Rattle.quiver.specs.Declarations.{quiver_of}
 use Rattle.word_core.specs.declared.letter.Letter.{Letter}
 use Rattle.matrix_models.specs.Matrix.{Matrix, IsMatrix, entry_at}
@@ -24,7 +24,6 @@ pub use Rattle.model_candidates.specs.Residues.{residue}
 use Rattle.model_candidates.specs.Unknowns.{solved_flags, set_count, unknown_numbers}
 use Rattle.model_candidates.specs.LetterNumbers.{letter_values}
 use Rattle.model_candidates.specs.Plans.{terms_of}
-use Rattle.model_candidates.specs.Equations.{assumption_value}
 
 -- the product of the arrows of letters, and the identity of the object where there are none
 abbrev pub letters_product : {Object Arrow : Type 0} → Structure Object Arrow → Representation Object Arrow → ℕ → List ℕ → Arrow
@@ -95,6 +94,12 @@ row_with n value ts place =
 -- that all are
 abbrev pub rows_with : ℕ → Matrix → List SolvedTerm → List LinearRow
 rows_with n value ts = map (row_with n value ts) (range_with_len 0 (value.rows * value.columns))
+
+-- the value of the assumption in the model
+abbrev pub assumption_value : Problem → Model → LinearAssumption → Matrix
+assumption_value problem m g =
+    let q = quiver_of problem.parts.quiver in
+    value_at (matrices m.modulus) q (representation_of q m) g.sig.source.0 g.sig.target.0 (terms_of problem g)
 
 -- that the assumption is zero, where the entries that are solved for have the value 0 in the model
 abbrev pub equations_of : Problem → Shape → Model → LinearAssumption → List LinearRow

@@ -8,8 +8,8 @@ pub mod LetterTables
 pub mod Residues
 pub mod Tables
 pub mod Plans
-pub mod Equations
 pub mod Factors
+pub mod Equations
 pub mod Known
 pub mod WordRows
 pub mod Laws

@@ -17,35 +17,27 @@ module _ (problem : Problem) (claim seed : ℕ) where
   None_in number k = NoneBreaksAt problem claim seed number k
 
   -- a block
-  none_further : (number first n : ℕ) → NoneBefore problem claim seed number first → ((k : ℕ) → first ≤ k → k < first + n → None_in number k)
-      → NoneBefore problem claim seed number (first + n)
-  none_further number first n before block i j (inl earlier) = before i j (inl earlier)
-  none_further number first n before block i j (inr same) = go (cases_lt j first)
-    where
-      go : (j < first) ⊎ (first ≤ j) → None_in i j
-      go (inl h) = before i j (inr (same.0, h))
-      go (inr h) = subst (λ x. None_in x j) (sym same.0) (block j h same.1)
+  none_further : (number first to : ℕ) → NoneBefore problem claim seed number first → ((k : ℕ) → first ≤ k → k < to → None_in number k)
+      → NoneBefore problem claim seed number to
+  none_further number first to before block i j (inl earlier) = before i j (inl earlier)
+  none_further number first to before block i j (inr same) = elim (cases_lt j first) [
+    | inl h ↦ before i j (inr (same.0, h))
+    | inr h ↦ subst (λ x. None_in x j) (sym same.0) (block j h same.1)
+  ]
 
   least_here : (number first : ℕ) (f : Found) → NoneBefore problem claim seed number first → IsFirstFrom problem claim seed number first f
       → IsLeastBreaking problem claim seed f.shape f.candidate f.model
   least_here number first f before is = record {
     breaks = subst (λ n. Breaks problem claim seed n f.candidate f.model) (sym is.found.shape_is) is.found.breaks;
-    least = λ i j m earlier. least i j (subst (λ n. IsEarlier i j n f.candidate) is.found.shape_is earlier) m;
+    least = λ i j m earlier. none_further number first f.candidate before is.earlier i j
+        (subst (λ n. IsEarlier i j n f.candidate) is.found.shape_is earlier) m;
   }
-    where
-      least : (i j : ℕ) → IsEarlier i j number f.candidate → None_in i j
-      least i j (inl earlier) = before i j (inl earlier)
-      least i j (inr same) = go (cases_lt j first)
-        where
-          go : (j < first) ⊎ (first ≤ j) → None_in i j
-          go (inl h) = before i j (inr (same.0, h))
-          go (inr h) = subst (λ x. None_in x j) (sym same.0) (is.earlier j h same.1)
 
   pub searched_further : (number first n : ℕ) (old new : Option Found) → IsNone old → IsSearchedTo problem claim seed number first old
       → MatchOption new ((k : ℕ) → first ≤ k → k < first + n → None_in number k) (IsFirstFrom problem claim seed number first)
       → IsSearchedTo problem claim seed number (first + n) new
   searched_further number first n (Some f) new free before is = absurd (cc)
-  searched_further number first n None None free before is = none_further number first n before is
+  searched_further number first n None None free before is = none_further number first (first + n) before is
   searched_further number first n None (Some f) free before is = least_here number first f before is
 
   -- what is found stays
@@ -63,14 +55,13 @@ module _ (problem : Problem) (claim seed : ℕ) where
     where
       none : NoneBefore problem claim seed (number + 1) 0
       none i j (inr same) = absurd (omega (arith, same.1))
-      none i j (inl earlier) = go (cases_lt i number)
-        where
-          go : (i < number) ⊎ (number ≤ i) → None_in i j
-          go (inl h) = is i j (inl h)
-          go (inr h) = λ m b.
-              let same : i ≡ number = omega (arith, h, earlier) in
-              let there : IsShapeOf problem number b.shape = subst (λ n. IsShapeOf problem n b.shape) same b.numbered in
-              is i j (inr (same, subst (λ n. j < n) (sym (exact b.shape there)) b.in_range)) m b
+      none i j (inl earlier) = elim (cases_lt i number) [
+        | inl h ↦ is i j (inl h)
+        | inr h ↦ λ m b.
+            let same : i ≡ number = omega (arith, h, earlier) in
+            let there : IsShapeOf problem number b.shape = subst (λ n. IsShapeOf problem n b.shape) same b.numbered in
+            is i j (inr (same, subst (λ n. j < n) (sym (exact b.shape there)) b.in_range)) m b
+      ]
 
   -- after all shapes
   pub least_found : (number k : ℕ) (found : Option Found) → IsSearchedTo problem claim seed number k found

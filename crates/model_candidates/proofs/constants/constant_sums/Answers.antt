@@ -1,13 +1,13 @@
-use Rattle.std.proofs.Common.{◌≡◌, ◌+◌, ◌*◌, ◌%◌, ◌<◌, ◌≤◌, ℕ, ℤ, List, get_or, length, take, sym, ap, ap₂, subst, ◌∙◌, arith}
+use Rattle.std.proofs.Common.{◌≡◌, ◌+◌, ◌%◌, ◌<◌, ◌≤◌, ℕ, ℤ, List, get_or, length, take, sym, ap, subst, ◌∙◌, arith}
 use Rattle.std.specs.List.{All, sum_by}
 use Rattle.std.proofs.lemmas.List.{take_all}
 use Rattle.quiver.proofs.Counts.{letters-quiver_of}
 use Rattle.matrix_models.specs.Matrix.{entry_at}
-use Rattle.matrix_models.proofs.Congruences.{add_alike}
 use Rattle.model_candidates.specs.WordRows.{product_in, quiver_in, term_entry}
 use Rattle.model_candidates.proofs.KnownConstants.{few_at, nothing_there}
-use Rattle.model_candidates.proofs.SolvedTerms.{path_over, residue_below}
-use Rattle.model_candidates.proofs.ValueRows.{coefficient_at, path_at, paths_of, positive, sum_more, value_entry, whole_word, word_leads}
+use Rattle.model_candidates.proofs.SolvedTerms.{path_over}
+use Rattle.model_candidates.proofs.GivenValues.{given_of}
+use Rattle.model_candidates.proofs.ValueRows.{coefficient_below, leads_at, next_sum, path_at, paths_of, sum_more, value_entry, whole_word}
 use Rattle.model_candidates.proofs.constants.constant_sums.Goals as goal
 
 pub solved_place-requires-clause-over : goal.solved_place-requires-clause-over
@@ -17,7 +17,8 @@ solved_place-requires-clause-over c =
     let u = c.args.ends.source.0 in
     let v = c.args.ends.target.0 in
     let w = c.term.result.1.now in
-    let path = path_at x c.requires.known.given u v c.requires.source c.requires.target p.terms c.loop-place.place (c.term.result.0, w) c.term.ensures
+    let path = path_at (given_of c.requires.known.given) u v c.requires.source c.requires.target p.terms c.loop-place.place
+    (c.term.result.0, w) c.term.ensures
     p.canonical c.requires.typed in
     subst (λ n. All (λ a. a < n) w) (letters-quiver_of x.problem.now.parts.quiver) (path_over (quiver_in x) u v w path)
 
@@ -31,7 +32,8 @@ loop-place-preserved-in-Some c =
     let m = c.from-modulus.result in
     let place = c.loop-place.place in
     let t : ℤ × List ℕ = (c.term.result.0, c.term.result.1.now) in
-    let path = path_at x c.requires.known.given u v c.requires.source c.requires.target p.terms place t c.term.ensures p.canonical c.requires.typed in
+    let path = path_at (given_of c.requires.known.given) u v c.requires.source c.requires.target p.terms place t c.term.ensures p.canonical
+    c.requires.typed in
     let few = few_at known c.requires.known p.terms c.requires.few place c.term.ensures in
     let now = c.loop-place.invariant in
     record {
@@ -41,7 +43,8 @@ loop-place-preserved-in-Some c =
           let within = subst (λ n. k < n) c.side_at-columns.ensures.value inside in
           let nothing = nothing_there known c.requires.known u v c.requires.source t path c.in-Some.field-0 (sym c.in-Some.ensures) few
           c.requires.row within in
-          let more = sum_more x c.requires.known.given u v c.requires.source c.requires.target p.terms place t c.term.ensures c.args.row k in
+          let more = sum_more (given_of c.requires.known.given) u v c.requires.source c.requires.target p.terms place t c.term.ensures
+          c.args.row k in
           let same : sum_by (term_entry x u c.args.row k) (take place p.terms) ≡ sum_by (term_entry x u c.args.row k) (take (place + 1) p.terms) =
           omega (arith, nothing, more) in
           now.each k inside ∙ ap (λ y. y % m) same;
@@ -49,57 +52,32 @@ loop-place-preserved-in-Some c =
 
 pub word_row-product-requires-clause-leads : goal.word_row-product-requires-clause-leads
 word_row-product-requires-clause-leads c =
-    let x = c.args.known.now.given in
     let p = c.args.poly.now in
-    let u = c.args.ends.source.0 in
-    let v = c.args.ends.target.0 in
-    let w = c.term.result.1.now in
-    word_leads x c.requires.known.given u v c.requires.source c.requires.target w c.len.ensures.exact
-    (path_at x c.requires.known.given u v c.requires.source c.requires.target p.terms c.loop-place.place (c.term.result.0, w) c.term.ensures p.canonical
-    c.requires.typed)
+    leads_at (given_of c.requires.known.given) c.args.ends.source.0 c.args.ends.target.0 c.requires.source c.requires.target p.terms
+    c.loop-place.place
+    (c.term.result.0, c.term.result.1.now) c.term.ensures p.canonical c.requires.typed c.len.ensures.exact
 
 pub add_multiple-requires-clause-times : goal.add_multiple-requires-clause-times
 add_multiple-requires-clause-times c =
-    let x = c.args.known.now.given in
-    let p = c.args.poly.now in
-    let u = c.args.ends.source.0 in
-    let v = c.args.ends.target.0 in
-    let m = x.shape.now.modulus in
-    let k : ℤ = c.term.result.0 in
     subst (λ n. get_or c.args.coefficients.now c.loop-place.place 0 < n) (sym c.from-modulus.ensures)
-    (subst (λ y. y < m)
-    (sym (coefficient_at x c.requires.known.given u v c.requires.source c.requires.target p.terms c.loop-place.place (k, c.term.result.1.now) c.term.ensures
-    c.args.coefficients.now c.requires.coefficients))
-    (residue_below m k (positive x c.requires.known.given u v c.requires.source c.requires.target)))
+    (coefficient_below (given_of c.requires.known.given) c.args.ends.source.0 c.args.ends.target.0 c.requires.source c.requires.target
+    c.args.poly.now.terms
+    c.loop-place.place (c.term.result.0, c.term.result.1.now) c.term.ensures c.args.coefficients.now c.requires.coefficients)
 
 pub loop-place-preserved : goal.loop-place-preserved
 loop-place-preserved c =
-    let x = c.args.known.now.given in
-    let p = c.args.poly.now in
     let u = c.args.ends.source.0 in
-    let v = c.args.ends.target.0 in
-    let i = c.args.row in
-    let m = c.from-modulus.result in
-    let place = c.loop-place.place in
     let w = c.term.result.1.now in
-    let t : ℤ × List ℕ = (c.term.result.0, w) in
-    let times = get_or c.args.coefficients.now place 0 in
-    let product = c.word_row-product.result in
-    let columns_are = c.side_at-columns.ensures.value in
     record {
       size = c.add_multiple.ensures.size;
       below = c.add_multiple.ensures.below;
       each = λ k inside.
-          let coefficient_is = coefficient_at x c.requires.known.given u v c.requires.source c.requires.target p.terms place t c.term.ensures
-          c.args.coefficients.now c.requires.coefficients in
-          let entry_is : get_or product k 0 ≡ entry_at (product_in x u w) i k =
-          c.word_row-product.ensures.row k (subst (λ n. k < n) columns_are inside)
-          ∙ ap (λ xs. entry_at (product_in x u xs) i k) (whole_word w c.len.ensures.exact) in
-          let term_is : times * get_or product k 0 ≡ term_entry x u i k t = ap₂ ◌*◌ coefficient_is entry_is in
-          c.add_multiple.ensures.each k inside
-          ∙ add_alike m (get_or c.loop-place.sums k 0) (sum_by (term_entry x u i k) (take place p.terms)) (times * get_or product k 0)
-          (term_entry x u i k t) (c.loop-place.invariant.each k inside) (ap (λ y. y % m) term_is)
-          ∙ ap (λ y. y % m) (sym (sum_more x c.requires.known.given u v c.requires.source c.requires.target p.terms place t c.term.ensures i k));
+          next_sum (given_of c.requires.known.given) u c.args.ends.target.0 c.requires.source c.requires.target c.args.poly.now.terms
+          c.loop-place.place
+          (c.term.result.0, w) c.term.ensures c.args.coefficients.now c.requires.coefficients c.from-modulus.result c.args.row k _ _
+          (c.word_row-product.ensures.row k (subst (λ n. k < n) c.side_at-columns.ensures.value inside)
+          ∙ ap (λ xs. entry_at (product_in c.args.known.now.given u xs) c.args.row k) (whole_word w c.len.ensures.exact))
+          (c.loop-place.invariant.each k inside) (c.add_multiple.ensures.each k inside);
     }
 
 pub returns : goal.returns
@@ -116,5 +94,5 @@ returns c = λ k inside.
     ∙ c.loop-place.invariant.each k (subst (λ n. k < n) (sym c.side_at-columns.ensures.value) inside)
     ∙ ap (λ n. sum_by (term_entry x u i k) (take c.loop-place.place p.terms) % n) c.from-modulus.ensures
     ∙ ap (λ xs. sum_by (term_entry x u i k) xs % m) (take_all c.loop-place.place p.terms all)
-    ∙ sym (value_entry x c.requires.known.given u v c.requires.source c.requires.target i k c.requires.row inside p.terms
-    (paths_of x c.requires.known.given u v c.requires.source c.requires.target p.canonical c.requires.typed))
+    ∙ sym (value_entry (given_of c.requires.known.given) u v c.requires.source c.requires.target i k c.requires.row inside p.terms
+    (paths_of (given_of c.requires.known.given) u v c.requires.source c.requires.target p.canonical c.requires.typed))

@@ -3,7 +3,7 @@ use Rattle.std.proofs.lemmas.List.{length-append}
 use Rattle.quiver.specs.Declarations.{quiver_of}
 use Rattle.model_candidates.specs.Candidates.{is_declared_map, map_entries}
 use Rattle.model_candidates.specs.EntryPlaces.{entries_before}
-use Rattle.model_candidates.proofs.EntryCounts.{entries_with, entries_without}
+use Rattle.model_candidates.proofs.EntryPlaces.{entries_with, entries_without}
 use Rattle.model_candidates.proofs.entries.entries_before.Goals as goal
 use Rattle.model_candidates.proofs.entries.entries_before.Goals.{then-is_declared, else-is_declared}
 

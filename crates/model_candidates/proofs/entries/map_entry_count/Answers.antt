@@ -4,7 +4,7 @@ use Rattle.definitions.specs.Quiver.{letters, star}
 use Rattle.quiver.specs.Declarations.{quiver_of}
 use Rattle.quiver.proofs.Counts.{letters-quiver_of}
 use Rattle.model_candidates.specs.Candidates.{side_in}
-use Rattle.model_candidates.proofs.EntryCounts.{few, few_self, self_map_count, other_map_count}
+use Rattle.model_candidates.proofs.EntryPlaces.{few, few_self, self_map_count, other_map_count}
 use Rattle.model_candidates.proofs.entries.map_entry_count.Goals as goal
 
 pub overflow_mul-result : goal.overflow_mul-result
@@ -19,7 +19,7 @@ returns-then-eq-clause-count c =
     let s = c.args.shape.now in
     let letter : c.args.letter.0 < letters q = omega (arith, c.requires.letter, letters-quiver_of c.args.quiver.now) in
     let self : star q c.args.letter.0 ≡ c.args.letter.0 = sym c.star_of.ensures.star ∙ (Decides-eqb c.star_of.result.0 c.args.letter.0).0 (sym c.if-eq.ensures) in
-    self_map_count s c.requires.quiver letter self (c.side_at-rows.ensures.value ∙ ap (side_in s) c.signature_of-ends.ensures.target) c.side_at-rows.ensures.most
+    self_map_count s c.requires.quiver letter self (c.side_at-rows.ensures.value ∙ ap (side_in s) c.signature_of-ends.ensures.target)
 
 pub returns-then-eq-clause-few : goal.returns-then-eq-clause-few
 returns-then-eq-clause-few c = omega (arith, few_self c.side_at-rows.ensures.most)

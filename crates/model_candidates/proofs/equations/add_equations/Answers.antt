@@ -8,11 +8,11 @@ use Rattle.model_checker.specs.Representations.{representation_of, side_of}
 use Rattle.model_candidates.specs.Known.{numbers_in}
 use Rattle.model_candidates.specs.Plans.{has_few, terms_of}
 use Rattle.model_candidates.specs.Residues.{residues}
-use Rattle.model_candidates.specs.Equations.{assumption_value}
-use Rattle.model_candidates.specs.Factors.{solved_terms, rows_with, equations_of}
+use Rattle.model_candidates.specs.Factors.{assumption_value, solved_terms, rows_with, equations_of}
 use Rattle.model_candidates.specs.WordRows.{model_in, quiver_in}
 use Rattle.model_candidates.proofs.AskedAssumptions.{terms_there}
 use Rattle.model_candidates.proofs.KnownTerms.{coefficients_there, known_fit, known_sides}
+use Rattle.model_candidates.proofs.GivenValues.{given_of}
 use Rattle.model_candidates.proofs.ValueRows.{value_ends}
 use Rattle.model_candidates.proofs.equations.add_equations.Goals as goal
 use Rattle.model_candidates.proofs.equations.add_equations.Goals.{After-at-poly, After-as_slice-coefficients, After-constant_of-value, After-as_slice}
@@ -43,7 +43,7 @@ value_is_arrow c =
     let u = c.args.assumption.sig.source.0 in
     let v = c.args.assumption.sig.target.0 in
     subst (IsArrow (matrices given.shape.now.modulus) (side_of m u) (side_of m v)) (sym c.constant_of-value.ensures)
-    (value_ends given c.requires.known.given u v c.requires.assumption.source c.requires.assumption.target c.at-poly.result.now.terms)
+    (value_ends (given_of c.requires.known.given) u v c.requires.assumption.source c.requires.assumption.target c.at-poly.result.now.terms)
 
 terms_are : (c : After-as_slice) → c.at-poly.result.now.terms ≡ terms_of c.args.known.now.given.problem.now c.args.assumption
     → c.as_slice.result.now ≡ solved_terms (quiver_in c.args.known.now.given) c.args.known.now.given.shape.now

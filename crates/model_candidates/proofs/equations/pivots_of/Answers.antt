@@ -1,22 +1,18 @@
-use Rattle.std.proofs.Common.{◌≡◌, ℕ, List, length, sym, ap, ap₂, subst, ◌∙◌}
-use Rattle.std.specs.List.{All, flat_map}
+use Rattle.std.proofs.Common.{◌≡◌, length, sym, ap, ap₂, subst, ◌∙◌}
+use Rattle.std.specs.List.{All}
 use Rattle.std.proofs.lemmas.Result.{IfOk-weaker}
-use Rattle.std.proofs.lemmas.List.Elements.{recursion_from_All}
 use Rattle.quiver.specs.Declarations.{quiver_of}
-use Rattle.matrix_models.specs.declared.system.LinearRow.{LinearRow}
 use Rattle.matrix_models.specs.Systems.{HasNoSolution}
 use Rattle.matrix_models.specs.Pivots.{StandFor}
 use Rattle.model_candidates.specs.Candidates.{model_by}
 use Rattle.model_candidates.specs.Unknowns.{filled, set_count, unit_values}
-use Rattle.model_candidates.specs.Plans.{AreEntryValues, IsAssumption, IsZeroAtSignature}
+use Rattle.model_candidates.specs.Plans.{AreEntryValues, IsZeroAtSignature}
 use Rattle.model_candidates.specs.Equations.{system_for}
-use Rattle.model_candidates.specs.Factors.{equations_of, system_in}
+use Rattle.model_candidates.specs.Factors.{system_in}
 use Rattle.model_candidates.specs.Known.{AreZeros}
-use Rattle.model_candidates.proofs.AssumptionRows.{system_is}
-use Rattle.model_candidates.proofs.FilledValues.{filled_again}
+use Rattle.model_candidates.proofs.FilledValues.{filled_again, length-unit_values}
 use Rattle.model_candidates.proofs.Found.{none_weaker, some_weaker}
-use Rattle.model_candidates.proofs.LinearRows.{length-unit_values}
-use Rattle.model_candidates.proofs.PlanSystems.{plan_filled, plan_hold, hold_filled}
+use Rattle.model_candidates.proofs.PlanSystems.{plan_start, plan_hold, hold_filled}
 use Rattle.model_candidates.proofs.equations.pivots_of.Goals as goal
 use Rattle.model_candidates.proofs.equations.pivots_of.Goals.{After-as_slice-3}
 
@@ -34,19 +30,9 @@ system_same : (c : After-as_slice-3)
     c.args.plan.now.assumptions.equations
     ≡ system_for c.args.problem.now c.args.shape.now c.args.plan.now.solved c.args.plan.now.assumptions.equations c.args.drawn.now
 system_same c =
-    let problem = c.args.problem.now in
-    let s = c.args.shape.now in
-    let drawn = c.args.drawn.now in
-    let fits = c.requires.plan in
-    let gs = c.args.plan.now.assumptions.equations in
-    let equations_in : List ℕ → List LinearRow = λ xs.
-    flat_map (equations_of problem s (model_by (quiver_of problem.parts.quiver) s 0 xs)) gs in
-    let unknowns_are = fits.unknowns ∙ ap set_count fits.solved in
-    (λ i. record { modulus = s.modulus; unknowns = unknowns_are i; rows = equations_in c.as_slice-3.result.now })
-    ∙ system_is problem s c.requires.shape drawn c.requires.drawn.one_each c.requires.drawn.below gs
-    (recursion_from_All (IsAssumption problem 1) gs fits.assumptions.each)
-    (ap equations_in (values_are c ∙ ap (λ fs. filled fs drawn (unit_values (set_count fs) (set_count fs))) fits.solved))
-    ∙ ap (λ fs. system_for problem s fs gs drawn) (sym fits.solved)
+    ap₂ (λ xs n. system_in c.args.problem.now c.args.shape.now (model_by (quiver_of c.args.problem.now.parts.quiver) c.args.shape.now 0 xs)
+    n
+    c.args.plan.now.assumptions.equations) (values_are c) c.requires.plan.unknowns
 
 pub filled-requires-clause-one_for_each : goal.filled-requires-clause-one_for_each
 filled-requires-clause-one_for_each c =
@@ -57,33 +43,24 @@ pub pivots_at-requires-clause-values : goal.pivots_at-requires-clause-values
 pivots_at-requires-clause-values c =
     subst (AreEntryValues c.args.problem.now c.args.shape.now)
     (sym (values_are (goal.at.pivots_at-requires-clause-values c).After-as_slice-3))
-    (plan_filled c.args.problem.now c.args.shape.now c.requires.shape c.args.plan.now c.requires.plan c.args.drawn.now c.requires.drawn
-    (set_count c.args.plan.now.solved))
+    (plan_start c.requires.plan (record { shape = c.requires.shape; entries = c.requires.drawn })).entries
 
 pub returns-clause-none : goal.returns-clause-none
 returns-clause-none c =
     let before = (goal.at.returns-clause-none c).After-as_slice-3 in
     let problem = c.args.problem.now in
-    let s = c.args.shape.now in
-    let plan = c.args.plan.now in
-    let n = set_count plan.solved in
     IfOk-weaker c.pivots_at.result _ _ (λ found. none_weaker found _ _ (λ none hold. subst HasNoSolution (system_same before) (none
-    (subst (λ xs. All (IsZeroAtSignature problem (model_by (quiver_of problem.parts.quiver) s 0 xs)) plan.assumptions.conditions)
-    (sym (values_are before)) (hold_filled problem s c.requires.shape plan c.requires.plan c.args.drawn.now c.requires.drawn
-    (unit_values n n)
-    hold))))) c.pivots_at.ensures.none
+    (subst (λ xs. All (IsZeroAtSignature problem (model_by (quiver_of problem.parts.quiver) c.args.shape.now 0 xs))
+    c.args.plan.now.assumptions.conditions) (sym (values_are before))
+    (hold_filled c.requires.plan (record { shape = c.requires.shape; entries = c.requires.drawn }) hold))))) c.pivots_at.ensures.none
 
 pub returns-clause-hold : goal.returns-clause-hold
 returns-clause-hold c =
     let problem = c.args.problem.now in
-    let s = c.args.shape.now in
-    let plan = c.args.plan.now in
-    let n = set_count plan.solved in
-    let same = values_are (goal.at.returns-clause-hold c).After-as_slice-3 in
     IfOk-weaker c.pivots_at.result _ _ (λ found. some_weaker found _ _ (λ _ hold.
-    plan_hold problem s c.requires.shape plan c.requires.plan c.args.drawn.now c.requires.drawn (unit_values n n)
-    (subst (λ xs. All (IsZeroAtSignature problem (model_by (quiver_of problem.parts.quiver) s 0 xs))
-    plan.assumptions.conditions) same hold)))
+    plan_hold c.requires.plan (record { shape = c.requires.shape; entries = c.requires.drawn })
+    (subst (λ xs. All (IsZeroAtSignature problem (model_by (quiver_of problem.parts.quiver) c.args.shape.now 0 xs))
+    c.args.plan.now.assumptions.conditions) (values_are (goal.at.returns-clause-hold c).After-as_slice-3) hold)))
     c.pivots_at.ensures.hold
 
 pub returns-clause-pivots : goal.returns-clause-pivots

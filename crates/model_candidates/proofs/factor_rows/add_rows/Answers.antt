@@ -7,8 +7,8 @@ use Rattle.matrix_models.specs.Pivots.{Add, AreAgainst}
 use Rattle.matrix_models.proofs.AddedEquations.{add-both, against-behind, against-before}
 use Rattle.matrix_models.proofs.Reduction.{equation_of-row_of, length-row_of, row_of-below}
 use Rattle.model_candidates.specs.Factors.{row_with, rows_with}
-use Rattle.model_candidates.proofs.AssumptionRows.{map_range_split}
 use Rattle.model_candidates.proofs.FactorRows.{row_is_equation}
+use Rattle.model_candidates.proofs.Ranges.{map_range_split}
 use Rattle.model_candidates.proofs.factor_rows.add_rows.Goals as goal
 
 pub add-requires-clause-size : goal.add-requires-clause-size

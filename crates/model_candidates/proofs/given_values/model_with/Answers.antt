@@ -7,7 +7,7 @@ use Rattle.quiver.specs.Declarations.{quiver_of}
 use Rattle.quiver.proofs.Counts.{letters-quiver_of}
 use Rattle.model_candidates.specs.Candidates.{is_declared_map, map_entries, matrix_by, place_by}
 use Rattle.model_candidates.specs.EntryPlaces.{entries_before}
-use Rattle.model_candidates.proofs.EntryCounts.{entries_with, entries_without}
+use Rattle.model_candidates.proofs.EntryPlaces.{entries_with, entries_without}
 use Rattle.model_candidates.proofs.given_values.model_with.Goals as goal
 use Rattle.model_candidates.proofs.given_values.model_with.Goals.{then-is_declared+in_ok-matrix, else-is_declared}
 

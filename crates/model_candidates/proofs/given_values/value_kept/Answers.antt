@@ -22,7 +22,7 @@ module _ (d : List Declaration) (s : Shape) (a row column : ℕ) where
 
   place_inside : a < letter_count d → is_declared_map (quiver_of d) a ≡ true → row < side_in s (target (quiver_of d) a) → column < side_in s (source (quiver_of d) a)
       → is_kept (is_self (quiver_of d) a) row column ≡ true → entry_place < length (entries_of (quiver_of d) s)
-  place_inside letter = kept_inside (quiver_of d) s a row column (omega (arith, letter, letters-quiver_of d))
+  place_inside letter = kept_inside (quiver_of d) s (omega (arith, letter, letters-quiver_of d))
 
 pub bounds-values-values : goal.bounds-values-values
 bounds-values-values c =
@@ -53,7 +53,8 @@ returns c =
     let letter : a < letters q = omega (arith, c.requires.letter, letters-quiver_of c.args.quiver.now) in
     let place_is = place_read c.args.quiver.now c.args.shape.now c.args.letter.0 c.args.row c.args.column c.requires.first c.signature_of.ensures.source
     c.side_at-columns.ensures.value c.star_of.ensures.star c.eq-selfmade.ensures c.place_in_map.ensures in
-    ap (λ n. get_or c.args.values.all.now n 0) place_is ∙ sym (kept_value q s c.args.values.all.now letter c.requires.declared c.requires.row c.requires.column c.requires.kept)
+    ap (λ n. get_or c.args.values.all.now n 0) place_is
+    ∙ sym (kept_value q s letter c.requires.declared c.requires.row c.requires.column c.requires.kept c.args.values.all.now)
 
 pub place_in_map-requires-clause-row_in_range : goal.place_in_map-requires-clause-row_in_range
 place_in_map-requires-clause-row_in_range c =

@@ -8,9 +8,10 @@ use Rattle.adjoint_rules.proofs.Generators.{posed_quiver}
 use Rattle.model_candidates.specs.Candidates.{is_solved}
 use Rattle.model_candidates.specs.Unknowns.{solved_flags, unknown_numbers}
 use Rattle.model_candidates.specs.LetterNumbers.{letter_numbers, letter_values}
-use Rattle.model_candidates.proofs.AssumptionFactors.{solved_declared}
-use Rattle.model_candidates.proofs.LetterEntries.{has_solved_map}
-use Rattle.model_candidates.proofs.SolvedTerms.{declared_behind, number_of_each}
+use Rattle.model_candidates.proofs.CandidateModels.{is_declared}
+use Rattle.model_candidates.proofs.GivenValues.{solved_maps}
+use Rattle.model_candidates.proofs.LetterEntries.{has_solved_map, solved_map}
+use Rattle.model_candidates.proofs.SolvedTerms.{number_of_each}
 use Rattle.model_candidates.proofs.letter_numbers.numbers_of_letters.Goals as goal
 use Rattle.model_candidates.proofs.letter_numbers.numbers_of_letters.Goals.{then-is_solved+in_ok-letter_values, else-is_solved}
 
@@ -25,7 +26,8 @@ letter_values-requires-clause-declared c =
     let a = c.loop-number.number in
     let letter : a < letters q = omega (arith, c.loop-number-test.true, c.letters-number-end.ensures.count, letters-quiver_of problem.parts.quiver) in
     let is : is_solved q problem.parts.solved a ≡ true = search rules in
-    declared_behind quiver letter (has_solved_map q quiver a letter problem.parts.solved (solved_declared problem) is).map
+    is_declared (solved_map problem.parts.solved (solved_maps problem)
+    (has_solved_map quiver problem.parts.solved (solved_maps problem) letter is).is_solved)
 
 pub letter_values-requires-clause-quiver : goal.letter_values-requires-clause-quiver
 letter_values-requires-clause-quiver c = posed_quiver c.args.problem.now.parts c.args.problem.now.posed

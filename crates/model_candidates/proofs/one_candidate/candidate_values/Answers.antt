@@ -7,7 +7,7 @@ use Rattle.adjoint_rules.proofs.Generators.{posed_quiver}
 use Rattle.model_candidates.specs.Candidates.{IsCandidate, IsGreedy, IsSolution, digit, model_by, word_of_stream}
 use Rattle.model_candidates.specs.Plans.{AreEntryValues}
 use Rattle.model_candidates.proofs.CandidateModels.{modulus_of_shape}
-use Rattle.model_candidates.proofs.NumberedShapes.{posed_shape, shape_numbered, one_shape, digits_are_values, draws_are_values}
+use Rattle.model_candidates.proofs.NumberedShapes.{digits_are_values, draws_are_values, one_shape, plan_fits, posed_shape, shape_numbered}
 use Rattle.model_candidates.proofs.TestedValues.{drawn_candidate, greedy_are_values}
 use Rattle.model_candidates.proofs.one_candidate.candidate_values.Goals as goal
 
@@ -25,7 +25,7 @@ returns-then-plan-clause-candidate c = λ t numbered.
     let q = quiver_of problem.parts.quiver in
     let plan = c.args.plan.now in
     let s = c.at-shape.result.now in
-    let fits = c.requires.plan.fits s (shape_numbered problem c.requires.plan.least c.at-shape.ensures) in
+    let fits = plan_fits c.requires.plan c.at-shape.ensures in
     subst (λ x. IsCandidate problem plan.number x c.args.seed c.args.k (Some (model_by q x 0 c.in_ok-digits_of.field-0)))
     (one_shape c.at-shape.ensures numbered)
     (IsCandidate.numbered (sym fits.exhaustive ∙ c.if-plan.true) (ap (λ values. Some (model_by q s 0 values))
@@ -38,8 +38,7 @@ returns-then-plan-clause-values c = λ t numbered.
     let s = c.at-shape.result.now in
     let shape = posed_shape problem _ c.at-shape.ensures in
     let least = (modulus_of_shape (quiver_of parts.quiver) s (posed_quiver parts problem.posed) shape).at_least in
-    let plan = c.args.plan.now in
-    let fits = c.requires.plan.fits s (shape_numbered problem c.requires.plan.least c.at-shape.ensures) in
+    let fits = plan_fits c.requires.plan c.at-shape.ensures in
     let digits_is = c.in_ok-digits_of.ensures ∙ ap (λ n. map (digit s.modulus c.args.k) (range_with_len 0 n)) fits.entries in
     subst (λ x. AreEntryValues problem x c.in_ok-digits_of.field-0) (one_shape c.at-shape.ensures numbered)
     (subst (AreEntryValues problem s) (sym digits_is) (digits_are_values problem s c.args.k (omega (arith, least))))
@@ -67,7 +66,7 @@ greedy_values-requires-clause-drawn c =
     let shape = posed_shape problem _ c.at-shape.ensures in
     let least = (modulus_of_shape (quiver_of parts.quiver) s (posed_quiver parts problem.posed) shape).at_least in
     let plan = c.args.plan.now in
-    let fits = c.requires.plan.fits s (shape_numbered problem c.requires.plan.least c.at-shape.ensures) in
+    let fits = plan_fits c.requires.plan c.at-shape.ensures in
     let draw : ℕ → ℕ → ℕ = λ n j. word_of_stream c.args.seed plan.number (c.args.k * n + j) % s.modulus in
     subst (AreEntryValues problem s) (sym (c.as_slice.ensures ∙ c.in_ok-drawn.ensures ∙ ap (λ n. map (draw n) (range_with_len 0 n)) fits.entries))
     (draws_are_values problem s c.args.plan.now.number c.args.seed c.args.k (omega (arith, least)))
@@ -79,7 +78,7 @@ returns-clause-candidate c =
     let plan = c.args.plan.now in
     let s = c.at-shape.result.now in
     let r = c.greedy_values.result in
-    let fits = c.requires.plan.fits s (shape_numbered problem c.requires.plan.least c.at-shape.ensures) in
+    let fits = plan_fits c.requires.plan c.at-shape.ensures in
     let draw : ℕ → ℕ → ℕ = λ n j. word_of_stream c.args.seed plan.number (c.args.k * n + j) % s.modulus in
     let drawn_is = c.as_slice.ensures ∙ c.in_ok-drawn.ensures ∙ ap (λ n. map (draw n) (range_with_len 0 n)) fits.entries in
     let is = drawn_candidate problem plan.number c.args.seed c.args.k s (ap not (sym fits.exhaustive ∙ c.if-plan.false)) r

@@ -8,7 +8,8 @@ use Rattle.model_candidates.specs.Plans.{IsZeroAtSignature}
 use Rattle.model_candidates.specs.Equations.{system_for}
 use Rattle.quiver.specs.Declarations.{quiver_of}
 use Rattle.model_candidates.proofs.DrawnEntries.{flag_of_each}
-use Rattle.model_candidates.proofs.PlanSystems.{plan_conditions, plan_prefer, plan_greedy, plan_none, unknown_of_each_flag}
+use Rattle.model_candidates.proofs.GivenValues.{AreGiven}
+use Rattle.model_candidates.proofs.PlanSystems.{plan_conditions, plan_prefer, plan_greedy, plan_none}
 use Rattle.model_candidates.proofs.one_candidate.greedy_values.Goals as goal
 use Rattle.model_candidates.proofs.one_candidate.greedy_values.Goals.{After-as_slice-solved, In-Some, In_ok-values}
 
@@ -41,8 +42,7 @@ solution_by-requires-clause-one_each c = flagged (goal.at.solution_by-requires-c
 
 pub solution_by-requires-clause-size : goal.solution_by-requires-clause-size
 solution_by-requires-clause-size c =
-    let prefer = plan_prefer c.args.problem.now c.args.shape.now c.requires.shape c.args.plan.now c.requires.plan c.args.drawn.now
-    c.requires.drawn in
+    let prefer = plan_prefer c.requires.plan (record { shape = c.requires.shape; entries = c.requires.drawn }) in
     ap (λ flags. length (picked flags c.args.drawn.now)) c.as_slice-solved.ensures ∙ prefer.one_each
     ∙ sym (stand (goal.at.solution_by-requires-clause-size c).In-Some).size
 
@@ -50,7 +50,7 @@ pub solution_by-requires-clause-below : goal.solution_by-requires-clause-below
 solution_by-requires-clause-below c =
     let s = c.args.shape.now in
     let drawn = c.args.drawn.now in
-    let prefer = plan_prefer c.args.problem.now s c.requires.shape c.args.plan.now c.requires.plan drawn c.requires.drawn in
+    let prefer = plan_prefer c.requires.plan (record { shape = c.requires.shape; entries = c.requires.drawn }) in
     subst (λ m. All (λ value. value < m) (picked c.as_slice-solved.result.now drawn))
     (sym (stand (goal.at.solution_by-requires-clause-below c).In-Some).modulus)
     (subst (λ flags. All (λ value. value < s.modulus) (picked flags drawn)) (sym c.as_slice-solved.ensures) prefer.below)
@@ -62,9 +62,7 @@ pub filled-requires-clause-one_for_each : goal.filled-requires-clause-one_for_ea
 filled-requires-clause-one_for_each c =
     let passed = goal.at.filled-requires-clause-one_for_each c in
     ap length c.as_slice.ensures
-    ∙ unknown_of_each_flag c.args.problem.now c.args.shape.now c.requires.shape c.args.plan.now c.requires.plan c.args.drawn.now
-    c.requires.drawn
-    c.in_ok-values.values (greedy passed.In_ok-values (stand passed.In-Some)).solves.are_values
+    ∙ (greedy passed.In_ok-values (stand passed.In-Some)).solves.are_values.one_each
     ∙ ap set_count (sym c.as_slice-solved.ensures)
 
 pub returns-clause-greedy : goal.returns-clause-greedy
@@ -77,7 +75,7 @@ returns-clause-greedy c =
     plan.assumptions.conditions)) c.in-Some.is c.in_ok-pivots.ensures.hold in
     let all_is = c.in_ok-filled.ensures ∙ ap₂ (λ flags xs. filled flags drawn xs) c.as_slice-solved.ensures c.as_slice.ensures in
     subst (IsGreedy problem s drawn) (sym all_is)
-    (plan_greedy problem s c.requires.shape plan c.requires.plan drawn c.requires.drawn hold c.in_ok-values.values
+    (plan_greedy c.requires.plan (record { shape = c.requires.shape; entries = c.requires.drawn }) hold c.in_ok-values.values
     (greedy (goal.at.returns-clause-greedy c).In_ok-values (stand (goal.at.returns-clause-greedy c).In-Some)))
 
 -- a solution would show that the conditions hold, and then solve the equations
@@ -87,7 +85,7 @@ returns-in_default-clause-none c = λ others solution.
     let s = c.args.shape.now in
     let plan = c.args.plan.now in
     let drawn = c.args.drawn.now in
+    let given : AreGiven problem s drawn = record { shape = c.requires.shape; entries = c.requires.drawn } in
     let none = subst (λ found. IfNone found (All (IsZeroAtSignature problem (model_by (quiver_of problem.parts.quiver) s 0 drawn)) plan.assumptions.conditions
     → HasNoSolution (system_for problem s plan.solved plan.assumptions.equations drawn))) c.in_default.is c.in_ok-pivots.ensures.none in
-    plan_none problem s c.requires.shape plan c.requires.plan drawn c.requires.drawn
-    (none (plan_conditions problem s c.requires.shape plan c.requires.plan drawn c.requires.drawn others solution)) others solution
+    plan_none c.requires.plan given (none (plan_conditions c.requires.plan given others solution)) others solution

@@ -6,8 +6,7 @@ use Rattle.quiver.specs.Declarations.{quiver_of}
 use Rattle.quiver.proofs.Counts.{letters-quiver_of}
 use Rattle.model_candidates.specs.Candidates.{Entry, is_declared_map, is_solved_map, map_entries}
 use Rattle.model_candidates.specs.EntryPlaces.{entries_before}
-use Rattle.model_candidates.proofs.DistinctEntries.{entries_of_map}
-use Rattle.model_candidates.proofs.EntryCounts.{entries_with, entries_without}
+use Rattle.model_candidates.proofs.EntryPlaces.{entries_of_map, entries_with, entries_without}
 use Rattle.model_candidates.proofs.SolvedLetters.{map-same}
 use Rattle.model_candidates.proofs.plan.solved_flags.Goals as goal
 use Rattle.model_candidates.proofs.plan.solved_flags.Goals.{then-is_declared+in_ok-push_flags, else-is_declared}

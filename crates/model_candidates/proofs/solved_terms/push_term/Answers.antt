@@ -16,6 +16,7 @@ use Rattle.model_candidates.specs.WordRows.{model_in, quiver_in}
 use Rattle.model_candidates.specs.LetterNumbers.{letter_numbers}
 use Rattle.model_candidates.specs.Factors.{letters_product, residue, listed, term_around, solved_term}
 use Rattle.model_candidates.specs.LetterNumbers.{letter_values}
+use Rattle.model_candidates.proofs.GivenValues.{given_of}
 use Rattle.model_candidates.proofs.ValueRows.{coefficient_at}
 use Rattle.model_candidates.proofs.WordRows.{few_numbers}
 use Rattle.model_candidates.proofs.SolvedTerms.{SolvedAt, path_over, solved_at, numbers_there}
@@ -104,7 +105,7 @@ returns c = λ t there.
     c.signature_of-own.ensures.target ∙ ap (target q) (letter_is before) in
     let all : take c.len-end.result w ≡ w = take_all c.len-end.result w (omega (arith, c.len-end.ensures.exact)) in
     let coefficient_is : get_or c.args.coefficients.now c.args.place 0 ≡ residue s.modulus c.term.result.0 =
-    coefficient_at k.given c.requires.known.given u c.args.ends.target.0 c.requires.source c.requires.target c.args.poly.now.terms
+    coefficient_at (given_of c.requires.known.given) u c.args.ends.target.0 c.requires.source c.requires.target c.args.poly.now.terms
     c.args.place term
     c.term.ensures c.args.coefficients.now c.requires.coefficients in
     let numbers_is : c.copy_of.result ≡ letter_values q s numbers (get_or w split 0) =

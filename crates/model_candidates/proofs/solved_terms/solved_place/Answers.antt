@@ -37,7 +37,7 @@ returns-in-Some c =
     subst (λ n. get_or w place 0 < n) (sym (letters-quiver_of parts.quiver)) (All-get_or (λ a. a < letter_count parts.quiver) w place 0 inside c.requires.over) in
     let here = solved_where_numbered q k.given.shape.now parts.solved c.index-known-from.result
     c.requires.known.numbers (c.from.ensures ∙ letter_is) below c.in-Some.is in
-    sym (first_place (is_solved q parts.solved) w inside c.loop-place.invariant here)
+    sym (first_place (is_solved q parts.solved) w 0 inside c.loop-place.invariant here)
 
 pub loop-place-preserved : goal.loop-place-preserved
 loop-place-preserved c = λ k below. go k below (cases_lt k c.loop-place.place)

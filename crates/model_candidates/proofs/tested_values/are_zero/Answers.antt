@@ -10,7 +10,7 @@ use Rattle.model_checker.proofs.Places.{all_at, zip_at, one_more}
 use Rattle.model_candidates.specs.Candidates.{model_by}
 use Rattle.model_candidates.specs.Plans.{has_few}
 use Rattle.model_candidates.specs.Residues.{residues}
-use Rattle.model_candidates.proofs.NumberedShapes.{posed_shape, shape_numbered, one_shape}
+use Rattle.model_candidates.proofs.NumberedShapes.{one_shape, plan_fits, posed_shape, shape_numbered}
 use Rattle.model_candidates.proofs.TestedValues.{residues_at, zero_at, zero_linear, zero_tells}
 use Rattle.model_candidates.proofs.tested_values.are_zero.Goals as goal
 
@@ -23,16 +23,14 @@ at-sig-requires c =
 pub at-requires : goal.at-requires
 at-requires c =
     let problem = c.args.problem.now in
-    let plan = c.args.plan.now in
     let s = c.at-shape.result.now in
-    let fits = c.requires.plan.fits s (shape_numbered problem c.requires.plan.least c.at-shape.ensures) in
+    let fits = plan_fits c.requires.plan c.at-shape.ensures in
     let long = ap length fits.tables.assumptions ∙ length-map problem.parts.assumptions (λ p. residues s.modulus p.terms) in
     omega (arith, long, c.loop-place-test.true, c.len-place-end.ensures)
 
 pub is_zero-requires-clause-given : goal.is_zero-requires-clause-given
 is_zero-requires-clause-given c =
     let problem = c.args.problem.now in
-    let plan = c.args.plan.now in
     let s = c.at-shape.result.now in
     let numbered = shape_numbered problem c.requires.plan.least c.at-shape.ensures in
     record {
@@ -60,9 +58,8 @@ is_zero-requires-clause-typed c =
 pub is_zero-requires-clause-coefficients : goal.is_zero-requires-clause-coefficients
 is_zero-requires-clause-coefficients c =
     let problem = c.args.problem.now in
-    let plan = c.args.plan.now in
     let s = c.at-shape.result.now in
-    let fits = c.requires.plan.fits s (shape_numbered problem c.requires.plan.least c.at-shape.ensures) in
+    let fits = plan_fits c.requires.plan c.at-shape.ensures in
     c.as_slice-coefficients.ensures ∙ residues_at s.modulus problem.parts.assumptions c.loop-place.place
     fits.tables.assumptions c.at-assumption.ensures c.at.ensures
 

@@ -7,7 +7,7 @@ use Rattle.model_checker.specs.Models.{IsZeroIn, claim_polynomial}
 use Rattle.model_checker.proofs.Places.{all_at, zip_at, generator_at-number}
 use Rattle.model_candidates.specs.Candidates.{model_by}
 use Rattle.model_candidates.specs.Residues.{residues}
-use Rattle.model_candidates.proofs.NumberedShapes.{posed_shape, shape_numbered, one_shape}
+use Rattle.model_candidates.proofs.NumberedShapes.{one_shape, plan_fits, posed_shape, shape_numbered}
 use Rattle.model_candidates.proofs.TestedValues.{residues_at, zero_tells}
 use Rattle.model_candidates.proofs.tested_values.is_claim_zero.Goals as goal
 
@@ -20,16 +20,14 @@ at-sig-requires c =
 pub at-requires : goal.at-requires
 at-requires c =
     let problem = c.args.problem.now in
-    let plan = c.args.plan.now in
     let s = c.at-shape.result.now in
-    let fits = c.requires.plan.fits s (shape_numbered problem c.requires.plan.least c.at-shape.ensures) in
+    let fits = plan_fits c.requires.plan c.at-shape.ensures in
     let long = ap length fits.tables.claims ∙ length-map problem.parts.claims (λ p. residues s.modulus p.terms) in
     omega (arith, long, c.requires.claim.least, c.requires.claim.most)
 
 pub is_zero-requires-clause-given : goal.is_zero-requires-clause-given
 is_zero-requires-clause-given c =
     let problem = c.args.problem.now in
-    let plan = c.args.plan.now in
     let s = c.at-shape.result.now in
     let numbered = shape_numbered problem c.requires.plan.least c.at-shape.ensures in
     record {
@@ -57,9 +55,8 @@ is_zero-requires-clause-typed c =
 pub is_zero-requires-clause-coefficients : goal.is_zero-requires-clause-coefficients
 is_zero-requires-clause-coefficients c =
     let problem = c.args.problem.now in
-    let plan = c.args.plan.now in
     let s = c.at-shape.result.now in
-    let fits = c.requires.plan.fits s (shape_numbered problem c.requires.plan.least c.at-shape.ensures) in
+    let fits = plan_fits c.requires.plan c.at-shape.ensures in
     c.as_slice-coefficients.ensures ∙ residues_at s.modulus problem.parts.claims (c.args.claim - 1) fits.tables.claims
     c.at-poly.ensures c.at.ensures
 

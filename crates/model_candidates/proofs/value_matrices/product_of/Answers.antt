@@ -1,8 +1,9 @@
 use Rattle.std.proofs.Common.{◌≡◌, ◌+◌, ◌<◌, ℕ, drop, get_or, take, sym, subst, ◌∙◌, arith}
 use Rattle.matrix_models.specs.Matrix.{entry_at}
 use Rattle.model_candidates.specs.WordRows.{product_in}
+use Rattle.model_candidates.proofs.GivenValues.{given_of, product_ends}
 use Rattle.model_candidates.proofs.MatrixRows.{AreRows, one_row_more, rows_of_matrix}
-use Rattle.model_candidates.proofs.WordRows.{entry_below, product_ends}
+use Rattle.model_candidates.proofs.WordRows.{entry_below}
 use Rattle.model_candidates.proofs.value_matrices.product_of.Goals as goal
 
 pub loop-row-preserved : goal.loop-row-preserved
@@ -27,7 +28,7 @@ returns c =
     let w = drop c.args.from (take c.args.to c.args.word.now) in
     let rows = c.side_at-rows.result in
     let columns = c.side_at-columns.result in
-    let ends = product_ends x c.requires.given v w c.requires.source c.requires.leads in
+    let ends = product_ends (given_of c.requires.given) v w c.requires.source c.requires.leads in
     let all : c.loop-row.row ≡ rows = omega (arith, c.loop-row-test.false, c.loop-row.auto.row-end) in
     let passed = subst (λ n. AreRows m columns (entry_at (product_in x u w)) n c.loop-row.entries.items) all c.loop-row.invariant in
     c.new.ensures ∙ rows_of_matrix ends.arrow (ends.target ∙ sym c.side_at-rows.ensures.value)

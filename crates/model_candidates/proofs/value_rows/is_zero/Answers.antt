@@ -3,6 +3,7 @@ use Rattle.std.proofs.lemmas.Bool.{cases_eq}
 use Rattle.matrix_models.specs.Matrix.{entry_at}
 use Rattle.model_candidates.specs.Candidates.{side_in}
 use Rattle.model_candidates.specs.WordRows.{value_in}
+use Rattle.model_candidates.proofs.GivenValues.{given_of}
 use Rattle.model_candidates.proofs.ValueRows.{entry_of_zero, zero_by_entries}
 use Rattle.model_candidates.proofs.value_rows.is_zero.Goals as goal
 
@@ -14,7 +15,8 @@ returns-then-not-is_row_zero c = (
       let within : c.loop-row.row < side_in x.shape.now c.args.ends.target.0 =
       subst (λ n. c.loop-row.row < n) c.side_at-row-end.ensures.value c.loop-row-test.true in
       absurd (true≢false (sym (c.is_row_zero.ensures.1 (λ k inside.
-      entry_of_zero x c.requires.given c.args.ends.source.0 c.args.ends.target.0 c.requires.source c.requires.target c.args.poly.now.terms zero within inside)) ∙ c.if-not-is_row_zero.true)),
+      entry_of_zero (given_of c.requires.given) c.args.ends.source.0 c.args.ends.target.0 c.requires.source c.requires.target
+      c.args.poly.now.terms zero within inside)) ∙ c.if-not-is_row_zero.true)),
 )
 
 pub loop-row-preserved : goal.loop-row-preserved
@@ -32,7 +34,8 @@ pub returns : goal.returns
 returns c = (
   λ same.
       let x = c.args.given.now in
-      zero_by_entries x c.requires.given c.args.ends.source.0 c.args.ends.target.0 c.requires.source c.requires.target c.args.poly.now.terms
+      zero_by_entries (given_of c.requires.given) c.args.ends.source.0 c.args.ends.target.0 c.requires.source c.requires.target
+      c.args.poly.now.terms
       (λ i k in_rows in_columns. c.loop-row.invariant i k (omega (arith, in_rows, c.loop-row-test.false, c.side_at-row-end.ensures.value)) in_columns),
   λ zero. refl,
 )

@@ -1,4 +1,4 @@
-use Rattle.std.proofs.Common.{◌≡◌, ◌<◌, ◌≤◌, ℕ, get_or, Option, ◌⊎◌, inl, inr, sym, ap, subst, ◌∙◌, arith}
+use Rattle.std.proofs.Common.{◌≡◌, ◌<◌, ◌≤◌, ℕ, get_or, Option, ◌⊎◌, inl, inr, sym, ap, subst, ◌∙◌}
 use Rattle.std.proofs.lemmas.Bool.{cases_lt}
 use Rattle.std.proofs.lemmas.List.Elements.{All-from_get_or}
 use Rattle.definitions.specs.Quiver.{letters}
@@ -9,8 +9,9 @@ use Rattle.model_candidates.specs.declared.word_rows.EntryValues.{EntryValues}
 use Rattle.model_candidates.specs.Candidates.{side_in}
 use Rattle.model_candidates.specs.LetterTables.{letter_table}
 use Rattle.model_candidates.specs.WordRows.{matrix_in, quiver_in}
+use Rattle.model_candidates.proofs.GivenValues.{given_of, positive}
 use Rattle.model_candidates.proofs.LetterTables.{table_there}
-use Rattle.model_candidates.proofs.WordRows.{FitsLetter, fits_letter, is_unit, identity_entry, is_modulus, letter_ends, letter_inside, tables_long}
+use Rattle.model_candidates.proofs.WordRows.{FitsLetter, fits_letter, is_unit, identity_entry, letter_ends, letter_inside, tables_long}
 use Rattle.model_candidates.proofs.word_rows.letter_row.Goals as goal
 
 pub bounds-given-from : goal.bounds-given-from
@@ -84,8 +85,7 @@ returns-in-Some-clause-below c =
         (entry_at_below x.shape.now.modulus (matrix_in x a) c.args.row k ends.arrow (subst (λ n. c.args.row < n) (fits.rows ∙ sym ends.target) in_rows)
         (subst (λ n. k < n) (fits.columns ∙ sym ends.source) inside))
     go k (inr past) =
-        let least = (is_modulus x c.requires.given).at_least in
-        subst (λ e. e < x.shape.now.modulus) (sym (c.table_row.ensures.rest k past)) (omega (arith, least))
+        subst (λ e. e < x.shape.now.modulus) (sym (c.table_row.ensures.rest k past)) (positive (given_of c.requires.given))
 
 pub returns-in-None-clause-row : goal.returns-in-None-clause-row
 returns-in-None-clause-row c = λ k inside.
