@@ -37,11 +37,10 @@ slice_get-which : {X : Type 0} (xs : List X) (y x : X) (n : ℕ) → slice_get (
 slice_get-which [] y x zero is = inr (refl, cc)
 slice_get-which [] y x (suc n) is = absurd (cc)
 slice_get-which (z ∷ xs) y x zero is = inl is
-slice_get-which (z ∷ xs) y x (suc n) is = up (slice_get-which xs y x n is)
-  where
-    up : (slice_get xs n ≡ Some x) ⊎ ((n ≡ length xs) × (x ≡ y)) → (slice_get xs n ≡ Some x) ⊎ ((suc n ≡ suc (length xs)) × (x ≡ y))
-    up (inl old) = inl old
-    up (inr (last, same)) = inr (ap suc last, same)
+slice_get-which (z ∷ xs) y x (suc n) is = elim (slice_get-which xs y x n is) [
+  | inl old ↦ inl old
+  | inr (last, same) ↦ inr (ap suc last, same)
+]
 
 slice_get-inside : {X : Type 0} (xs : List X) (n : ℕ) (x : X) → slice_get xs n ≡ Some x → n < length xs
 slice_get-inside [] n x is = absurd (cc)
@@ -54,11 +53,10 @@ slice_get-last (f ∷ rules) g = slice_get-last rules g
 
 pub rule_at-which : (rules : List Rule) (g h : Rule) (n : ℕ) → rule_at (rules ++ (g ∷ [])) n ≡ Some h → (rule_at rules n ≡ Some h) ⊎ ((n ≡ suc (length rules)) × (h ≡ g))
 rule_at-which rules g h zero is = absurd (cc)
-rule_at-which rules g h (suc n) is = up (slice_get-which rules g h n is)
-  where
-    up : (slice_get rules n ≡ Some h) ⊎ ((n ≡ length rules) × (h ≡ g)) → (slice_get rules n ≡ Some h) ⊎ ((suc n ≡ suc (length rules)) × (h ≡ g))
-    up (inl old) = inl old
-    up (inr (last, same)) = inr (ap suc last, same)
+rule_at-which rules g h (suc n) is = elim (slice_get-which rules g h n is) [
+  | inl old ↦ inl old
+  | inr (last, same) ↦ inr (ap suc last, same)
+]
 
 -- rows over more rules
 earlier-weaker : (generators rules more : ℕ) → rules ≤ more → (row : Row) → IsEarlier generators rules row.from → IsEarlier generators more row.from

@@ -58,11 +58,10 @@ sized_or_not p = go (has_long_word p) (nat_lt term_limit (length p))
     go false false = inl refl
 
 sized_makes : (p : List Term) → Makes IsSized (sized p)
-sized_makes p = go (sized_or_not p)
-  where
-    go : IsSized p ⊎ ((letters : Bool) × (sized p ≡ Err (size_fault letters))) → Makes IsSized (sized p)
-    go (inl within) = subst (Makes IsSized) (sym within) within
-    go (inr (letters, large)) = subst (Makes IsSized) (sym large) (λ memory. memory)
+sized_makes p = elim (sized_or_not p) [
+  | inl within ↦ subst (Makes IsSized) (sym within) within
+  | inr (letters, large) ↦ subst (Makes IsSized) (sym large) (λ memory. memory)
+]
 
 overflow_makes : {A : Type 0} (P : A → Type 0) (o : Option Overflow) (r : Result A PolyFault) → Makes P r → Makes P (unless_overflow o r)
 overflow_makes P None r makes = makes
@@ -93,11 +92,10 @@ module _ (first : List Term) where
   IsKept s = (s.rest ≡ first) ⊎ IsSized s.rest
 
   move_makes : (m : Move) (s : State) → Makes IsKept (move_result m s)
-  move_makes m s = overflow_makes IsKept (first_overflow (move_operations m s)) (if_sized (sized (moved m s).rest) (moved m s)) (go (sized_or_not (moved m s).rest))
-    where
-      go : IsSized (moved m s).rest ⊎ ((letters : Bool) × (sized (moved m s).rest ≡ Err (size_fault letters))) → Makes IsKept (if_sized (sized (moved m s).rest) (moved m s))
-      go (inl within) = subst (λ r. Makes IsKept (if_sized r (moved m s))) (sym within) (inr within)
-      go (inr (letters, large)) = subst (λ r. Makes IsKept (if_sized r (moved m s))) (sym large) (λ memory. memory)
+  move_makes m s = overflow_makes IsKept (first_overflow (move_operations m s)) (if_sized (sized (moved m s).rest) (moved m s)) (elim (sized_or_not (moved m s).rest) [
+    | inl within ↦ subst (λ r. Makes IsKept (if_sized r (moved m s))) (sym within) (inr within)
+    | inr (letters, large) ↦ subst (λ r. Makes IsKept (if_sized r (moved m s))) (sym large) (λ memory. memory)
+  ])
 
   step_makes : (o : Option Rule) (c : Choice) (s : State) → IsKept s → Makes IsKept (step_by o c s)
   step_makes None c s kept = kept
@@ -114,11 +112,10 @@ module _ (first : List Term) where
 
   module _ (compare : Compare) (rules : List Rule) (limit : ℕ) where
     reduction_gives : (n : ℕ) (s : State) → IsKept s → Gives IsKept (reduction limit compare rules n s)
-    reduction_gives zero s kept = go (choice_of compare (entries_of rules) s.rest)
-      where
-        go : (o : Option Choice) → Gives IsKept (at_limit limit o s)
-        go None = kept
-        go (Some c) = λ memory. memory
+    reduction_gives zero s kept = elim (choice_of compare (entries_of rules) s.rest) as (λ o. Gives IsKept (at_limit limit o s)) [
+      | None ↦ kept
+      | Some c ↦ λ memory. memory
+    ]
     reduction_gives (suc n) s kept = go (choice_of compare (entries_of rules) s.rest) (reduction_gives n)
       where
         go : (o : Option Choice) → ((t : State) → IsKept t → Gives IsKept (reduction limit compare rules n t)) → Gives IsKept (one_step rules o s (reduction limit compare rules n))

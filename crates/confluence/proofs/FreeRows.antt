@@ -44,10 +44,8 @@ numbered_shift gs x y b h = record {
 }
 
 pub in_ideal : (gs : List (List Term)) (p : List Term) → Span (Numbered gs Free) (coefficient_of p) → InRationalIdeal gs p
-in_ideal gs p sp = go (combination_from gs Free p (listed gs Free (coefficient_of p) sp))
-  where
-    go : Comes gs Free p → InRationalIdeal gs p
-    go c = record { denominator = c.multiplier; rows = c.rows; combination = c.combination }
+in_ideal gs p sp = let c = combination_from gs Free p (listed gs Free (coefficient_of p) sp) in
+    record { denominator = c.multiplier; rows = c.rows; combination = c.combination }
 
 pub ideal_span : (gs : List (List Term)) (p : List Term) → InRationalIdeal gs p → Span (Numbered gs Free) (coefficient_of p)
 ideal_span gs p inside = combination_span gs Free inside.rows inside.denominator p inside.combination (λ i r below w some. tt)
@@ -62,36 +60,23 @@ module _ (o : Order) where
   cut f w = keep_if (o.range_decided w) (f w)
 
   cut-sum : (f b g : Coefs) (c : ℤ) → ((w : Word) → f w ≡ c *ℤ b w +ℤ g w) → (w : Word) → cut f w ≡ c *ℤ cut b w +ℤ cut g w
-  cut-sum f b g c h w = go (o.range_decided w)
-    where
-      go : (d : o.Range w ⊎ (o.Range w → ⊥)) → keep_if d (f w) ≡ c *ℤ keep_if d (b w) +ℤ keep_if d (g w)
-      go (inl r) = h w
-      go (inr n) = sym (ap (λ z. z +ℤ pos 0) (*ℤ-zero c))
+  cut-sum f b g c h w = elim (o.range_decided w) as (λ d. keep_if d (f w) ≡ c *ℤ keep_if d (b w) +ℤ keep_if d (g w)) [
+    | inl r ↦ h w
+    | inr n ↦ sym (ap (λ z. z +ℤ pos 0) (*ℤ-zero c))
+  ]
 
   cut-zero : (f : Coefs) (w : Word) → f w ≡ pos 0 → cut f w ≡ pos 0
-  cut-zero f w h = go (o.range_decided w)
-    where
-      go : (d : o.Range w ⊎ (o.Range w → ⊥)) → keep_if d (f w) ≡ pos 0
-      go (inl r) = h
-      go (inr n) = refl
+  cut-zero f w h = elim (o.range_decided w) as (λ d. keep_if d (f w) ≡ pos 0) [ inl r ↦ h | inr n ↦ refl ]
 
   cut-outside : (f : Coefs) (w : Word) → (o.Range w → f w ≡ pos 0) → cut f w ≡ pos 0
-  cut-outside f w h = go (o.range_decided w)
-    where
-      go : (d : o.Range w ⊎ (o.Range w → ⊥)) → keep_if d (f w) ≡ pos 0
-      go (inl r) = h r
-      go (inr n) = refl
+  cut-outside f w h = elim (o.range_decided w) as (λ d. keep_if d (f w) ≡ pos 0) [ inl r ↦ h r | inr n ↦ refl ]
 
   cut-inside : (f : Coefs) (w : Word) → (f w ≡ pos 0) ⊎ o.Range w → cut f w ≡ f w
-  cut-inside f w h = go (o.range_decided w)
+  cut-inside f w h = elim (o.range_decided w) as (λ d. keep_if d (f w) ≡ f w) [ inl r ↦ refl | inr n ↦ none h n ]
     where
       none : (f w ≡ pos 0) ⊎ o.Range w → (o.Range w → ⊥) → pos 0 ≡ f w
       none (inl z) n = sym z
       none (inr r) n = absurd (n r)
-
-      go : (d : o.Range w ⊎ (o.Range w → ⊥)) → keep_if d (f w) ≡ f w
-      go (inl r) = refl
-      go (inr n) = none h n
 
   span_cut : (Base Other : Coefs → Type 0) → ((b : Coefs) → Base b → Span Other (cut b)) → (f : Coefs) → Span Base f → Span Other (cut f)
   span_cut Base Other each _ (nothing f h) = nothing _ (λ w. cut-zero f w (h w))
@@ -100,7 +85,10 @@ module _ (o : Order) where
 
   module _ (rules : List Led) (ok : (n : ℕ) → HasLed rules n → IsLed o (led_at rules n)) where
     pub rules_in_range : (n : ℕ) → InRange o (generator_at (polys_of rules) n)
-    rules_in_range n w k = go (has_decided rules n)
+    rules_in_range n w k = elim (has_decided rules n) [
+      | inl h ↦ range h ((ok n h).words w k')
+      | inr e ↦ absurd (k' (ap (λ r. coefficient_of r.poly w) e))
+    ]
       where
         k' : coefficient_of (led_at rules n).poly w ≢ pos 0
         k' z = k (ap (λ p. coefficient_of p w) (poly_at rules n) ∙ z)
@@ -108,10 +96,6 @@ module _ (o : Order) where
         range : HasLed rules n → (w ≡ (led_at rules n).lead) ⊎ o.Less w (led_at rules n).lead → o.Range w
         range h (inl e) = subst o.Range (sym e) (ok n h).range
         range h (inr l) = o.less_range w (led_at rules n).lead l
-
-        go : HasLed rules n ⊎ (led_at rules n ≡ no_led) → o.Range w
-        go (inl h) = range h ((ok n h).words w k')
-        go (inr e) = absurd (k' (ap (λ r. coefficient_of r.poly w) e))
 
     -- rows over the rules with any words, for a polynomial in range
     pub free_span : (p : List Term) → InRange o p → Span (Numbered (polys_of rules) Free) (coefficient_of p) → Span (AnyRow o (rules_of o rules ok) (everything o)) (coefficient_of p)
@@ -128,11 +112,10 @@ module _ (o : Order) where
             gone h = nothing (cut b) (λ w. cut-outside b w (h w))
 
             outside : ((v : Word) → o.Range (x.left ++ (v ++ x.right)) → ⊥) → (w : Word) → o.Range w → b w ≡ pos 0
-            outside n w rw = pick (between_word x.left x.right (generator_at (polys_of rules) x.number) w)
-              where
-                pick : (coefficient_of (poly_between x.left (generator_at (polys_of rules) x.number) x.right) w ≡ pos 0) ⊎ ((v : Word) × (w ≡ x.left ++ (v ++ x.right))) → b w ≡ pos 0
-                pick (inl z) = x.is w ∙ z
-                pick (inr (v, e)) = absurd (n v (subst o.Range e rw))
+            outside n w rw = elim (between_word x.left x.right (generator_at (polys_of rules) x.number) w) [
+              | inl z ↦ x.is w ∙ z
+              | inr (v, e) ↦ absurd (n v (subst o.Range e rw))
+            ]
 
             by_ends : o.Range x.left ⊎ (o.Range x.left → ⊥) → o.Range x.right ⊎ (o.Range x.right → ⊥) → Span (AnyRow o (rules_of o rules ok) (everything o)) (cut b)
             by_ends (inr n) _ = gone (outside (λ v rv. n (o.range_left x.left v x.right rv)))
@@ -140,12 +123,11 @@ module _ (o : Order) where
             by_ends (inl a) (inl c) = span_same (AnyRow o (rules_of o rules ok) (everything o)) b (cut b) (span_from_numbered o rules ok (everything o) o.Range (λ u ru. (ru, tt)) b (single (Numbered (polys_of rules) o.Range) b (record { number = x.number; left = x.left; right = x.right; is = x.is; asked = λ v n. o.range_join x.left v x.right a (rules_in_range x.number v n) c }))) (λ w. cut-inside b w (b_range w))
               where
                 b_range : (w : Word) → (b w ≡ pos 0) ⊎ o.Range w
-                b_range w = by_place (between_word x.left x.right (generator_at (polys_of rules) x.number) w)
+                b_range w = elim (between_word x.left x.right (generator_at (polys_of rules) x.number) w) [
+                  | inl z ↦ inl (x.is w ∙ z)
+                  | inr (v, e) ↦ by_zero v e (nonzero_or (coefficient_of (generator_at (polys_of rules) x.number) v))
+                ]
                   where
                     by_zero : (v : Word) → w ≡ x.left ++ (v ++ x.right) → (coefficient_of (generator_at (polys_of rules) x.number) v ≡ pos 0) ⊎ (coefficient_of (generator_at (polys_of rules) x.number) v ≢ pos 0) → (b w ≡ pos 0) ⊎ o.Range w
                     by_zero v e (inl z) = inl (x.is w ∙ ap (coefficient_of (poly_between x.left (generator_at (polys_of rules) x.number) x.right)) e ∙ coefficient_of-between_at x.left x.right (generator_at (polys_of rules) x.number) v ∙ z)
                     by_zero v e (inr n) = inr (subst o.Range (sym e) (o.range_join x.left v x.right a (rules_in_range x.number v n) c))
-
-                    by_place : (coefficient_of (poly_between x.left (generator_at (polys_of rules) x.number) x.right) w ≡ pos 0) ⊎ ((v : Word) × (w ≡ x.left ++ (v ++ x.right))) → (b w ≡ pos 0) ⊎ o.Range w
-                    by_place (inl z) = inl (x.is w ∙ z)
-                    by_place (inr (v, e)) = by_zero v e (nonzero_or (coefficient_of (generator_at (polys_of rules) x.number) v))

@@ -19,17 +19,12 @@ between_span polys l r p sp =
 -- a number is that of a generator, or names the polynomial zero
 pub generator_decided : (generators : List (List Term)) (n : ℕ) → ((1 ≤ n) × (n ≤ length generators)) ⊎ (generator_at generators n ≡ [])
 generator_decided gs zero = inr refl
-generator_decided [] (suc n) = inr (past n)
-  where
-    past : (n : ℕ) → get_or {A = List Term} [] n [] ≡ []
-    past zero = refl
-    past (suc n) = refl
+generator_decided [] (suc n) = inr (elim n as (λ n. get_or {A = List Term} [] n [] ≡ []) [ zero ↦ refl | suc n ↦ refl ])
 generator_decided (g ∷ gs) (suc zero) = inl (omega arith, omega arith)
-generator_decided (g ∷ gs) (suc (suc n)) = up (generator_decided gs (suc n))
-  where
-    up : ((1 ≤ suc n) × (suc n ≤ length gs)) ⊎ (generator_at gs (suc n) ≡ []) → ((1 ≤ suc (suc n)) × (suc (suc n) ≤ suc (length gs))) ⊎ (generator_at (g ∷ gs) (suc (suc n)) ≡ [])
-    up (inl named) = inl (omega arith, omega (arith, named.1))
-    up (inr none) = inr none
+generator_decided (g ∷ gs) (suc (suc n)) = elim (generator_decided gs (suc n)) [
+  | inl named ↦ inl (omega arith, omega (arith, named.1))
+  | inr none ↦ inr none
+]
 
 -- what holds of each generator, by number
 module _ (P : List Term → Type 0) (generators : List (List Term)) where

@@ -18,8 +18,7 @@ positive_nat (pos n) h = (n, omega (arith, ints, h), refl)
 positive_nat (negsuc n) h = absurd (omega (arith, ints, h))
 
 pub nonzero_or : (x : ℤ) → (x ≡ pos 0) ⊎ (x ≢ pos 0)
-nonzero_or x = go (int_eq x (pos 0)) refl
-  where
-    go : (b : Bool) → int_eq x (pos 0) ≡ b → (x ≡ pos 0) ⊎ (x ≢ pos 0)
-    go true e = inl ((Decides-int_eq x (pos 0)).0 e)
-    go false e = inr (λ z. (cc (sym ((Decides-int_eq x (pos 0)).1 z) ∙ e)))
+nonzero_or x = (elim (int_eq x (pos 0)) as (λ b. int_eq x (pos 0) ≡ b → (x ≡ pos 0) ⊎ (x ≢ pos 0)) [
+  | true ↦ λ e. inl ((Decides-int_eq x (pos 0)).0 e)
+  | false ↦ λ e. inr (λ z. (cc (sym ((Decides-int_eq x (pos 0)).1 z) ∙ e)))
+]) refl

@@ -48,11 +48,10 @@ module _ (letters : ℕ) (compare : Compare) (rank : List ℕ → List ℕ) (law
   module _ (rules : List Rule) (are : All (IsRule letters compare) rules) (q : Allowed order) where
     -- each word of the rest is bounded as those of the polynomial are
     pub rest_bounded : (p : List Term) (s : State) → IsReduced letters compare rules p s → Bounded order q p → Bounded order q s.rest
-    rest_bounded p s reduced bounded w = go (nonzero_or (coefficient_of s.rest w))
-      where
-        go : (coefficient_of s.rest w ≡ pos 0) ⊎ (coefficient_of s.rest w ≢ pos 0) → (coefficient_of s.rest w ≡ pos 0) ⊎ (order.Range w × q.May w)
-        go (inl none) = inl none
-        go (inr some) = inr (at_most_bounded order q p bounded w (at_most_in letters compare rank laws p w (reduced.words.rest w some)))
+    rest_bounded p s reduced bounded w = elim (nonzero_or (coefficient_of s.rest w)) [
+      | inl none ↦ inl none
+      | inr some ↦ inr (at_most_bounded order q p bounded w (at_most_in letters compare rank laws p w (reduced.words.rest w some)))
+    ]
 
     -- the rest is one row of the rule that is made of it
     pub accounted_span : (rest : List Term) → IsAccounted rules rest → Bounded order q rest → Span (AnyRow order (ordered letters compare rank laws rules are) q) (coefficient_of rest)
@@ -69,11 +68,7 @@ module _ (letters : ℕ) (compare : Compare) (rank : List ℕ → List ℕ) (law
         occurs none = leading_nonzero order (led_at (leds_of rules) is.number) (leds_are letters compare rank laws rules are is.number (has_led rules is.number is.rule is.numbered)) (cancel_nonzero is.scale (coefficient_of (led_at (leds_of rules) is.number).poly (led_at (leds_of rules) is.number).lead) is.nonzero (sym (at (led_at (leds_of rules) is.number).lead) ∙ none))
 
         top : order.Range (led_at (leds_of rules) is.number).lead × q.May (led_at (leds_of rules) is.number).lead
-        top = go (bounded (led_at (leds_of rules) is.number).lead)
-          where
-            go : (coefficient_of rest (led_at (leds_of rules) is.number).lead ≡ pos 0) ⊎ (order.Range (led_at (leds_of rules) is.number).lead × q.May (led_at (leds_of rules) is.number).lead) → order.Range (led_at (leds_of rules) is.number).lead × q.May (led_at (leds_of rules) is.number).lead
-            go (inl none) = absurd (occurs none)
-            go (inr held) = held
+        top = elim (bounded (led_at (leds_of rules) is.number).lead) [ inl none ↦ absurd (occurs none) | inr held ↦ held ]
 
   -- what was reduced by fewer rules to a rest that comes from the rules
   pub reduced_in : (rules more : List Rule) (are : All (IsRule letters compare) rules) (all_are : All (IsRule letters compare) (rules ++ more)) (q : Allowed order) (p : List Term) (s : State)

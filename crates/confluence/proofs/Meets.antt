@@ -79,11 +79,10 @@ pub record Allowed (o : Order) : Type 1 where
   pub closed : (u v : Word) → o.Less u v → May v → May u
 
 less_apart : (o : Order) (u w : Word) → o.Less u w → word_eq u w ≡ false
-less_apart o u w h = by_test (word_eq u w) refl
-  where
-    by_test : (b : Bool) → word_eq u w ≡ b → word_eq u w ≡ false
-    by_test true e = absurd (o.irreflexive w (subst (λ z. o.Less z w) (word_eq-true u w e) h))
-    by_test false e = e
+less_apart o u w h = (elim (word_eq u w) as (λ b. word_eq u w ≡ b → word_eq u w ≡ false) [
+  | true ↦ λ e. absurd (o.irreflexive w (subst (λ z. o.Less z w) (word_eq-true u w e) h))
+  | false ↦ λ e. e
+]) refl
 
 coefficient_apart : (p : List Term) (w : Word) → AllWords (λ u. word_eq u w ≡ false) p → coefficient_of p w ≡ pos 0
 coefficient_apart [] w e = refl
@@ -237,11 +236,7 @@ module _ (o : Order) (g : Rules o) (q : Allowed o) where
 
   module _ (res : Resolved) where
     may_factor : (x O y : Word) → o.Range (x ++ (O ++ y)) → q.May (x ++ (O ++ y)) → q.May O
-    may_factor x O y rm am = by_le (o.factor_le x O y rm)
-      where
-        by_le : (O ≡ x ++ (O ++ y)) ⊎ o.Less O (x ++ (O ++ y)) → q.May O
-        by_le (inl e) = subst q.May (sym e) am
-        by_le (inr h) = q.closed O _ h am
+    may_factor x O y rm am = elim (o.factor_le x O y rm) [ inl e ↦ subst q.May (sym e) am | inr h ↦ q.closed O _ h am ]
 
     meets_at : (M N l1 k1 r1 s1 l2 k2 r2 s2 : Word) (i j : ℕ) → N ≡ M → k1 ≡ l1 → s1 ≡ r1 → k2 ≡ l2 → s2 ≡ r2 → Meets N k1 i s1 k2 j s2 → Meets M l1 i r1 l2 j r2
     meets_at M N l1 k1 r1 s1 l2 k2 r2 s2 i j a b c d e m = subst (λ z. Meets z l1 i r1 l2 j r2) a (subst (λ z. Meets N z i r1 l2 j r2) b (subst (λ z. Meets N k1 i z l2 j r2) c (subst (λ z. Meets N k1 i s1 z j r2) d (subst (λ z. Meets N k1 i s1 k2 j z) e m))))
@@ -252,27 +247,15 @@ module _ (o : Order) (g : Rules o) (q : Allowed o) where
       where
         at : M ≡ l1 ++ ((s ++ (g.rule j).lead) ++ r2)
         at = e2 ∙ ap (λ z. z ++ ((g.rule j).lead ++ r2)) a ∙ append_assoc l1 s ((g.rule j).lead ++ r2) ∙ ap (λ z. l1 ++ z) (sym (append_assoc s (g.rule j).lead r2))
-    meets M l1 i r1 l2 j r2 hi hj rm am e1 e2 differ (inside s t pe a b) = by_number (g.same_number i j)
-      where
-        by_number : (i ≡ j) ⊎ (i ≢ j) → Meets M l1 i r1 l2 j r2
-        by_number (inl e) = absurd (differ e (sym (a ∙ ap (λ z. l1 ++ z)
-            (nil_from_length s (omega (
-              arith,
-              ap length (pe ∙ ap (λ z. s ++ ((g.rule z).lead ++ t)) (sym e)),
-              length-append s
-                  ((g.rule i).lead ++ t),
-              length-append (g.rule i).lead t,
-            ))) ∙ append-nil l1)))
-        by_number (inr n) = meets_at M (l1 ++ ((g.rule i).lead ++ r1)) l1 (l1 ++ []) r1 r1 l2 (l1 ++ s) r2 (t ++ r1) i j (sym e1) (append-nil l1) refl (sym a) (sym b) (meets_shift l1 r1 (g.rule i).lead [] i [] s j t (subst o.Range e1 rm) (subst q.May e1 am) (res.inclusions i j s t hi hj n pe (o.factor l1 (g.rule i).lead r1 (subst o.Range e1 rm)) (may_factor l1 (g.rule i).lead r1 (subst o.Range e1 rm) (subst q.May e1 am))))
-    meets M l1 i r1 l2 j r2 hi hj rm am e1 e2 differ (outside t nt qe a b) = by_number (g.same_number i j)
+    meets M l1 i r1 l2 j r2 hi hj rm am e1 e2 differ (inside s t pe a b) = elim (g.same_number i j) [
+      | inl e ↦ absurd (differ e (sym (a ∙ ap (λ z. l1 ++ z) (nil_from_length s (omega (arith, ap length (pe ∙ ap (λ z. s ++ ((g.rule z).lead ++ t)) (sym e)), length-append s ((g.rule i).lead ++ t), length-append (g.rule i).lead t))) ∙ append-nil l1)))
+      | inr n ↦ meets_at M (l1 ++ ((g.rule i).lead ++ r1)) l1 (l1 ++ []) r1 r1 l2 (l1 ++ s) r2 (t ++ r1) i j (sym e1) (append-nil l1) refl (sym a) (sym b) (meets_shift l1 r1 (g.rule i).lead [] i [] s j t (subst o.Range e1 rm) (subst q.May e1 am) (res.inclusions i j s t hi hj n pe (o.factor l1 (g.rule i).lead r1 (subst o.Range e1 rm)) (may_factor l1 (g.rule i).lead r1 (subst o.Range e1 rm) (subst q.May e1 am))))
+    ]
+    meets M l1 i r1 l2 j r2 hi hj rm am e1 e2 differ (outside t nt qe a b) = elim (g.same_number i j) [
+      | inl e ↦ absurd (longer_than_itself (g.rule i).lead t nt (ap (λ z. (g.rule z).lead) e ∙ qe))
+      | inr n ↦ meets_at M (l2 ++ ((g.rule j).lead ++ r2)) l1 (l2 ++ []) r1 (t ++ r2) l2 (l2 ++ []) r2 r2 i j (sym e2) (append-nil l2 ∙ a) (sym b) (append-nil l2) refl (meets_swap _ _ _ _ _ _ _ (meets_shift l2 r2 (g.rule j).lead [] j [] [] i t (subst o.Range e2 rm) (subst q.May e2 am) (res.inclusions j i [] t hj hi (λ k. n (sym k)) qe (o.factor l2 (g.rule j).lead r2 (subst o.Range e2 rm)) (may_factor l2 (g.rule j).lead r2 (subst o.Range e2 rm) (subst q.May e2 am)))))
+    ]
       where
         longer_than_itself : (p t : Word) → SomeLetters t → p ≡ p ++ t → ⊥
-        longer_than_itself p [] n e = no_letters n
-          where
-            no_letters : SomeLetters [] → ⊥
-            no_letters k = elim k [ ]
+        longer_than_itself p [] n e = let k = n in elim k [ ]
         longer_than_itself p (x ∷ t) n e = omega (arith, ap length e, length-append p (x ∷ t))
-
-        by_number : (i ≡ j) ⊎ (i ≢ j) → Meets M l1 i r1 l2 j r2
-        by_number (inl e) = absurd (longer_than_itself (g.rule i).lead t nt (ap (λ z. (g.rule z).lead) e ∙ qe))
-        by_number (inr n) = meets_at M (l2 ++ ((g.rule j).lead ++ r2)) l1 (l2 ++ []) r1 (t ++ r2) l2 (l2 ++ []) r2 r2 i j (sym e2) (append-nil l2 ∙ a) (sym b) (append-nil l2) refl (meets_swap _ _ _ _ _ _ _ (meets_shift l2 r2 (g.rule j).lead [] j [] [] i t (subst o.Range e2 rm) (subst q.May e2 am) (res.inclusions j i [] t hj hi (λ k. n (sym k)) qe (o.factor l2 (g.rule j).lead r2 (subst o.Range e2 rm)) (may_factor l2 (g.rule j).lead r2 (subst o.Range e2 rm) (subst q.May e2 am)))))

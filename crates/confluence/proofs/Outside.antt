@@ -44,14 +44,13 @@ module _ (o : Order) (g : Rules o) where
 
   -- a word of a row is in range and may be a top
   pub row_word : (q : Allowed o) (M w : Word) (b : Coefs) → Row o g q M b → (b w ≡ pos 0) ⊎ (o.Range w × q.May w)
-  row_word q M w b x = by_word (coefficient_word P (poly_between x.left (poly (g.rule x.number)) x.right) w (at_top, each))
+  row_word q M w b x = elim (coefficient_word P (poly_between x.left (poly (g.rule x.number)) x.right) w (at_top, each)) [
+    | inl z ↦ inl (x.is w ∙ z)
+    | inr k ↦ inr k
+  ]
     where
       P : Word → Type 0
       P u = o.Range u × q.May u
-
-      by_word : (coefficient_of (poly_between x.left (poly (g.rule x.number)) x.right) w ≡ pos 0) ⊎ P w → (b w ≡ pos 0) ⊎ (o.Range w × q.May w)
-      by_word (inl z) = inl (x.is w ∙ z)
-      by_word (inr k) = inr k
 
       at_top : P (x.left ++ ((g.rule x.number).lead ++ x.right))
       at_top = (subst o.Range x.top x.range, subst q.May x.top x.may)
@@ -67,11 +66,7 @@ module _ (o : Order) (g : Rules o) where
       both (inr r) _ = inr r
       both (inl z) (inr r) = inr r
       both (inl z) (inl y) = inl (h w ∙ ap (λ e. c *ℤ e +ℤ k w) z ∙ ap (λ e. e +ℤ k w) (*ℤ-zero c) ∙ +ℤ_idl (k w) ∙ y)
-  span_word q _ (part f k e pe hk h) w = divided (span_word q k hk w)
-    where
-      divided : (k w ≡ pos 0) ⊎ (o.Range w × q.May w) → (f w ≡ pos 0) ⊎ (o.Range w × q.May w)
-      divided (inr r) = inr r
-      divided (inl z) = inl (*ℤ_cancel e (f w) pe (sym (h w) ∙ z))
+  span_word q _ (part f k e pe hk h) w = elim (span_word q k hk w) [ inr r ↦ inr r | inl z ↦ inl (*ℤ_cancel e (f w) pe (sym (h w) ∙ z)) ]
 
   one_row : (q : Allowed o) (M : Word) (b : Coefs) → Row o g q M b → Span (AnyRow q) b
   one_row q M b row = more b (λ _. pos 0) b (pos 1) (M, row) (nothing _ (λ _. refl)) (λ w. (omega (arith, ints)))
@@ -88,11 +83,10 @@ module _ (o : Order) (g : Rules o) where
   piece_span q p b sp t = span_same (AnyRow q) (shift t.left t.right (coefficient_of p)) b (span_shift (AnyRow (at_most_of o p)) (AnyRow q) t.left t.right each (coefficient_of p) sp) (λ w. t.is w ∙ coefficient_of-between t.left t.right p w)
     where
       placed : (v : Word) → coefficient_of p v ≢ pos 0 → o.Range (t.left ++ (v ++ t.right)) × q.May (t.left ++ (v ++ t.right))
-      placed v n = of_words (t.words (t.left ++ (v ++ t.right)))
-        where
-          of_words : (coefficient_of (poly_between t.left p t.right) (t.left ++ (v ++ t.right)) ≡ pos 0) ⊎ (o.Range (t.left ++ (v ++ t.right)) × q.May (t.left ++ (v ++ t.right))) → o.Range (t.left ++ (v ++ t.right)) × q.May (t.left ++ (v ++ t.right))
-          of_words (inl z) = absurd (n (sym (coefficient_of-between_at t.left t.right p v) ∙ z))
-          of_words (inr k) = k
+      placed v n = elim (t.words (t.left ++ (v ++ t.right))) [
+        | inl z ↦ absurd (n (sym (coefficient_of-between_at t.left t.right p v) ∙ z))
+        | inr k ↦ k
+      ]
 
       at_word : (L v : Word) → (L ≡ v) ⊎ o.Less L v → o.Range (t.left ++ (v ++ t.right)) × q.May (t.left ++ (v ++ t.right)) → o.Range (t.left ++ (L ++ t.right)) × q.May (t.left ++ (L ++ t.right))
       at_word L v (inl e) k = subst (λ z. o.Range (t.left ++ (z ++ t.right)) × q.May (t.left ++ (z ++ t.right))) (sym e) k
@@ -102,11 +96,7 @@ module _ (o : Order) (g : Rules o) where
       moved L d row k = (t.left ++ (L ++ t.right), row_shift o g q t.left t.right L d k.0 k.1 (other_bound L d row (at_top L d row k)))
         where
           at_top : (L : Word) (d : Coefs) → Row o g (at_most_of o p) L d → o.Range (t.left ++ (L ++ t.right)) × q.May (t.left ++ (L ++ t.right)) → q.May L
-          at_top L d row k = by_le (o.factor_le t.left L t.right k.0)
-            where
-              by_le : (L ≡ t.left ++ (L ++ t.right)) ⊎ o.Less L (t.left ++ (L ++ t.right)) → q.May L
-              by_le (inl e) = subst q.May (sym e) k.1
-              by_le (inr h) = q.closed L _ h k.1
+          at_top L d row k = elim (o.factor_le t.left L t.right k.0) [ inl e ↦ subst q.May (sym e) k.1 | inr h ↦ q.closed L _ h k.1 ]
 
           other_bound : (L : Word) (d : Coefs) → Row o g (at_most_of o p) L d → q.May L → Row o g q L d
           other_bound L d row m = record { number = row.number; has = row.has; left = row.left; right = row.right; top = row.top; range = row.range; may = m; is = row.is }

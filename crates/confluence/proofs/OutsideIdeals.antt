@@ -95,15 +95,14 @@ module _ (letters : ℕ) (compare : Compare) (rank : List ℕ → List ℕ) (law
   row_below b row = go (generator_decided generators row.number)
     where
       words : (w : Word) → (coefficient_of (poly_between row.left (generator_at generators row.number) row.right) w ≡ pos 0) ⊎ (order.Range w × order.Less w bound)
-      words w = by_place (between_word row.left row.right (generator_at generators row.number) w)
+      words w = elim (between_word row.left row.right (generator_at generators row.number) w) [
+        | inl none ↦ inl none
+        | inr (v, is) ↦ of_word v is (nonzero_or (coefficient_of (generator_at generators row.number) v))
+      ]
         where
           of_word : (v : Word) → w ≡ row.left ++ (v ++ row.right) → (coefficient_of (generator_at generators row.number) v ≡ pos 0) ⊎ (coefficient_of (generator_at generators row.number) v ≢ pos 0) → (coefficient_of (poly_between row.left (generator_at generators row.number) row.right) w ≡ pos 0) ⊎ (order.Range w × order.Less w bound)
           of_word v is (inl none) = inl (ap (coefficient_of (poly_between row.left (generator_at generators row.number) row.right)) is ∙ coefficient_of-between_at row.left row.right (generator_at generators row.number) v ∙ none)
           of_word v is (inr some) = inr (subst (λ u. order.Range u × order.Less u bound) (sym is) (order.less_range (row.left ++ (v ++ row.right)) bound (row.asked v some), row.asked v some))
-
-          by_place : (coefficient_of (poly_between row.left (generator_at generators row.number) row.right) w ≡ pos 0) ⊎ ((v : Word) × (w ≡ row.left ++ (v ++ row.right))) → (coefficient_of (poly_between row.left (generator_at generators row.number) row.right) w ≡ pos 0) ⊎ (order.Range w × order.Less w bound)
-          by_place (inl none) = inl none
-          by_place (inr (v, is)) = of_word v is (nonzero_or (coefficient_of (generator_at generators row.number) v))
 
       go : ((1 ≤ row.number) × (row.number ≤ length generators)) ⊎ (generator_at generators row.number ≡ []) → Span (AnyRow order (ordered letters compare rank laws rules are) (below order bound)) b
       go (inr none) = nothing b (λ w. row.is w ∙ ap (λ z. coefficient_of (poly_between row.left z row.right) w) none)

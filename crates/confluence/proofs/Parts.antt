@@ -20,11 +20,7 @@ filtered keep [] = []
 filtered keep (t ∷ p) = cond (keep t.1) (t ∷ filtered keep p) (filtered keep p)
 
 pub coefficient_of-filtered : (keep : Word → Bool) (p : List Term) (w : Word) → coefficient_of (filtered keep p) w ≡ cond (keep w) (coefficient_of p w) (pos 0)
-coefficient_of-filtered keep [] w = by_test (keep w)
-  where
-    by_test : (b : Bool) → pos 0 ≡ cond b (pos 0) (pos 0)
-    by_test true = refl
-    by_test false = refl
+coefficient_of-filtered keep [] w = elim (keep w) as (λ b. pos 0 ≡ cond b (pos 0) (pos 0)) [ true ↦ refl | false ↦ refl ]
 coefficient_of-filtered keep (t ∷ p) w = by_word (coefficient_of-filtered keep p w) (word_eq t.1 w) refl (keep t.1) refl
   where
     Goal : Type 0
@@ -69,15 +65,14 @@ abbrev pub parted : Led → Parted
 parted r = record { leading = r.leading; lead = r.lead; tail = filtered (is_lower r) r.poly }
 
 pub coefficient_of-parted : (o : Order) (r : Led) → IsLed o r → (w : Word) → coefficient_of (poly (parted r)) w ≡ coefficient_of r.poly w
-coefficient_of-parted o r h w = by_word (word_eq r.lead w) refl
+coefficient_of-parted o r h w = (elim (word_eq r.lead w) as (λ b. word_eq r.lead w ≡ b → coefficient_of (poly (parted r)) w ≡ coefficient_of r.poly w) [
+  | false ↦ λ e. by_zero e (int_eq (coefficient_of r.poly w) (pos 0)) refl
+  | true ↦ λ e. ap (λ s. cond s (pos r.leading) (pos 0) +ℤ coefficient_of (filtered (is_lower r) r.poly) w) e ∙ ap (λ z. pos r.leading +ℤ z) (coefficient_of-filtered (is_lower r) r.poly w ∙ ap (λ s. cond (not s && not (int_eq (coefficient_of r.poly w) (pos 0))) (coefficient_of r.poly w) (pos 0)) e) ∙ +ℤ_idr _ ∙ sym h.at_lead ∙ ap (coefficient_of r.poly) (word_eq-true r.lead w e)
+]) refl
   where
     by_zero : word_eq r.lead w ≡ false → (b : Bool) → int_eq (coefficient_of r.poly w) (pos 0) ≡ b → coefficient_of (poly (parted r)) w ≡ coefficient_of r.poly w
     by_zero e true z = ap (λ s. cond s (pos r.leading) (pos 0) +ℤ coefficient_of (filtered (is_lower r) r.poly) w) e ∙ +ℤ_idl _ ∙ coefficient_of-filtered (is_lower r) r.poly w ∙ ap (λ b. cond b (coefficient_of r.poly w) (pos 0)) (ap (λ s. not s && not (int_eq (coefficient_of r.poly w) (pos 0))) e ∙ ap not z) ∙ sym ((Decides-int_eq (coefficient_of r.poly w) (pos 0)).0 z)
     by_zero e false z = ap (λ s. cond s (pos r.leading) (pos 0) +ℤ coefficient_of (filtered (is_lower r) r.poly) w) e ∙ +ℤ_idl _ ∙ coefficient_of-filtered (is_lower r) r.poly w ∙ ap (λ b. cond b (coefficient_of r.poly w) (pos 0)) (ap (λ s. not s && not (int_eq (coefficient_of r.poly w) (pos 0))) e ∙ ap not z)
-
-    by_word : (b : Bool) → word_eq r.lead w ≡ b → coefficient_of (poly (parted r)) w ≡ coefficient_of r.poly w
-    by_word false e = by_zero e (int_eq (coefficient_of r.poly w) (pos 0)) refl
-    by_word true e = ap (λ s. cond s (pos r.leading) (pos 0) +ℤ coefficient_of (filtered (is_lower r) r.poly) w) e ∙ ap (λ z. pos r.leading +ℤ z) (coefficient_of-filtered (is_lower r) r.poly w ∙ ap (λ s. cond (not s && not (int_eq (coefficient_of r.poly w) (pos 0))) (coefficient_of r.poly w) (pos 0)) e) ∙ +ℤ_idr _ ∙ sym h.at_lead ∙ ap (coefficient_of r.poly) (word_eq-true r.lead w e)
 
 pub parted_below : (o : Order) (r : Led) → IsLed o r → AllWords (λ u. o.Less u r.lead) (parted r).tail
 parted_below o r h = all_words_filtered (λ u. o.Less u r.lead) (is_lower r) r.poly each
@@ -87,7 +82,10 @@ parted_below o r h = all_words_filtered (λ u. o.Less u r.lead) (is_lower r) r.p
     not_true true e = cc
 
     each : (w : Word) → is_lower r w ≡ true → o.Less w r.lead
-    each w k = pick (h.words w nonzero)
+    each w k = elim (h.words w nonzero) [
+      | inl e ↦ absurd (cc (sym (word_eq-same r.lead) ∙ ap (λ z. word_eq r.lead z) (sym e) ∙ not_true _ parts.0))
+      | inr l ↦ l
+    ]
       where
         parts : (not (word_eq r.lead w) ≡ true) × (not (int_eq (coefficient_of r.poly w) (pos 0)) ≡ true)
         parts = and_parts _ _ k
@@ -95,19 +93,11 @@ parted_below o r h = all_words_filtered (λ u. o.Less u r.lead) (is_lower r) r.p
         nonzero : coefficient_of r.poly w ≢ pos 0
         nonzero z = cc (sym ((Decides-int_eq (coefficient_of r.poly w) (pos 0)).1 z) ∙ not_true _ parts.1)
 
-        pick : (w ≡ r.lead) ⊎ o.Less w r.lead → o.Less w r.lead
-        pick (inl e) = absurd (cc (sym (word_eq-same r.lead) ∙ ap (λ z. word_eq r.lead z) (sym e) ∙ not_true _ parts.0))
-        pick (inr l) = l
-
 pub same_nat : (i j : ℕ) → (i ≡ j) ⊎ (i ≢ j)
 same_nat zero zero = inl refl
 same_nat zero (suc j) = inr (λ e. absurd (omega arith))
 same_nat (suc i) zero = inr (λ e. absurd (omega arith))
-same_nat (suc i) (suc j) = up (same_nat i j)
-  where
-    up : (i ≡ j) ⊎ (i ≢ j) → (suc i ≡ suc j) ⊎ (suc i ≢ suc j)
-    up (inl e) = inl (ap suc e)
-    up (inr n) = inr (λ e. n (omega (arith, e)))
+same_nat (suc i) (suc j) = elim (same_nat i j) [ inl e ↦ inl (ap suc e) | inr n ↦ inr (λ e. n (omega (arith, e))) ]
 
 abbrev pub rules_of : (o : Order) (rules : List Led) → ((n : ℕ) → HasLed rules n → IsLed o (led_at rules n)) → Rules o
 rules_of o rules ok = record {

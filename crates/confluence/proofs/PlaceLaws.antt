@@ -159,11 +159,10 @@ module _ (letters : ℕ) (compare : Compare) (rank : List ℕ → List ℕ) (rul
       ∙ ap₂ (λ u v. coefficient_of (poly_between u r.rule.poly.terms v) w) l_is back_is
 
   leading_is : (r : Place) (is : IsPlace rules word r) → pos (g.rule r.number).leading ≡ r.rule.leading
-  leading_is r is = ap (λ f. pos f.leading) (led_at-is rules r.number r.rule is.numbered) ∙ as_nat r.rule.leading (rule_at-all (IsRule letters compare) rules r.number r.rule is.numbered are).positive
-    where
-      as_nat : (k : ℤ) → pos 0 <ℤ k → pos (unsigned_abs k) ≡ k
-      as_nat (pos n) h = refl
-      as_nat (negsuc n) h = absurd (omega (arith, ints, h))
+  leading_is r is = ap (λ f. pos f.leading) (led_at-is rules r.number r.rule is.numbered) ∙ ((elim r.rule.leading as (λ k. pos 0 <ℤ k → pos (unsigned_abs k) ≡ k) [
+    | pos n ↦ λ h. refl
+    | negsuc n ↦ λ h. absurd (omega (arith, ints, h))
+  ]) (rule_at-all (IsRule letters compare) rules r.number r.rule is.numbered are).positive)
 
   abbrev difference : List Term
   difference = poly_multiple q.rule.leading (place_poly p) ++ poly_multiple (neg_ℤ p.rule.leading) (place_poly q)

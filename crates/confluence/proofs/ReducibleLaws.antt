@@ -59,11 +59,10 @@ module _ (letters : ℕ) (compare : Compare) (rank : List ℕ → List ℕ) (law
       }
         where
           in_range : (w : Word) → coefficient_of p w ≢ pos 0 → order.Range w
-          in_range w occurs = pick (span_word order ordered q (coefficient_of p) sp w)
-            where
-              pick : (coefficient_of p w ≡ pos 0) ⊎ (order.Range w × q.May w) → order.Range w
-              pick (inl zero) = absurd (occurs zero)
-              pick (inr held) = held.0
+          in_range w occurs = elim (span_word order ordered q (coefficient_of p) sp w) [
+            | inl zero ↦ absurd (occurs zero)
+            | inr held ↦ held.0
+          ]
 
           at_most : (w : Word) → coefficient_of p w ≢ pos 0 → (w ≡ top.word) ⊎ (order.Less w top.word ⊎ order.Less top.word w) → (w ≡ top.word) ⊎ IsBelow letters compare w top.word
           at_most w occurs (inl same) = inl same

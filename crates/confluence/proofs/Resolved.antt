@@ -23,16 +23,13 @@ split_word : (s s' u u' : Word) → length s ≡ length s' → s ++ u ≡ s' ++ 
 split_word [] [] u u' l e = (refl, e)
 split_word [] (x ∷ s') u u' l e = absurd (omega (arith, l))
 split_word (x ∷ s) [] u u' l e = absurd (omega (arith, l))
-split_word (x ∷ s) (y ∷ s') u u' l e = after (split_word s s' u u' (omega (arith, l)) tails)
+split_word (x ∷ s) (y ∷ s') u u' l e = let (p, q) = split_word s s' u u' (omega (arith, l)) tails in (cc, q)
   where
     heads : x ≡ y
     heads = cc
 
     tails : s ++ u ≡ s' ++ u'
     tails = cc
-
-    after : (s ≡ s') × (u ≡ u') → (x ∷ s ≡ y ∷ s') × (u ≡ u')
-    after (p, q) = (cc, q)
 
 pub some_length : (w : Word) → SomeLetters w → 0 < length w
 some_length _ (some_letters a w) = omega arith
@@ -57,11 +54,10 @@ module _ (o : Order) where
     resolved_meets q a O af be bh h amb may = moved (same_place rules a h.word O h.after af h.before be h.behind bh h.is_meeting amb)
       where
         both : HasLed rules a.i × HasLed rules a.j
-        both = numbers h.is_meeting
-          where
-            numbers : IsMeeting rules a h.word h.after h.before h.behind → HasLed rules a.i × HasLed rules a.j
-            numbers (overlap s m t k h1 h2 ns nm nt e1 e2 pl ew ea eb ec) = (h1, h2)
-            numbers (inclusion s t k h1 h2 n e pl ew ea eb ec) = (h1, h2)
+        both = elim h.is_meeting [
+          | overlap s m t k h1 h2 ns nm nt e1 e2 pl ew ea eb ec ↦ (h1, h2)
+          | inclusion s t k h1 h2 n e pl ew ea eb ec ↦ (h1, h2)
+        ]
 
         g : Rules o
         g = rules_of o rules ok

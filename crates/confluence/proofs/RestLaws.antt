@@ -70,11 +70,10 @@ rests_of_ideal_are_zero letters compare rank rules p s laws are resolved inside 
     zero_rest letters compare rules p s reduced (reducible_in_ideal letters compare rank rules s.rest laws are resolved rest_inside (record { at = λ w some. of_word w (reduced.words.rest w some) }))
   where
     of_word : (w : Word) → IsAtMostOf letters compare p w → IsOver letters w
-    of_word w most = go most.at_most
-      where
-        go : (w ≡ most.word) ⊎ IsBelow letters compare w most.word → IsOver letters w
-        go (inl same) = subst (IsOver letters) (sym same) (over.at most.word most.occurs)
-        go (inr below) = below.left
+    of_word w most = elim most.at_most [
+      | inl same ↦ subst (IsOver letters) (sym same) (over.at most.word most.occurs)
+      | inr below ↦ below.left
+    ]
 
 pub rests_below_are_zero : RestsBelowAreZero
 rests_below_are_zero letters compare rank rules bound p s laws are resolved comes reduced =
@@ -95,8 +94,7 @@ rests_below_are_zero letters compare rank rules bound p s laws are resolved come
         pick (inr held) = held.1
 
     of_word : (w : Word) → IsAtMostOf letters compare p w → (order_from_laws letters compare rank laws).Less w bound
-    of_word w most = go most.at_most
-      where
-        go : (w ≡ most.word) ⊎ IsBelow letters compare w most.word → (order_from_laws letters compare rank laws).Less w bound
-        go (inl same) = subst (λ v. (order_from_laws letters compare rank laws).Less v bound) (sym same) (own most.word most.occurs)
-        go (inr less) = (order_from_laws letters compare rank laws).less_trans w most.word bound (below_less letters compare rank laws w most.word less) (own most.word most.occurs)
+    of_word w most = elim most.at_most [
+      | inl same ↦ subst (λ v. (order_from_laws letters compare rank laws).Less v bound) (sym same) (own most.word most.occurs)
+      | inr less ↦ (order_from_laws letters compare rank laws).less_trans w most.word bound (below_less letters compare rank laws w most.word less) (own most.word most.occurs)
+    ]

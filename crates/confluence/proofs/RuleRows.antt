@@ -24,11 +24,7 @@ module _ (o : Order) where
   Bounded q p = (w : Word) → (coefficient_of p w ≡ pos 0) ⊎ (o.Range w × q.May w)
 
   pub bounded_from : (q : Allowed o) (p : List Term) → ((w : Word) → coefficient_of p w ≢ pos 0 → o.Range w × q.May w) → Bounded q p
-  bounded_from q p h w = go (nonzero_or (coefficient_of p w))
-    where
-      go : (coefficient_of p w ≡ pos 0) ⊎ (coefficient_of p w ≢ pos 0) → (coefficient_of p w ≡ pos 0) ⊎ (o.Range w × q.May w)
-      go (inl z) = inl z
-      go (inr n) = inr (h w n)
+  bounded_from q p h w = elim (nonzero_or (coefficient_of p w)) [ inl z ↦ inl z | inr n ↦ inr (h w n) ]
 
   pub at_most_bounded : (q : Allowed o) (p : List Term) → Bounded q p → (u : Word) → IsAtMostOf o p u → o.Range u × q.May u
   at_most_bounded q p b u h = go (b h.word) h.at_most
@@ -57,7 +53,5 @@ module _ (o : Order) where
 
 -- what is reduced to a rest in the span is in the span
 pub from_rest : (Base : Coefs → Type 0) (p rest : List Term) (m : ℤ) → pos 0 <ℤ m → Span Base (λ w. m *ℤ coefficient_of p w +ℤ neg_ℤ (coefficient_of rest w)) → Span Base (coefficient_of rest) → Span Base (coefficient_of p)
-from_rest Base p rest m h a b = go (positive_nat m h)
-  where
-    go : ((n : ℕ) × (0 < n) × (m ≡ pos n)) → Span Base (coefficient_of p)
-    go (n, pn, e) = part (coefficient_of p) _ n pn (span_add Base _ _ a b) (λ w. (omega (arith, ints)) ∙ ap (λ z. z *ℤ coefficient_of p w) e)
+from_rest Base p rest m h a b = let (n, pn, e) = positive_nat m h in
+    part (coefficient_of p) _ n pn (span_add Base _ _ a b) (λ w. (omega (arith, ints)) ∙ ap (λ z. z *ℤ coefficient_of p w) e)

@@ -56,11 +56,10 @@ fits : {A : Type 0} (os : List Overflow) (x : A) → first_overflow os ≡ None 
 fits os x none = ap (λ o. unless_overflow o (Ok x)) none
 
 none_of : {A : Type 0} (os : List Overflow) (r : Result A PolyFault) (v : A) → unless_overflow (first_overflow os) r ≡ Ok v → first_overflow os ≡ None
-none_of os r v ends = go (first_overflow os) refl ends
-  where
-    go : (o : Option Overflow) → first_overflow os ≡ o → unless_overflow o r ≡ Ok v → first_overflow os ≡ None
-    go None at e = at
-    go (Some x) at e = absurd (no_error v (fault.Overflow x) e)
+none_of os r v ends = (elim (first_overflow os) as (λ o. first_overflow os ≡ o → unless_overflow o r ≡ Ok v → first_overflow os ≡ None) [
+  | None ↦ λ at e. at
+  | Some x ↦ λ at e. absurd (no_error v (fault.Overflow x) e)
+]) refl ends
 
 -- S-polynomials
 combined_shaped : (a : ℤ) (p : List Term) (b : ℤ) (q r : List Term) → IsShaped p → IsShaped q → combined a p b q ≡ Ok r → IsShaped r
@@ -121,14 +120,13 @@ move_shaped m s t rule_is rest_is ends =
     (fits (sums (multiplied s.rest m.by) (negated (shifted m.times m.left m.rule m.right))) (added (multiplied s.rest m.by) (negated (shifted m.times m.left m.rule m.right))) less.rest))
 
 step_shaped : (rules : List Rule) (c : Choice) (s t : State) → IsShaped s.rest → step_result rules c s ≡ Ok t → IsShaped t.rest
-step_shaped rules c s t shaped ends = go (rule_at rules c.number) ends
+step_shaped rules c s t shaped ends = (elim (rule_at rules c.number) as (λ o. step_by o c s ≡ Ok t → IsShaped t.rest) [
+  | None ↦ λ e. subst (λ (u : State). IsShaped u.rest) (same s t e) shaped
+  | Some g ↦ λ e. move_shaped (move_of c g) s t g.poly.canonical.shaped shaped e
+]) ends
   where
     same : (x y : State) → ◌≡◌ {A = Result State PolyFault} (Ok x) (Ok y) → x ≡ y
     same x y e = cc
-
-    go : (o : Option Rule) → step_by o c s ≡ Ok t → IsShaped t.rest
-    go None e = subst (λ (u : State). IsShaped u.rest) (same s t e) shaped
-    go (Some g) e = move_shaped (move_of c g) s t g.poly.canonical.shaped shaped e
 
 reduction_shaped : (compare : Compare) (rules : List Rule) (limit n : ℕ) (s t : State) → IsShaped s.rest → reduction limit compare rules n s ≡ Ok t → IsShaped t.rest
 reduction_shaped compare rules limit zero s t shaped ends = go (choice_of compare (entries_of rules) s.rest) ends
@@ -160,8 +158,7 @@ rests_have_letters_below letters compare rules p s over reduced shaped =
     words_listed (IsOver letters) s.rest (distinct-descending s.rest (recursion_from_IsDescending s.rest shaped.descending)) shaped.nonzero (λ w some. of_word w (reduced.words.rest w some))
   where
     of_word : (w : Word) → IsAtMostOf letters compare p w → IsOver letters w
-    of_word w most = go most.at_most
-      where
-        go : (w ≡ most.word) ⊎ IsBelow letters compare w most.word → IsOver letters w
-        go (inl same) = subst (IsOver letters) (sym same) (over.at most.word most.occurs)
-        go (inr below) = below.left
+    of_word w most = elim most.at_most [
+      | inl same ↦ subst (IsOver letters) (sym same) (over.at most.word most.occurs)
+      | inr below ↦ below.left
+    ]

@@ -64,11 +64,7 @@ map_map h k (t ∷ p) = ap (λ q. (t.0, h (k t.1)) ∷ q) (map_map h k p)
 
 coefficient_of-first : (a : ℕ) (p : List Term) (w : Word) → coefficient_of (map_words (λ u. a ∷ u) p) w ≡ shift_left (a ∷ []) (coefficient_of p) w
 coefficient_of-first a [] [] = refl
-coefficient_of-first a [] (b ∷ w) = by_test (eqb a b)
-  where
-    by_test : (t : Bool) → pos 0 ≡ cond t (pos 0) (pos 0)
-    by_test true = refl
-    by_test false = refl
+coefficient_of-first a [] (b ∷ w) = elim (eqb a b) as (λ t. pos 0 ≡ cond t (pos 0) (pos 0)) [ true ↦ refl | false ↦ refl ]
 coefficient_of-first a (t ∷ p) [] = +ℤ_idl (coefficient_of (map_words (λ u. a ∷ u) p) []) ∙ coefficient_of-first a p []
 coefficient_of-first a (t ∷ p) (b ∷ w) = ap (λ z. cond (eqb a b && word_eq t.1 w) t.0 (pos 0) +ℤ z) (coefficient_of-first a p (b ∷ w)) ∙ by_test (eqb a b)
   where

@@ -65,10 +65,8 @@ numbered polys Asked (r ∷ rows) a = more _ (coefficient_of (row_sum polys rows
     (λ w. coefficient_of-append (row_poly polys r) (row_sum polys rows) w ∙ ap (λ z. z +ℤ coefficient_of (row_sum polys rows) w) (coefficient_of-multiple r.coefficient (poly_between r.left (generator_at polys r.generator) r.right) w))
 
 pub combination_span : (polys : List (List Term)) (Asked : Word → Type 0) (rows : List SumRow) (d : ℤ) (p : List Term) → IsCombination polys rows d p → All (IsAskedRow polys Asked) rows → Span (Numbered polys Asked) (coefficient_of p)
-combination_span polys Asked rows d p c a = go (positive_nat d c.positive)
-  where
-    go : ((n : ℕ) × (0 < n) × (d ≡ pos n)) → Span (Numbered polys Asked) (coefficient_of p)
-    go (n, pn, e) = part (coefficient_of p) (coefficient_of (row_sum polys rows)) n pn (numbered polys Asked rows a) (λ w. c.sum.at w ∙ coefficient_of-multiple d p w ∙ ap (λ z. z *ℤ coefficient_of p w) e)
+combination_span polys Asked rows d p c a = let (n, pn, e) = positive_nat d c.positive in
+    part (coefficient_of p) (coefficient_of (row_sum polys rows)) n pn (numbered polys Asked rows a) (λ w. c.sum.at w ∙ coefficient_of-multiple d p w ∙ ap (λ z. z *ℤ coefficient_of p w) e)
 
 pub combination_from : (polys : List (List Term)) (Asked : Word → Type 0) (p : List Term) → Listed polys Asked (coefficient_of p) → Comes polys Asked p
 combination_from polys Asked p k = record {

@@ -60,7 +60,10 @@ lead_in_play play letters compare g is in_play = in_play.at g.lead (λ none. (om
 
 -- words of l g r, where l lead r is in play
 between_in_play : (play : ℕ → Bool) (g : Rule) (l r : Word) → IsPolyInPlay play g.poly.terms → IsInPlay play (l ++ (g.lead ++ r)) → (w : Word) → coefficient_of (poly_between l g.poly.terms r) w ≢ pos 0 → IsInPlay play w
-between_in_play play g l r in_play whole w some = go (between_word l r g.poly.terms w)
+between_in_play play g l r in_play whole w some = elim (between_word l r g.poly.terms w) [
+  | inl none ↦ absurd (some none)
+  | inr (v, is) ↦ of_word v is (nonzero_or (coefficient_of g.poly.terms v))
+]
   where
     outer : IsInPlay play l × IsInPlay play (g.lead ++ r)
     outer = parts_in_play play l (g.lead ++ r) whole
@@ -68,10 +71,6 @@ between_in_play play g l r in_play whole w some = go (between_word l r g.poly.te
     of_word : (v : Word) → w ≡ l ++ (v ++ r) → (coefficient_of g.poly.terms v ≡ pos 0) ⊎ (coefficient_of g.poly.terms v ≢ pos 0) → IsInPlay play w
     of_word v is (inl none) = absurd (some (ap (coefficient_of (poly_between l g.poly.terms r)) is ∙ coefficient_of-between_at l r g.poly.terms v ∙ none))
     of_word v is (inr occurs) = subst (IsInPlay play) (sym is) (joined_in_play play l (v ++ r) outer.0 (joined_in_play play v r (in_play.at v occurs) (parts_in_play play g.lead r outer.1).1))
-
-    go : (coefficient_of (poly_between l g.poly.terms r) w ≡ pos 0) ⊎ ((v : Word) × (w ≡ l ++ (v ++ r))) → IsInPlay play w
-    go (inl none) = absurd (some none)
-    go (inr (v, is)) = of_word v is (nonzero_or (coefficient_of g.poly.terms v))
 
 -- the letters of the overlap word are letters of the two leading words
 module _ (q : Quiver) (play : ℕ → Bool) (letters : ℕ) (compare : Compare) (rules : List Rule) (are : All (IsRule letters compare) rules) (typed : AreTypedInPlay q play rules) where

@@ -22,11 +22,10 @@ AnyRow o g b = (M : Word) × Row o g (everything o) M b
 -- a sum of rows over resolved rules that is zero at the top of each row is zero
 no_reducible_word : {o : Order} {g : Rules o} → Resolved o g (everything o) → {f : Coefs}
     → ((N : Word) (b : Coefs) → Row o g (everything o) N b → f N ≡ pos 0) → Span (AnyRow o g) f → (w : Word) → f w ≡ pos 0
-no_reducible_word {o} {g} res {f} top span = go (zero_or_reducible o g (everything o) res f span)
-  where
-    go : ((w : Word) → f w ≡ pos 0) ⊎ HasTopRow (setting o g (everything o) res) f → (w : Word) → f w ≡ pos 0
-    go (inl zero) = zero
-    go (inr found) = absurd (found.occurs (top found.word found.row.0 found.row.1))
+no_reducible_word {o} {g} res {f} top span = elim (zero_or_reducible o g (everything o) res f span) [
+  | inl zero ↦ zero
+  | inr found ↦ absurd (found.occurs (top found.word found.row.0 found.row.1))
+]
 
 pos_mul : {x y : ℕ} → 0 < x → 0 < y → 0 < x * y
 pos_mul p q = grind arith

@@ -206,12 +206,10 @@ module _ (value : Word → Rational) where
           → look rationals (gathered (w ∷ ws)) x ≡ value x
       go true e later = subst (λ y. look rationals (gathered (w ∷ ws)) y ≡ value y) (word_eq-true w x e) (gathered_here w ws)
       go false e later = look_other rationals canonical x (value w, w) (without rationals w (gathered ws)) e ∙ look-without_other w x (gathered ws) e
-          ∙ later (tail at)
-        where
-          tail : Contains (w ∷ ws) x ⊎ (value x ≡ rationals.none) → Contains ws x ⊎ (value x ≡ rationals.none)
-          tail (inl at) = inl (Contains-tail w ws x (λ same. true≢false (sym (subst (λ y. word_eq w y ≡ true) same (word_eq-same w))
-              ∙ e)) at)
-          tail (inr none) = inr none
+          ∙ later (elim at [
+            | inl at ↦ inl (Contains-tail w ws x (λ same. true≢false (sym (subst (λ y. word_eq w y ≡ true) same (word_eq-same w)) ∙ e)) at)
+            | inr none ↦ inr none
+          ])
 
 -- The map of a finite sum.
 module _ (p : Parts) (rules : List Rule) (u v : ℕ) (here : (normal_forms p rules).is_object u) (there : (normal_forms p rules).is_object v)

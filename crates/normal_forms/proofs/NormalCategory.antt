@@ -320,7 +320,10 @@ module _ {K : Type 0} (k : Field K) (s : Ground k) where
 
     unit_left_like : (x : ℕ) {y : ℕ} {p : Form K} → y < s.quiver.objects → Each (Good x y) p → Like (product k ((k.one, unit_word y) ∷ []) p) p
     unit_left_like x {y} {p} hy a = cong_trans k s.order s.rules (cong_same k s.order s.rules (append-nil (front k (k.one, unit_word y) p)))
-        (go (s.marked y) refl)
+        ((elim (s.marked y) as (λ b. s.marked y ≡ b → Like (front k (k.one, cond b (y ∷ []) []) p) p) [
+          | false ↦ λ e. cong_same k s.order s.rules (plain p)
+          | true ↦ λ e. with_letter e p a
+        ]) refl)
       where
         plain : (p : Form K) → front k (k.one, []) p ≡ p
         plain [] = refl
@@ -329,10 +332,6 @@ module _ {K : Type 0} (k : Field K) (s : Ground k) where
         with_letter : s.marked y ≡ true → (p : Form K) → Each (Good x y) p → Like (front k (k.one, y ∷ []) p) p
         with_letter m [] a = cong_refl k s.order s.rules []
         with_letter m (t ∷ p) a = cong_append k s.order s.rules (unit_front x t.0 t.1 hy m a.0) (with_letter m p a.1)
-
-        go : (b : Bool) → s.marked y ≡ b → Like (front k (k.one, cond b (y ∷ []) []) p) p
-        go false e = cong_same k s.order s.rules (plain p)
-        go true e = with_letter e p a
 
     left_identity : (x y : ℕ) (a : NormalMap K) → IsArrow normal_structure x y a
         → normal_structure.compose (normal_structure.identity y) a ≡ a
@@ -400,7 +399,10 @@ module _ {K : Type 0} (k : Field K) (s : Ground k) where
             (cong_same k s.order s.rules (ap₂ (λ y z. (y, z) ∷ []) (times_one k c) (sym l.is))))
 
     unit_right_like : {x : ℕ} (y : ℕ) {p : Form K} → x < s.quiver.objects → Each (Good x y) p → Like (product k p ((k.one, unit_word x) ∷ [])) p
-    unit_right_like {x} y {p} hx a = go (s.marked x) refl
+    unit_right_like {x} y {p} hx a = (elim (s.marked x) as (λ b. s.marked x ≡ b → Like (product k p ((k.one, cond b (x ∷ []) []) ∷ [])) p) [
+      | false ↦ λ e. cong_same k s.order s.rules (plain p)
+      | true ↦ λ e. with_letter e p a
+    ]) refl
       where
         plain : (p : Form K) → product k p ((k.one, []) ∷ []) ≡ p
         plain [] = refl
@@ -409,10 +411,6 @@ module _ {K : Type 0} (k : Field K) (s : Ground k) where
         with_letter : s.marked x ≡ true → (p : Form K) → Each (Good x y) p → Like (product k p ((k.one, x ∷ []) ∷ [])) p
         with_letter m [] a = cong_refl k s.order s.rules []
         with_letter m (t ∷ p) a = cong_append k s.order s.rules (unit_back y t.0 t.1 hx m a.0) (with_letter m p a.1)
-
-        go : (b : Bool) → s.marked x ≡ b → Like (product k p ((k.one, cond b (x ∷ []) []) ∷ [])) p
-        go false e = cong_same k s.order s.rules (plain p)
-        go true e = with_letter e p a
 
     right_identity : (x y : ℕ) (a : NormalMap K) → IsArrow normal_structure x y a
         → normal_structure.compose a (normal_structure.identity x) ≡ a

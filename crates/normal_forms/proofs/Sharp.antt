@@ -243,11 +243,7 @@ module _ {K : Type 0} (k : Field K) (s : Ground k) where
     kept u v (t ∷ p) = cond (is_path s.quiver u v t.1) (t ∷ kept u v p) (kept u v p)
 
     kept_same : (u v : ℕ) (p : List (ℤ × List ℕ)) (w : List ℕ) → coefficient_of (kept u v p) w ≡ cond (is_path s.quiver u v w) (coefficient_of p w) (pos 0)
-    kept_same u v [] w = go (is_path s.quiver u v w)
-      where
-        go : (b : Bool) → pos 0 ≡ cond b (pos 0) (pos 0)
-        go true = refl
-        go false = refl
+    kept_same u v [] w = elim (is_path s.quiver u v w) as (λ b. pos 0 ≡ cond b (pos 0) (pos 0)) [ true ↦ refl | false ↦ refl ]
     kept_same u v (t ∷ p) w = go (is_path s.quiver u v t.1) refl (word_eq t.1 w) refl (kept_same u v p w)
       where
         Goal : Bool → Bool → Type 0

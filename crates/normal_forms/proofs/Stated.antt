@@ -65,11 +65,7 @@ module _ {K : Type 0} (k : Field K) (o : Order) (g : Rules o) (normal : Form K �
       outer = and_parts (ltb a count) (cond (ltb a q.objects) (list_any (nat_eq a) marked) (starred || nat_le a (star q a))) e
 
       not_below : (a b : ℕ) → ltb a b ≡ false → b ≤ a
-      not_below a b h = by_cases (cases_lt a b)
-        where
-          by_cases : (a < b) ⊎ (b ≤ a) → b ≤ a
-          by_cases (inl l) = absurd (true≢false (sym (lt-ltb a b l) ∙ h))
-          by_cases (inr r) = r
+      not_below a b h = elim (cases_lt a b) [ inl l ↦ absurd (true≢false (sym (lt-ltb a b l) ∙ h)) | inr r ↦ r ]
 
       go : (b : Bool) → ltb a q.objects ≡ b → cond b (list_any (nat_eq a) marked) (starred || nat_le a (star q a)) ≡ true
           → ((a < q.objects) × (list_any (nat_eq a) marked ≡ true)) ⊎ ((q.objects ≤ a) × ((starred || nat_le a (star q a)) ≡ true))

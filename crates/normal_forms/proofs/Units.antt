@@ -28,12 +28,11 @@ all_back P (x ∷ p) q a = all_back P p q a.1
 all_marked : {A : Type 0} (P : A → Type 0) (h : ℕ → List A) (marked : List ℕ) (v : ℕ) → list_any (nat_eq v) marked ≡ true
     → AllByRecursion P (flat_map h marked) → AllByRecursion P (h v)
 all_marked P h [] v e a = absurd (true≢false (sym e))
-all_marked P h (m ∷ marked) v e a = go (λ j. all_marked P h marked v j (all_back P (h m) (flat_map h marked) a))
-    (or_cases (eqb v m) (list_any (nat_eq v) marked) e)
-  where
-    go : (list_any (nat_eq v) marked ≡ true → AllByRecursion P (h v)) → (eqb v m ≡ true) ⊎ (list_any (nat_eq v) marked ≡ true) → AllByRecursion P (h v)
-    go rest (inl i) = subst (λ z. AllByRecursion P (h z)) (sym (eqb-true v m i)) (all_front P (h m) (flat_map h marked) a)
-    go rest (inr j) = rest j
+all_marked P h (m ∷ marked) v e a = let rest = λ j. all_marked P h marked v j (all_back P (h m) (flat_map h marked) a) in
+    elim (or_cases (eqb v m) (list_any (nat_eq v) marked) e) [
+      | inl i ↦ subst (λ z. AllByRecursion P (h z)) (sym (eqb-true v m i)) (all_front P (h m) (flat_map h marked) a)
+      | inr j ↦ rest j
+    ]
 
 all_range : {A : Type 0} (P : A → Type 0) (h : ℕ → List A) (n : ℕ) {b a : ℕ} → b ≤ a → a < b + n → AllByRecursion P (flat_map h (range_with_len b n))
     → AllByRecursion P (h a)
@@ -42,11 +41,10 @@ all_range P h (suc n) {b} {a} p q all = go
     (λ e. all_range P h n (omega (arith, e)) (omega (arith, q)) (all_back P (h b) (flat_map h (range_with_len (b + 1) n)) all)) (order b a)
   where
     order : (b a : ℕ) → (b ≡ a) ⊎ (b ≢ a)
-    order b a = by_test (eqb b a) refl
-      where
-        by_test : (t : Bool) → eqb b a ≡ t → (b ≡ a) ⊎ (b ≢ a)
-        by_test true e = inl (eqb-true b a e)
-        by_test false e = inr (λ i. true≢false (sym (eq-eqb b a i) ∙ e))
+    order b a = (elim (eqb b a) as (λ t. eqb b a ≡ t → (b ≡ a) ⊎ (b ≢ a)) [
+      | true ↦ λ e. inl (eqb-true b a e)
+      | false ↦ λ e. inr (λ i. true≢false (sym (eq-eqb b a i) ∙ e))
+    ]) refl
 
     go : (b ≢ a → AllByRecursion P (h a)) → (b ≡ a) ⊎ (b ≢ a) → AllByRecursion P (h a)
     go rest (inl e) = subst (λ z. AllByRecursion P (h z)) e (all_front P (h b) (flat_map h (range_with_len (b + 1) n)) all)
