@@ -5,7 +5,8 @@ use Rattle.std.proofs.lemmas.List.{append_cancel_left}
 use Rattle.std.proofs.Math.IntN.{+ℤ_invr}
 use Rattle.definitions.specs.Poly.{Word, word_eq, coefficient_of, poly_between}
 use Rattle.definitions.proofs.Linear.{word_eq-true, word_eq-same}
-use Rattle.confluence.proofs.Spans.{Coefs, Span, nothing, more, span_same, span_bind}
+use Rattle.confluence.proofs.Spans.{Coefs, Span, nothing, single, span_same}
+use Rattle.confluence.proofs.Shifts.{span_bind}
 use Rattle.confluence.proofs.Places.{EitherWay, first, second, two_places}
 use Rattle.confluence.proofs.Confluence.{Setting, AtMost, SomeRow, topped, HasTopRow, zero_or_top_row}
 use Rattle.word_orders.specs.Orders.{Order}
@@ -67,4 +68,4 @@ module _ (o : Order) (g : Rules o) (q : Allowed o) (res : Resolved o g q) where
   ]
     where
       each : (b : Coefs) → ((M : Word) × Row o g q M b) → Span (λ d. (L : Word) × Unit {0} × Row o g q L d) b
-      each b (M, row) = more b (λ _. pos 0) b (pos 1) (M, tt, row) (nothing _ (λ _. refl)) (λ w. (omega (arith, ints)))
+      each b (M, row) = single _ b (M, tt, row)

@@ -5,7 +5,8 @@ use Rattle.std.proofs.Math.IntN.{*ℤ_comm, +ℤ_assoc, zero-*ℤ, *ℤ-zero, +�
 use Rattle.definitions.proofs.Integers.{+ℤ-*ℤ, *ℤ-+ℤ, *ℤ_assoc, *ℤ-neg_ℤ}
 use Rattle.confluence.proofs.Integers.{*ℤ_cancel, nonzero_or}
 use Rattle.definitions.specs.Poly.{Word}
-use Rattle.confluence.proofs.Spans.{Coefs, Span, nothing, more, part, span_same, span_scale, span_add, span_bind, mul_swap}
+use Rattle.confluence.proofs.Spans.{Coefs, Span, nothing, more, part, single, span_same, span_scale, span_add, mul_swap}
+use Rattle.confluence.proofs.Shifts.{span_bind}
 
 -- an order of words and rows with a top word each. `Row M b`: b are the coefficients of a row whose greatest word is M
 pub record Setting : Type 1 where
@@ -80,7 +81,7 @@ module _ (s : Setting) where
       joined_below L (inr e) (inr h) = inr (s.less_trans L M N e h)
 
       each : (b : Coefs) → AtMost M b → Span (AtMost N) b
-      each b (L, w, row) = more b (λ _. pos 0) b (pos 1) (L, joined_below L w r, row) (nothing _ (λ _. refl)) (λ w. (omega (arith, ints)))
+      each b (L, w, row) = single (AtMost N) b (L, joined_below L w r, row)
 
   abbrev pub SomeRow : Word → Type 0
   SomeRow N = (d : Coefs) × s.Row N d

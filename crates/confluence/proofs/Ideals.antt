@@ -5,8 +5,8 @@ use Rattle.std.proofs.lemmas.List.Elements.{All-get_or, All-from_get_or}
 use Rattle.definitions.specs.Poly.{Word, Term, coefficient_of, poly_between}
 use Rattle.definitions.specs.Combination.{generator_at, InRationalIdeal}
 use Rattle.confluence.specs.ZeroRests.{IdealsStayInside}
-use Rattle.confluence.proofs.Spans.{Coefs, Span, nothing, span_same, span_bind}
-use Rattle.confluence.proofs.Shifts.{shift, span_shift, coefficient_of-between}
+use Rattle.confluence.proofs.Spans.{Coefs, Span, nothing, span_same}
+use Rattle.confluence.proofs.Shifts.{shift, span_bind, span_shift, coefficient_of-between}
 use Rattle.confluence.proofs.SumRows.{Numbered}
 use Rattle.confluence.proofs.FreeRows.{Free, numbered_shift, in_ideal, ideal_span}
 

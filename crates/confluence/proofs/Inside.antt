@@ -18,10 +18,10 @@ use Rattle.rule_reduce.proofs.Numbers.{rule_at-polynomial}
 use Rattle.ambiguities.proofs.Numbers.{rule_at-first, rule_at-last}
 use Rattle.confluence.specs.Reductions.{IsZero, IsReduced}
 use Rattle.confluence.proofs.Integers.{positive_nat}
-use Rattle.confluence.proofs.Spans.{Span, nothing, part, span_same, span_add, span_scale}
+use Rattle.confluence.proofs.Spans.{Span, nothing, part, single, span_same, span_add, span_scale}
 use Rattle.confluence.proofs.SumRows.{Numbered}
 use Rattle.confluence.proofs.ZeroRestLaws.{zero_rests_are_inside}
-use Rattle.confluence.proofs.FreeRows.{Free, single, in_ideal}
+use Rattle.confluence.proofs.FreeRows.{Free, in_ideal}
 use Rattle.confluence.proofs.Ideals.{between_span, all_from_numbers, ideals_stay_inside}
 use Rattle.confluence.specs.Rests.{IsEarlier}
 use Rattle.confluence.specs.Kept.{AreRecorded, IsReached}

@@ -14,16 +14,15 @@ use Rattle.ambiguities.specs.declared.ambiguity.Kind.TheVariants.{Overlap, Inclu
 use Rattle.ambiguities.specs.declared.ambiguity.Ambiguity.{Ambiguity}
 use Rattle.ambiguities.specs.Ambiguities.{IsAmbiguity, overlap_word_of}
 use Rattle.ambiguities.specs.Resolved.{ComesBelow, IsResolved}
-use Rattle.confluence.proofs.Integers.{nonzero_or}
-use Rattle.confluence.proofs.FreeRows.{between_word}
+use Rattle.confluence.proofs.Shifts.{between_word, span_bind}
 use Rattle.confluence.proofs.Ideals.{generator_decided}
-use Rattle.confluence.proofs.Outside.{AnyRow, piece_span, coefficient_of-between_at}
+use Rattle.confluence.proofs.Outside.{AnyRow, piece_span}
 use Rattle.confluence.proofs.Parts.{same_nat}
 use Rattle.confluence.proofs.ReducibleLaws.{ordered, below_from_span}
 use Rattle.confluence.proofs.ResolvedOf.{comes_from_below}
 use Rattle.confluence.proofs.Resolve.{below}
 use Rattle.confluence.proofs.RestLaws.{rests_of_ideal_are_zero, rests_below_are_zero}
-use Rattle.confluence.proofs.Spans.{Coefs, Span, nothing, span_bind}
+use Rattle.confluence.proofs.Spans.{Coefs, Span, nothing}
 use Rattle.confluence.proofs.SumRows.{Numbered, combination_span}
 use Rattle.confluence.specs.Kept.{IsReached, HaveLettersBelow}
 use Rattle.confluence.specs.Conclusions.{AreAllDone, ResolvedWhereClosed, ResolvedBelowPending, NonzeroIsOutside, NonzeroIsNotBelow}
@@ -97,12 +96,8 @@ module _ (letters : ℕ) (compare : Compare) (rank : List ℕ → List ℕ) (law
       words : (w : Word) → (coefficient_of (poly_between row.left (generator_at generators row.number) row.right) w ≡ pos 0) ⊎ (order.Range w × order.Less w bound)
       words w = elim (between_word row.left row.right (generator_at generators row.number) w) [
         | inl none ↦ inl none
-        | inr (v, is) ↦ of_word v is (nonzero_or (coefficient_of (generator_at generators row.number) v))
+        | inr (v, is, some) ↦ inr (subst (λ u. order.Range u × order.Less u bound) (sym is) (order.less_range _ bound (row.asked v some), row.asked v some))
       ]
-        where
-          of_word : (v : Word) → w ≡ row.left ++ (v ++ row.right) → (coefficient_of (generator_at generators row.number) v ≡ pos 0) ⊎ (coefficient_of (generator_at generators row.number) v ≢ pos 0) → (coefficient_of (poly_between row.left (generator_at generators row.number) row.right) w ≡ pos 0) ⊎ (order.Range w × order.Less w bound)
-          of_word v is (inl none) = inl (ap (coefficient_of (poly_between row.left (generator_at generators row.number) row.right)) is ∙ coefficient_of-between_at row.left row.right (generator_at generators row.number) v ∙ none)
-          of_word v is (inr some) = inr (subst (λ u. order.Range u × order.Less u bound) (sym is) (order.less_range (row.left ++ (v ++ row.right)) bound (row.asked v some), row.asked v some))
 
       go : ((1 ≤ row.number) × (row.number ≤ length generators)) ⊎ (generator_at generators row.number ≡ []) → Span (AnyRow order (ordered letters compare rank laws rules are) (below order bound)) b
       go (inr none) = nothing b (λ w. row.is w ∙ ap (λ z. coefficient_of (poly_between row.left z row.right) w) none)

@@ -1,5 +1,5 @@
 -- Rules with the leading term apart.
-use Rattle.std.proofs.Common.{◌≡◌, ◌≢◌, ℕ, zero, suc, ◌⊎◌, inl, inr, refl, arith, sym, ap, ◌∙◌, List, [], ◌∷◌, ◌++◌, Bool, true, false, cond, not, ◌&&◌, ℤ, pos, ◌+ℤ◌, ◌*ℤ◌}
+use Rattle.std.proofs.Common.{◌≡◌, ◌≢◌, ℕ, zero, suc, ◌⊎◌, inl, inr, refl, arith, sym, ap, ◌∙◌, List, [], ◌∷◌, ◌++◌, Bool, true, false, cond, not, ◌&&◌, true≢false, ℤ, pos, ◌+ℤ◌, ◌*ℤ◌}
 use Rattle.std.proofs.lemmas.Int.{ints}
 use Rattle.std.proofs.lemmas.Bool.{and_parts}
 use Rattle.std.proofs.lemmas.Bool.Decides.{Decides-int_eq}
@@ -10,7 +10,8 @@ use Rattle.word_orders.specs.Orders.{Order}
 use Rattle.confluence.proofs.Led.{Led, led_at, HasLed, IsLed}
 use Rattle.confluence.proofs.TermWords.{AllWords}
 use Rattle.definitions.proofs.Linear.{word_eq-true, word_eq-same}
-use Rattle.confluence.proofs.Spans.{Coefs, Span, span_bind, nothing, more}
+use Rattle.confluence.proofs.Spans.{Coefs, Span, single}
+use Rattle.confluence.proofs.Shifts.{span_bind}
 use Rattle.confluence.proofs.Meets.{Parted, poly, Rules, Allowed, Row}
 use Rattle.confluence.proofs.Outside.{AnyRow}
 
@@ -21,33 +22,21 @@ filtered keep (t ∷ p) = cond (keep t.1) (t ∷ filtered keep p) (filtered keep
 
 pub coefficient_of-filtered : (keep : Word → Bool) (p : List Term) (w : Word) → coefficient_of (filtered keep p) w ≡ cond (keep w) (coefficient_of p w) (pos 0)
 coefficient_of-filtered keep [] w = elim (keep w) as (λ b. pos 0 ≡ cond b (pos 0) (pos 0)) [ true ↦ refl | false ↦ refl ]
-coefficient_of-filtered keep (t ∷ p) w = by_word (coefficient_of-filtered keep p w) (word_eq t.1 w) refl (keep t.1) refl
+coefficient_of-filtered keep (t ∷ p) w = front (keep t.1)
+    ∙ step (keep t.1) (keep w) (word_eq t.1 w) (λ e. ap keep (word_eq-true t.1 w e)) t.0 _ _ (coefficient_of-filtered keep p w)
   where
-    Goal : Type 0
-    Goal = coefficient_of (filtered keep (t ∷ p)) w ≡ cond (keep w) (coefficient_of (t ∷ p) w) (pos 0)
+    front : (b : Bool) → coefficient_of (cond b (t ∷ filtered keep p) (filtered keep p)) w ≡ cond b (cond (word_eq t.1 w) t.0 (pos 0)) (pos 0) +ℤ coefficient_of (filtered keep p) w
+    front true = refl
+    front false = sym (+ℤ_idl _)
 
-    apart_case : (b d : Bool) → coefficient_of (filtered keep p) w ≡ cond d (coefficient_of p w) (pos 0) → coefficient_of (cond b (t ∷ filtered keep p) (filtered keep p)) w ≡ cond b (cond (word_eq t.1 w) t.0 (pos 0)) (pos 0) +ℤ coefficient_of (filtered keep p) w
-    apart_case true d ih = refl
-    apart_case false d ih = sym (+ℤ_idl _)
-
-    plus_zero : (d : Bool) (x : ℤ) → cond d x (pos 0) ≡ cond d (pos 0 +ℤ x) (pos 0)
-    plus_zero true x = sym (+ℤ_idl x)
-    plus_zero false x = refl
-
-    none_here : (b : Bool) → cond b (pos 0) (pos 0) ≡ pos 0
-    none_here true = refl
-    none_here false = refl
-
-    by_word : coefficient_of (filtered keep p) w ≡ cond (keep w) (coefficient_of p w) (pos 0) → (s : Bool) → word_eq t.1 w ≡ s → (b : Bool) → keep t.1 ≡ b → Goal
-    by_word ih false e b h = apart_case (keep t.1) (keep w) ih ∙ ap (λ s. cond (keep t.1) (cond s t.0 (pos 0)) (pos 0) +ℤ coefficient_of (filtered keep p) w) e ∙ ap (λ z. z +ℤ coefficient_of (filtered keep p) w) (none_here (keep t.1)) ∙ +ℤ_idl _ ∙ ih ∙ plus_zero (keep w) (coefficient_of p w) ∙ ap (λ s. cond (keep w) (cond s t.0 (pos 0) +ℤ coefficient_of p w) (pos 0)) (sym e)
-    by_word ih true e true h = apart_case (keep t.1) (keep w) ih ∙ ap (λ b. cond b (cond (word_eq t.1 w) t.0 (pos 0)) (pos 0) +ℤ coefficient_of (filtered keep p) w) h ∙ ap (λ z. cond (word_eq t.1 w) t.0 (pos 0) +ℤ z) (ih ∙ ap (λ b. cond b (coefficient_of p w) (pos 0)) kw) ∙ sym (ap (λ b. cond b (coefficient_of (t ∷ p) w) (pos 0)) kw)
-      where
-        kw : keep w ≡ true
-        kw = ap keep (sym (word_eq-true t.1 w e)) ∙ h
-    by_word ih true e false h = apart_case (keep t.1) (keep w) ih ∙ ap (λ b. cond b (cond (word_eq t.1 w) t.0 (pos 0)) (pos 0) +ℤ coefficient_of (filtered keep p) w) h ∙ +ℤ_idl _ ∙ ih ∙ ap (λ b. cond b (coefficient_of p w) (pos 0)) kw ∙ sym (ap (λ b. cond b (coefficient_of (t ∷ p) w) (pos 0)) kw)
-      where
-        kw : keep w ≡ false
-        kw = ap keep (sym (word_eq-true t.1 w e)) ∙ h
+    step : (b d s : Bool) → (s ≡ true → b ≡ d) → (x f y : ℤ) → f ≡ cond d y (pos 0)
+        → cond b (cond s x (pos 0)) (pos 0) +ℤ f ≡ cond d (cond s x (pos 0) +ℤ y) (pos 0)
+    step true true s same x f y e = ap (λ z. cond s x (pos 0) +ℤ z) e
+    step false false s same x f y e = +ℤ_idl f ∙ e
+    step true false true same x f y e = absurd (true≢false (same refl))
+    step false true true same x f y e = absurd (true≢false (sym (same refl)))
+    step true false false same x f y e = +ℤ_idl f ∙ e
+    step false true false same x f y e = ap (λ z. pos 0 +ℤ z) e
 
 pub all_words_filtered : (P : Word → Type 0) (keep : Word → Bool) (p : List Term) → ((w : Word) → keep w ≡ true → P w) → AllWords P (filtered keep p)
 all_words_filtered P keep [] h = tt
@@ -65,14 +54,16 @@ abbrev pub parted : Led → Parted
 parted r = record { leading = r.leading; lead = r.lead; tail = filtered (is_lower r) r.poly }
 
 pub coefficient_of-parted : (o : Order) (r : Led) → IsLed o r → (w : Word) → coefficient_of (poly (parted r)) w ≡ coefficient_of r.poly w
-coefficient_of-parted o r h w = (elim (word_eq r.lead w) as (λ b. word_eq r.lead w ≡ b → coefficient_of (poly (parted r)) w ≡ coefficient_of r.poly w) [
-  | false ↦ λ e. by_zero e (int_eq (coefficient_of r.poly w) (pos 0)) refl
-  | true ↦ λ e. ap (λ s. cond s (pos r.leading) (pos 0) +ℤ coefficient_of (filtered (is_lower r) r.poly) w) e ∙ ap (λ z. pos r.leading +ℤ z) (coefficient_of-filtered (is_lower r) r.poly w ∙ ap (λ s. cond (not s && not (int_eq (coefficient_of r.poly w) (pos 0))) (coefficient_of r.poly w) (pos 0)) e) ∙ +ℤ_idr _ ∙ sym h.at_lead ∙ ap (coefficient_of r.poly) (word_eq-true r.lead w e)
-]) refl
+coefficient_of-parted o r h w = ap (λ z. cond (word_eq r.lead w) (pos r.leading) (pos 0) +ℤ z) (coefficient_of-filtered (is_lower r) r.poly w)
+    ∙ by_tests (word_eq r.lead w) (int_eq c (pos 0)) (λ e. ap (coefficient_of r.poly) (sym (word_eq-true r.lead w e)) ∙ h.at_lead) (Decides-int_eq c (pos 0)).0
   where
-    by_zero : word_eq r.lead w ≡ false → (b : Bool) → int_eq (coefficient_of r.poly w) (pos 0) ≡ b → coefficient_of (poly (parted r)) w ≡ coefficient_of r.poly w
-    by_zero e true z = ap (λ s. cond s (pos r.leading) (pos 0) +ℤ coefficient_of (filtered (is_lower r) r.poly) w) e ∙ +ℤ_idl _ ∙ coefficient_of-filtered (is_lower r) r.poly w ∙ ap (λ b. cond b (coefficient_of r.poly w) (pos 0)) (ap (λ s. not s && not (int_eq (coefficient_of r.poly w) (pos 0))) e ∙ ap not z) ∙ sym ((Decides-int_eq (coefficient_of r.poly w) (pos 0)).0 z)
-    by_zero e false z = ap (λ s. cond s (pos r.leading) (pos 0) +ℤ coefficient_of (filtered (is_lower r) r.poly) w) e ∙ +ℤ_idl _ ∙ coefficient_of-filtered (is_lower r) r.poly w ∙ ap (λ b. cond b (coefficient_of r.poly w) (pos 0)) (ap (λ s. not s && not (int_eq (coefficient_of r.poly w) (pos 0))) e ∙ ap not z)
+    c : ℤ
+    c = coefficient_of r.poly w
+
+    by_tests : (s z : Bool) → (s ≡ true → c ≡ pos r.leading) → (z ≡ true → c ≡ pos 0) → cond s (pos r.leading) (pos 0) +ℤ cond (not s && not z) c (pos 0) ≡ c
+    by_tests true z at none = +ℤ_idr _ ∙ sym (at refl)
+    by_tests false true at none = sym (none refl)
+    by_tests false false at none = +ℤ_idl c
 
 pub parted_below : (o : Order) (r : Led) → IsLed o r → AllWords (λ u. o.Less u r.lead) (parted r).tail
 parted_below o r h = all_words_filtered (λ u. o.Less u r.lead) (is_lower r) r.poly each
@@ -127,9 +118,4 @@ module _ (o : Order) (g h : Rules o) (x : Extends o g h) where
   }
 
   pub any_more : (q : Allowed o) (f : Coefs) → Span (AnyRow o g q) f → Span (AnyRow o h q) f
-  any_more q = span_bind (AnyRow o g q) (AnyRow o h q) (λ b r. (more b (λ _. pos 0) b (pos 1) (r.0, row_more q r.0 b r.1)
-      (nothing _ (λ _. refl)) (λ w. (omega (arith, ints)))))
-
--- another bound
-pub row_bound : (o : Order) (g : Rules o) (q p : Allowed o) (M : Word) (b : Coefs) → Row o g q M b → p.May M → Row o g p M b
-row_bound o g q p M b r m = record { number = r.number; has = r.has; left = r.left; right = r.right; top = r.top; range = r.range; may = m; is = r.is }
+  any_more q = span_bind (AnyRow o g q) (AnyRow o h q) (λ b r. single (AnyRow o h q) b (r.0, row_more q r.0 b r.1))

@@ -25,14 +25,14 @@ use Rattle.confluence.proofs.LedRules.{leds_of, led_at-is, has_led, polys_of-led
 use Rattle.confluence.proofs.Meetings.{IsMeeting, overlap, inclusion}
 use Rattle.confluence.proofs.MeetingsOf.{meeting_of, ambiguity_of}
 use Rattle.confluence.proofs.Places.{SomeLetters, Placed, apart, inside, outside, EitherWay, first, second, two_places}
-use Rattle.confluence.proofs.Parts.{same_nat, parted, coefficient_of-parted, rules_of, row_bound}
+use Rattle.confluence.proofs.Parts.{same_nat, parted, coefficient_of-parted, rules_of}
 use Rattle.confluence.proofs.Resolved.{same_place, some_length}
 use Rattle.confluence.proofs.Resolve.{everything, below}
 use Rattle.confluence.proofs.RuleRows.{same_between}
-use Rattle.confluence.proofs.Spans.{Coefs, Span, span_bind, span_same}
-use Rattle.confluence.proofs.Meets.{Rules, Row, Under, poly, apart_span}
+use Rattle.confluence.proofs.Spans.{Coefs, Span, span_same, single}
+use Rattle.confluence.proofs.Shifts.{span_bind}
+use Rattle.confluence.proofs.Meets.{Rules, Row, Under, poly, apart_span, row_bound}
 use Rattle.confluence.proofs.Outside.{AnyRow}
-use Rattle.confluence.proofs.FreeRows.{single}
 use Rattle.confluence.proofs.SumRows.{comes_from_span}
 use Rattle.confluence.proofs.ResolvedOf.{below_from_comes}
 

@@ -11,7 +11,8 @@ use Rattle.confluence.proofs.Meetings.{IsMeeting, overlap, inclusion, IsDifferen
 use Rattle.confluence.proofs.Integers.{neg_ℤ-*ℤ}
 use Rattle.confluence.proofs.Spans.{Coefs}
 use Rattle.confluence.proofs.Meets.{Allowed, Row}
-use Rattle.confluence.proofs.Outside.{at_most_of, row_word, coefficient_of-between_at}
+use Rattle.ambiguities.proofs.Multiples.{coefficient_of-around}
+use Rattle.confluence.proofs.Outside.{at_most_of, row_word}
 use Rattle.confluence.proofs.Parts.{rules_of}
 use Rattle.confluence.proofs.RuleRows.{Bounded, bounded_from, row_at}
 
@@ -96,10 +97,10 @@ module _ (o : Order) where
       cancels e = value ∙ ap (λ z. pos one *ℤ z +ℤ neg_ℤ (pos other) *ℤ coefficient_of (poly_between be (led_at rules a.j).poly bh) w) at1 ∙ ap (λ z. pos one *ℤ pos (led_at rules a.i).leading +ℤ neg_ℤ (pos other) *ℤ z) at2 ∙ balance one (led_at rules a.i).leading other (led_at rules a.j).leading s.balanced
         where
           at1 : coefficient_of (poly_between [] (led_at rules a.i).poly af) w ≡ pos (led_at rules a.i).leading
-          at1 = ap (coefficient_of (poly_between [] (led_at rules a.i).poly af)) (e ∙ t1) ∙ coefficient_of-between_at [] af (led_at rules a.i).poly (led_at rules a.i).lead ∙ (ok a.i has.0).at_lead
+          at1 = ap (coefficient_of (poly_between [] (led_at rules a.i).poly af)) (e ∙ t1) ∙ coefficient_of-around [] af (led_at rules a.i).lead (led_at rules a.i).poly ∙ (ok a.i has.0).at_lead
 
           at2 : coefficient_of (poly_between be (led_at rules a.j).poly bh) w ≡ pos (led_at rules a.j).leading
-          at2 = ap (coefficient_of (poly_between be (led_at rules a.j).poly bh)) (e ∙ t2) ∙ coefficient_of-between_at be bh (led_at rules a.j).poly (led_at rules a.j).lead ∙ (ok a.j has.1).at_lead
+          at2 = ap (coefficient_of (poly_between be (led_at rules a.j).poly bh)) (e ∙ t2) ∙ coefficient_of-around be bh (led_at rules a.j).lead (led_at rules a.j).poly ∙ (ok a.j has.1).at_lead
 
           balance : (x k y l : ℕ) → x * k ≡ y * l → pos x *ℤ pos k +ℤ neg_ℤ (pos y) *ℤ pos l ≡ pos 0
           balance x k y l e = ap (λ z. z +ℤ neg_ℤ (pos y) *ℤ pos l) (pos-*ℤ-pos x k ∙ ap pos e) ∙ ap (λ z. pos (y * l) +ℤ z) (neg_ℤ-*ℤ (pos y) (pos l) ∙ ap neg_ℤ (pos-*ℤ-pos y l)) ∙ (omega (arith, ints))

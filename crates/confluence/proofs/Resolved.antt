@@ -9,14 +9,14 @@ use Rattle.ambiguities.specs.declared.ambiguity.Kind.TheVariants.{Overlap, Inclu
 use Rattle.ambiguities.specs.declared.ambiguity.Ambiguity.{Ambiguity}
 use Rattle.confluence.proofs.Meetings.{IsMeeting, overlap, inclusion, IsResolvedMeeting}
 use Rattle.confluence.proofs.Integers.{neg_ℤ-*ℤ}
-use Rattle.confluence.proofs.Spans.{Coefs, Span, span_same, span_bind}
+use Rattle.confluence.proofs.Spans.{Coefs, Span, span_same, single}
+use Rattle.confluence.proofs.Shifts.{span_bind}
 use Rattle.confluence.proofs.Places.{SomeLetters, some_letters}
-use Rattle.confluence.proofs.Meets.{poly, Rules, Allowed, Under, Meets, Resolved}
+use Rattle.confluence.proofs.Meets.{row_bound, poly, Rules, Allowed, Under, Meets, Resolved}
 use Rattle.confluence.proofs.Outside.{AnyRow}
-use Rattle.confluence.proofs.Parts.{parted, coefficient_of-parted, rules_of, row_bound}
+use Rattle.confluence.proofs.Parts.{parted, coefficient_of-parted, rules_of}
 use Rattle.confluence.proofs.RuleRows.{same_between}
 use Rattle.confluence.proofs.SumRows.{span_from_comes}
-use Rattle.confluence.proofs.FreeRows.{single}
 use Rattle.confluence.proofs.Resolve.{below}
 
 split_word : (s s' u u' : Word) → length s ≡ length s' → s ++ u ≡ s' ++ u' → (s ≡ s') × (u ≡ u')

@@ -6,17 +6,16 @@ use Rattle.word_orders.specs.Orders.{Order}
 use Rattle.confluence.proofs.Led.{Led, led_at, HasLed, IsLed, IsAtMostOf}
 use Rattle.confluence.proofs.Integers.{nonzero_or, positive_nat}
 use Rattle.confluence.proofs.Spans.{Coefs, Span, span_add, part}
-use Rattle.confluence.proofs.Shifts.{shift-same, coefficient_of-between}
+use Rattle.traced_rows.proofs.Between.{between-same, between-nothing}
 use Rattle.confluence.proofs.Meets.{poly, Allowed, Row}
-use Rattle.confluence.proofs.Outside.{coefficient_of-between_at}
 use Rattle.confluence.proofs.Parts.{parted, coefficient_of-parted, rules_of}
 
 -- a row over a rule, by the polynomial of the rule
 pub same_between : (l r : Word) (p q : List Term) → ((w : Word) → coefficient_of p w ≡ coefficient_of q w) → (w : Word) → coefficient_of (poly_between l p r) w ≡ coefficient_of (poly_between l q r) w
-same_between l r p q h w = coefficient_of-between l r p w ∙ shift-same l r (coefficient_of p) (coefficient_of q) h w ∙ sym (coefficient_of-between l r q w)
+same_between l r p q h = (between-same l r p q (record { at = h })).at
 
 pub coefficient_of-bare : (p : List Term) (w : Word) → coefficient_of (poly_between [] p []) w ≡ coefficient_of p w
-coefficient_of-bare p w = ap (coefficient_of (poly_between [] p [])) (sym (append-nil w)) ∙ coefficient_of-between_at [] [] p w
+coefficient_of-bare p w = ap (λ q. coefficient_of q w) (between-nothing p)
 
 module _ (o : Order) where
   -- each word is in range and may be a top

@@ -9,9 +9,11 @@ use Rattle.definitions.proofs.Coefficients.{coefficient_of-append, coefficient_o
 use Rattle.word_orders.specs.Orders.{Order}
 use Rattle.confluence.proofs.Led.{Led, no_led, led_at, HasLed, polys_of, IsLed, IsAskedRow, Comes}
 use Rattle.definitions.proofs.Integers.{*ℤ_assoc, *ℤ-+ℤ}
-use Rattle.confluence.proofs.Spans.{Coefs, Span, span_bind, nothing, more, part}
+use Rattle.confluence.proofs.Spans.{Coefs, Span, nothing, more, part, single}
+use Rattle.confluence.proofs.Shifts.{span_bind}
 use Rattle.confluence.proofs.Meets.{poly, Allowed}
-use Rattle.confluence.proofs.Outside.{AnyRow, row_word, coefficient_of-between_at}
+use Rattle.ambiguities.proofs.Multiples.{coefficient_of-around}
+use Rattle.confluence.proofs.Outside.{AnyRow, row_word}
 use Rattle.confluence.proofs.LedLists.{has_decided, poly_at}
 use Rattle.confluence.proofs.Parts.{parted, coefficient_of-parted, rules_of}
 use Rattle.confluence.proofs.Integers.{positive_nat}
@@ -85,19 +87,19 @@ module _ (o : Order) (rules : List Led) (ok : (n : ℕ) → HasLed rules n → I
   comes_from_span ask p sp = combination_from (polys_of rules) Asked p (listed (polys_of rules) Asked (coefficient_of p) (span_bind _ _ each (coefficient_of p) sp))
     where
       each : (b : Coefs) → AnyRow o (rules_of o rules ok) q b → Span (Numbered (polys_of rules) Asked) b
-      each b (M, row) = more b (λ _. pos 0) b (pos 1) (record {
+      each b (M, row) = single (Numbered (polys_of rules) Asked) b (record {
         number = row.number;
         left = row.left;
         right = row.right;
         is = by_poly;
         asked = λ w n. from_word w n (row_word o (rules_of o rules ok) q M (row.left ++ (w ++ row.right)) b row);
-      }) (nothing _ (λ _. refl)) (λ w. (omega (arith, ints)))
+      })
         where
           by_poly : (w : Word) → b w ≡ coefficient_of (poly_between row.left (generator_at (polys_of rules) row.number) row.right) w
           by_poly w = row.is w ∙ same_between row.left row.right (poly (parted (led_at rules row.number))) (led_at rules row.number).poly (coefficient_of-parted o (led_at rules row.number) (ok row.number row.has)) w ∙ ap (λ z. coefficient_of (poly_between row.left z row.right) w) (sym (poly_at rules row.number))
 
           from_word : (w : Word) → coefficient_of (generator_at (polys_of rules) row.number) w ≢ pos 0 → (b (row.left ++ (w ++ row.right)) ≡ pos 0) ⊎ (o.Range (row.left ++ (w ++ row.right)) × q.May (row.left ++ (w ++ row.right))) → Asked (row.left ++ (w ++ row.right))
-          from_word w n (inl z) = absurd (n (sym (coefficient_of-between_at row.left row.right (generator_at (polys_of rules) row.number) w) ∙ sym (by_poly (row.left ++ (w ++ row.right))) ∙ z))
+          from_word w n (inl z) = absurd (n (sym (coefficient_of-around row.left row.right w (generator_at (polys_of rules) row.number)) ∙ sym (by_poly (row.left ++ (w ++ row.right))) ∙ z))
           from_word w n (inr k) = ask _ k.0 k.1
 
   -- and back, where what is asked is to be in range and a possible top

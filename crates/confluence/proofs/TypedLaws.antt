@@ -26,9 +26,7 @@ use Rattle.ambiguities.proofs.Bounds.{of_either, coefficient_of-s_polynomial}
 use Rattle.ambiguities.proofs.Joined.{overlap_word-is, first_splits, second_splits}
 use Rattle.ambiguities.proofs.Multiples.{leading_coefficient}
 use Rattle.ambiguities.proofs.Signatures.{s_polynomials_are_typed}
-use Rattle.confluence.proofs.FreeRows.{between_word}
-use Rattle.confluence.proofs.Integers.{nonzero_or}
-use Rattle.confluence.proofs.Outside.{coefficient_of-between_at}
+use Rattle.confluence.proofs.Shifts.{between_word}
 use Rattle.confluence.specs.Rests.{signed, IsMadeOf, nothing_left, rule_made}
 use Rattle.confluence.specs.Typed.{IsTypedInPlay, AreTypedInPlay, NormalFormsStayTyped, SPolynomialsStayTyped, RulesStayTyped, TypedHasNoEmptyWord}
 use Rattle.confluence.proofs.MadeSpans.{cancel_nonzero}
@@ -62,15 +60,12 @@ lead_in_play play letters compare g is in_play = in_play.at g.lead (λ none. (om
 between_in_play : (play : ℕ → Bool) (g : Rule) (l r : Word) → IsPolyInPlay play g.poly.terms → IsInPlay play (l ++ (g.lead ++ r)) → (w : Word) → coefficient_of (poly_between l g.poly.terms r) w ≢ pos 0 → IsInPlay play w
 between_in_play play g l r in_play whole w some = elim (between_word l r g.poly.terms w) [
   | inl none ↦ absurd (some none)
-  | inr (v, is) ↦ of_word v is (nonzero_or (coefficient_of g.poly.terms v))
+  | inr (v, is, occurs) ↦ subst (IsInPlay play) (sym is)
+      (joined_in_play play l (v ++ r) outer.0 (joined_in_play play v r (in_play.at v occurs) (parts_in_play play g.lead r outer.1).1))
 ]
   where
     outer : IsInPlay play l × IsInPlay play (g.lead ++ r)
     outer = parts_in_play play l (g.lead ++ r) whole
-
-    of_word : (v : Word) → w ≡ l ++ (v ++ r) → (coefficient_of g.poly.terms v ≡ pos 0) ⊎ (coefficient_of g.poly.terms v ≢ pos 0) → IsInPlay play w
-    of_word v is (inl none) = absurd (some (ap (coefficient_of (poly_between l g.poly.terms r)) is ∙ coefficient_of-between_at l r g.poly.terms v ∙ none))
-    of_word v is (inr occurs) = subst (IsInPlay play) (sym is) (joined_in_play play l (v ++ r) outer.0 (joined_in_play play v r (in_play.at v occurs) (parts_in_play play g.lead r outer.1).1))
 
 -- the letters of the overlap word are letters of the two leading words
 module _ (q : Quiver) (play : ℕ → Bool) (letters : ℕ) (compare : Compare) (rules : List Rule) (are : All (IsRule letters compare) rules) (typed : AreTypedInPlay q play rules) where
