@@ -1,5 +1,5 @@
 -- The generator x x - x, with the letter x = 0 in the canonical order: closed after one ambiguity, and x is outside.
-use Rattle.std.proofs.Common.{◌≡◌, ◌<◌, ◌≤◌, ◌+◌, ℕ, zero, suc, pos, negsuc, List, [], ◌∷◌, length, Some, Ok, Option, false, refl, sym, ap, ◌∙◌, subst, arith}
+use Rattle.std.proofs.Common.{◌≡◌, ◌<◌, ◌+◌, ℕ, zero, suc, pos, negsuc, List, [], ◌∷◌, length, Some, Ok, false, refl, sym, ap, ◌∙◌, subst, arith}
 use Rattle.std.proofs.lemmas.Int.{ints}
 use Rattle.std.specs.List.{All}
 use Rattle.std.proofs.lemmas.List.{length-append}

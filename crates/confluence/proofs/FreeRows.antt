@@ -1,13 +1,11 @@
 -- Rows with any words, and the rows over rules among them whose words are in range.
-use Rattle.std.proofs.Common.{◌≡◌, ◌≢◌, ℕ, ◌⊎◌, inl, inr, refl, arith, subst, sym, ap, ◌∙◌, List, [], ◌∷◌, ◌++◌, ℤ, pos, ◌+ℤ◌, ◌*ℤ◌}
-use Rattle.std.proofs.lemmas.Int.{ints}
-use Rattle.std.proofs.Math.IntN.{*ℤ-zero, +ℤ_idr}
+use Rattle.std.proofs.Common.{◌≡◌, ◌≢◌, ℕ, ◌⊎◌, inl, inr, refl, subst, sym, ap, ◌∙◌, List, ◌++◌, ℤ, pos, ◌+ℤ◌, ◌*ℤ◌}
+use Rattle.std.proofs.Math.IntN.{*ℤ-zero}
 use Rattle.definitions.specs.Poly.{coefficient_of, poly_between, Word, Term}
 use Rattle.definitions.specs.Combination.{generator_at, InRationalIdeal}
 use Rattle.word_orders.specs.Orders.{Order}
-use Rattle.confluence.proofs.Led.{polys_of, no_led, Led, led_at, HasLed, IsLed, Comes}
+use Rattle.confluence.proofs.Led.{polys_of, Led, led_at, HasLed, IsLed}
 use Rattle.confluence.proofs.Integers.{nonzero_or}
-use Rattle.confluence.proofs.TermWords.{AllWords}
 use Rattle.confluence.proofs.Spans.{Coefs, Span, single, span_same, nothing}
 use Rattle.traced_rows.proofs.Between.{between-between}
 use Rattle.confluence.proofs.Shifts.{IsLinear, span_map, shift, shift_linear, coefficient_of-between, between_word}

@@ -3,7 +3,7 @@ use Rattle.std.proofs.Common.{◌≡◌, ◌⊎◌, inl, inr, ◌<◌, ℕ, zero
 use Rattle.std.specs.List.{All}
 use Rattle.std.specs.Int.RustNames.{unsigned_abs}
 use Rattle.std.proofs.lemmas.Int.{ints}
-use Rattle.definitions.specs.Poly.{Word}
+use Rattle.definitions.specs.Poly.{Word, coefficient_of, poly_between}
 use Rattle.word_core.specs.Letters.{IsOver}
 use Rattle.word_orders.specs.Admissible.{Compare, IsAdmissible}
 use Rattle.word_orders.specs.Orders.{Order}
@@ -15,6 +15,9 @@ use Rattle.rule_reduce.proofs.Numbers.{rule_at-all}
 use Rattle.rule_reduce.proofs.WordsKept.{words_with_coefficients}
 use Rattle.ambiguities.proofs.Multiples.{leading_coefficient}
 use Rattle.confluence.proofs.Led.{Led, IsLed, no_led, led_at, HasLed, polys_of}
+use Rattle.confluence.proofs.Meets.{Rules, poly}
+use Rattle.confluence.proofs.Parts.{coefficient_of-parted, rules_of}
+use Rattle.confluence.proofs.RuleRows.{same_between}
 
 abbrev pub led_of : Rule → Led
 led_of g = record { leading = unsigned_abs g.leading; lead = g.lead; poly = g.poly.terms }
@@ -93,3 +96,13 @@ module _ (letters : ℕ) (compare : Compare) (rank : List ℕ → List ℕ) (law
   leds_are rules are n has =
       let found = rule_of_number rules n has in
       subst (IsLed order) (sym (led_at-is rules n found.0 found.1)) (led_is found.0 (rule_at-all (IsRule letters compare) rules n found.0 found.1 are))
+
+  -- the rules with their order
+  module _ (rules : List Rule) (are : All (IsRule letters compare) rules) where
+    abbrev pub ordered : Rules order
+    ordered = rules_of order (leds_of rules) (leds_are rules are)
+
+    pub row_poly : (n : ℕ) (f : Rule) → rule_at rules n ≡ Some f → (l r w : Word) → coefficient_of (poly_between l (poly (ordered.rule n)) r) w ≡ coefficient_of (poly_between l f.poly.terms r) w
+    row_poly n f numbered l r w =
+        same_between l r (poly (ordered.rule n)) (led_at (leds_of rules) n).poly (coefficient_of-parted order (led_at (leds_of rules) n) (leds_are rules are n (has_led rules n f numbered))) w
+        ∙ ap (λ x. coefficient_of (poly_between l x.poly r) w) (led_at-is rules n f numbered)

@@ -9,7 +9,6 @@ pub mod Closed
 pub mod Outside
 pub mod Led
 pub mod LedLists
-pub mod Meetings
 pub mod Parts
 pub mod RuleRows
 pub mod SumRows
@@ -20,7 +19,7 @@ pub mod Tests
 pub mod LedRules
 pub mod Factors
 pub mod MeetingsOf
-pub mod ResolvedOf
+pub mod BelowSpans
 pub mod ReducibleLaws
 pub mod TracedRows
 pub mod ReducedSpans

@@ -1,5 +1,5 @@
 -- What was reduced, as rows over the rules with one that is made of its rest.
-use Rattle.std.proofs.Common.{◌≡◌, ◌≢◌, ◌⊎◌, inl, inr, ℕ, zero, suc, ℤ, pos, negsuc, ◌+ℤ◌, ◌*ℤ◌, neg_ℤ, List, [], ◌++◌, Some, refl, sym, ap, ◌∙◌, subst, arith, append-nil}
+use Rattle.std.proofs.Common.{◌≡◌, ◌≢◌, inl, inr, ℕ, zero, suc, ℤ, pos, negsuc, ◌*ℤ◌, neg_ℤ, List, [], ◌++◌, Some, refl, sym, ap, ◌∙◌, subst, arith, append-nil}
 use Rattle.std.proofs.lemmas.Int.{ints}
 use Rattle.std.proofs.Math.IntN.{+ℤ_idr}
 use Rattle.std.specs.List.{All}
@@ -14,11 +14,10 @@ use Rattle.rule_reduce.specs.RuleLists.{IsRule, rule_at}
 use Rattle.confluence.specs.Reductions.{IsReduced}
 use Rattle.confluence.proofs.Integers.{neg_ℤ-*ℤ, *ℤ_cancel, nonzero_or}
 use Rattle.confluence.proofs.Led.{led_at}
-use Rattle.confluence.proofs.LedRules.{leds_of, led_at-is, has_led, leds_are}
+use Rattle.confluence.proofs.LedRules.{leds_of, led_at-is, has_led, leds_are, ordered}
 use Rattle.confluence.proofs.Meets.{Allowed}
 use Rattle.confluence.proofs.Outside.{AnyRow}
 use Rattle.confluence.proofs.ReducedSpans.{reduced_part, at_most_in, reduced_span}
-use Rattle.confluence.proofs.ReducibleLaws.{ordered}
 use Rattle.confluence.proofs.RuleRows.{Bounded, at_most_bounded, row_at, coefficient_of-bare, leading_nonzero, from_rest}
 use Rattle.confluence.proofs.Spans.{Span, nothing, more}
 use Rattle.confluence.proofs.MoreRules.{span_more}

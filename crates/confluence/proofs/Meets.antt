@@ -206,6 +206,9 @@ module _ (o : Order) (g : Rules o) (q : Allowed o) where
     difference = apart_span i j x m y M hi hj e rm am;
   }
 
+  pub meets_at : (M N l1 k1 r1 s1 l2 k2 r2 s2 : Word) (i j : ℕ) → N ≡ M → k1 ≡ l1 → s1 ≡ r1 → k2 ≡ l2 → s2 ≡ r2 → Meets N k1 i s1 k2 j s2 → Meets M l1 i r1 l2 j r2
+  meets_at M N l1 k1 r1 s1 l2 k2 r2 s2 i j a b c d e m = subst (λ z. Meets z l1 i r1 l2 j r2) a (subst (λ z. Meets N z i r1 l2 j r2) b (subst (λ z. Meets N k1 i z l2 j r2) c (subst (λ z. Meets N k1 i s1 z j r2) d (subst (λ z. Meets N k1 i s1 k2 j z) e m))))
+
   meets_shift : (x y O l1 : Word) (i : ℕ) (r1 l2 : Word) (j : ℕ) (r2 : Word) → o.Range (x ++ (O ++ y)) → q.May (x ++ (O ++ y)) → Meets O l1 i r1 l2 j r2 → Meets (x ++ (O ++ y)) (x ++ l1) i (r1 ++ y) (x ++ l2) j (r2 ++ y)
   meets_shift x y O l1 i r1 l2 j r2 rm am m = record {
     one = m.one;
@@ -239,9 +242,6 @@ module _ (o : Order) (g : Rules o) (q : Allowed o) where
     pub inclusions : (i j : ℕ) (s t : Word) → g.Has i → g.Has j → i ≢ j → (g.rule i).lead ≡ s ++ ((g.rule j).lead ++ t) → o.Range (g.rule i).lead → q.May (g.rule i).lead → Meets (g.rule i).lead [] i [] s j t
 
   module _ (res : Resolved) where
-    meets_at : (M N l1 k1 r1 s1 l2 k2 r2 s2 : Word) (i j : ℕ) → N ≡ M → k1 ≡ l1 → s1 ≡ r1 → k2 ≡ l2 → s2 ≡ r2 → Meets N k1 i s1 k2 j s2 → Meets M l1 i r1 l2 j r2
-    meets_at M N l1 k1 r1 s1 l2 k2 r2 s2 i j a b c d e m = subst (λ z. Meets z l1 i r1 l2 j r2) a (subst (λ z. Meets N z i r1 l2 j r2) b (subst (λ z. Meets N k1 i z l2 j r2) c (subst (λ z. Meets N k1 i s1 z j r2) d (subst (λ z. Meets N k1 i s1 k2 j z) e m))))
-
     pub meets : (M l1 : Word) (i : ℕ) (r1 l2 : Word) (j : ℕ) (r2 : Word) → g.Has i → g.Has j → o.Range M → q.May M → M ≡ l1 ++ ((g.rule i).lead ++ r1) → M ≡ l2 ++ ((g.rule j).lead ++ r2) → (i ≡ j → l1 ≢ l2) → Placed (g.rule i).lead (g.rule j).lead l1 r1 l2 r2 → Meets M l1 i r1 l2 j r2
     meets M l1 i r1 l2 j r2 hi hj rm am e1 e2 differ (apart m a b) = subst (λ z. Meets M l1 i z l2 j r2) (sym b) (subst (λ z. Meets M l1 i (m ++ ((g.rule j).lead ++ r2)) z j r2) (sym a) (meets_apart i j l1 m r2 M hi hj (e1 ∙ ap (λ z. l1 ++ ((g.rule i).lead ++ z)) b) rm am))
     meets M l1 i r1 l2 j r2 hi hj rm am e1 e2 differ (overlap s u t ns nu nt pe qe a b) = meets_at M (l1 ++ ((s ++ (g.rule j).lead) ++ r2)) l1 (l1 ++ []) r1 (t ++ r2) l2 (l1 ++ s) r2 r2 i j (sym at) (append-nil l1) (sym b) (sym a) refl (meets_shift l1 r2 (s ++ (g.rule j).lead) [] i t s j [] (subst o.Range at rm) (subst q.May at am) (res.overlaps i j s u t hi hj ns nu nt pe qe (o.factor l1 (s ++ (g.rule j).lead) r2 (subst o.Range at rm)) (may_factor o q l1 (s ++ (g.rule j).lead) r2 (subst o.Range at rm) (subst q.May at am))))

@@ -11,13 +11,13 @@ use Rattle.rule_reduce.specs.KeptWords.{IsAtMostOf}
 use Rattle.ambiguities.specs.Resolved.{ComesBelow}
 use Rattle.confluence.specs.Reductions.{HasLettersBelow}
 use Rattle.confluence.proofs.Led.{Comes, led_at, HasLed, IsAtMostOf as IsAtMostIn}
-use Rattle.confluence.proofs.LedRules.{leds_of, led_at-is, has_led, rule_of_number, polys_of-leds, leds_are}
+use Rattle.confluence.proofs.LedRules.{leds_of, led_at-is, has_led, rule_of_number, polys_of-leds, leds_are, ordered}
 use Rattle.confluence.proofs.Meets.{Allowed}
 use Rattle.confluence.proofs.Outside.{AnyRow, at_most_of}
 use Rattle.confluence.proofs.Parts.{parted, Extends, any_more}
 use Rattle.confluence.proofs.Resolve.{below, bounded_self, InRange}
 use Rattle.confluence.proofs.ReducedSpans.{at_most_in}
-use Rattle.confluence.proofs.ReducibleLaws.{ordered, below_span, below_from_span}
+use Rattle.confluence.proofs.BelowSpans.{below_span, below_from_span}
 use Rattle.confluence.proofs.RuleRows.{at_most_bounded}
 use Rattle.confluence.proofs.Spans.{Span}
 use Rattle.confluence.proofs.SumRows.{comes_from_span, span_from_comes}

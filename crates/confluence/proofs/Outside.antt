@@ -1,8 +1,5 @@
 -- Rows with a bound for their top words, and rows over polynomials that come from such rows.
-use Rattle.std.proofs.Common.{◌≡◌, ◌≢◌, ◌⊎◌, inl, inr, refl, arith, subst, sym, ap, ◌∙◌, List, [], ◌∷◌, ◌++◌, reverse, Bool, true, false, cond, ℤ, pos, ◌+ℤ◌, ◌*ℤ◌}
-use Rattle.std.proofs.lemmas.Int.{ints}
-use Rattle.std.proofs.lemmas.Bool.{eq-eqb}
-use Rattle.std.proofs.lemmas.List.{reverse-append, reverse-reverse}
+use Rattle.std.proofs.Common.{◌≡◌, ◌≢◌, ◌⊎◌, inl, inr, refl, subst, sym, ap, ◌∙◌, List, [], ◌∷◌, ◌++◌, Bool, true, false, cond, pos, ◌+ℤ◌, ◌*ℤ◌}
 use Rattle.std.proofs.Math.IntN.{*ℤ-zero, +ℤ_idl}
 use Rattle.confluence.proofs.Integers.{*ℤ_cancel}
 use Rattle.definitions.specs.Poly.{Word, Term, word_eq, coefficient_of, poly_between}

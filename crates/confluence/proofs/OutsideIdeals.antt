@@ -1,5 +1,5 @@
 -- What is outside the rational ideal, and what does not come from the generators below a word.
-use Rattle.std.proofs.Common.{◌≡◌, ◌≢◌, ◌⊎◌, inl, inr, ◌≤◌, ℕ, zero, suc, pos, List, [], ◌∷◌, ◌++◌, length, refl, sym, ap, ◌∙◌, subst, arith, Contains}
+use Rattle.std.proofs.Common.{◌≡◌, ◌≢◌, ◌⊎◌, inl, inr, ◌≤◌, ℕ, zero, suc, pos, List, [], ◌∷◌, length, refl, sym, ap, ◌∙◌, subst, arith, Contains}
 use Rattle.std.specs.List.{All}
 use Rattle.std.proofs.lemmas.List.Elements.{All-contains}
 use Rattle.definitions.specs.Poly.{Word, Term, coefficient_of, poly_between}
@@ -18,8 +18,8 @@ use Rattle.confluence.proofs.Shifts.{between_word, span_bind}
 use Rattle.confluence.proofs.Ideals.{generator_decided}
 use Rattle.confluence.proofs.Outside.{AnyRow, piece_span}
 use Rattle.confluence.proofs.Parts.{same_nat}
-use Rattle.confluence.proofs.ReducibleLaws.{ordered, below_from_span}
-use Rattle.confluence.proofs.ResolvedOf.{comes_from_below}
+use Rattle.confluence.proofs.LedRules.{ordered}
+use Rattle.confluence.proofs.BelowSpans.{below_from_span, comes_from_below}
 use Rattle.confluence.proofs.Resolve.{below}
 use Rattle.confluence.proofs.RestLaws.{rests_of_ideal_are_zero, rests_below_are_zero}
 use Rattle.confluence.proofs.Spans.{Coefs, Span, nothing}

@@ -1,5 +1,5 @@
 -- Two leading words in one word are one, apart, or come from an ambiguity; rows apart differ by lower rows.
-use Rattle.std.proofs.Common.{◌≡◌, ◌≢◌, ◌⊎◌, inl, inr, ℕ, ℤ, pos, negsuc, ◌+ℤ◌, ◌*ℤ◌, ◌<ℤ◌, neg_ℤ, List, [], ◌++◌, length, refl, sym, ap, ap₂, ◌∙◌, subst, arith, append_assoc, append-nil}
+use Rattle.std.proofs.Common.{◌≡◌, ◌≢◌, ◌⊎◌, inl, inr, ℕ, pos, negsuc, ◌+ℤ◌, ◌*ℤ◌, ◌<ℤ◌, neg_ℤ, List, [], ◌++◌, length, refl, sym, ap, ap₂, ◌∙◌, subst, arith, append_assoc, append-nil}
 use Rattle.std.specs.List.{All}
 use Rattle.std.specs.Int.RustNames.{unsigned_abs}
 use Rattle.std.proofs.lemmas.Int.{ints}
@@ -15,47 +15,39 @@ use Rattle.rule_reduce.specs.RuleLists.{IsRule, polynomials_of}
 use Rattle.rule_reduce.proofs.Numbers.{rule_at-all}
 use Rattle.ambiguities.specs.declared.ambiguity.Kind.TheVariants.{Overlap, Inclusion}
 use Rattle.ambiguities.specs.declared.ambiguity.Ambiguity.{Ambiguity}
-use Rattle.ambiguities.specs.Ambiguities.{overlap_word_of}
-use Rattle.ambiguities.specs.SPolynomials.{first_row, second_row}
 use Rattle.ambiguities.specs.Resolved.{ComesBelow}
 use Rattle.confluence.specs.Places.{Place, IsPlace, IsOnePlace, IsApart, IsFromAmbiguity, PlacesOfOneWord, place_poly, RowsApartDiffer}
 use Rattle.confluence.proofs.Integers.{neg_ℤ-*ℤ}
 use Rattle.confluence.proofs.Led.{led_at, polys_of, Comes}
-use Rattle.confluence.proofs.LedRules.{leds_of, led_at-is, has_led, polys_of-leds, leds_are}
-use Rattle.confluence.proofs.Meetings.{IsMeeting, overlap, inclusion}
-use Rattle.confluence.proofs.MeetingsOf.{meeting_of, ambiguity_of}
-use Rattle.confluence.proofs.Places.{SomeLetters, Placed, apart, inside, outside, EitherWay, first, second, two_places}
-use Rattle.confluence.proofs.Parts.{same_nat, parted, coefficient_of-parted, rules_of}
-use Rattle.confluence.proofs.Resolved.{same_place, some_length}
+use Rattle.confluence.proofs.LedRules.{leds_of, led_at-is, has_led, polys_of-leds, leds_are, row_poly}
+use Rattle.confluence.proofs.MeetingsOf.{IsMeeting, overlap_meeting, inclusion_meeting}
+use Rattle.confluence.proofs.Places.{SomeLetters, some_length, Placed, apart, overlap, inside, outside, EitherWay, first, second, two_places}
+use Rattle.confluence.proofs.Parts.{same_nat, rules_of}
 use Rattle.confluence.proofs.Resolve.{everything, below}
-use Rattle.confluence.proofs.RuleRows.{same_between}
 use Rattle.confluence.proofs.Spans.{Coefs, Span, span_same, single}
 use Rattle.confluence.proofs.Shifts.{span_bind}
 use Rattle.confluence.proofs.Meets.{Rules, Row, Under, poly, apart_span, row_bound}
 use Rattle.confluence.proofs.Outside.{AnyRow}
 use Rattle.confluence.proofs.SumRows.{comes_from_span}
-use Rattle.confluence.proofs.ResolvedOf.{below_from_comes}
+use Rattle.confluence.proofs.BelowSpans.{below_from_comes}
 
 module _ (rules : List Rule) (word : Word) where
   -- a meeting between two words makes the places come from its ambiguity
-  from_meeting : (p q : Place) (a : Ambiguity) (inner after before behind x y : Word) → IsMeeting (leds_of rules) a inner after before behind → a.i ≡ p.number → a.j ≡ q.number
+  from_meeting : (p q : Place) (a : Ambiguity) (inner after before behind x y : Word) → IsMeeting rules a inner after before behind → a.i ≡ p.number → a.j ≡ q.number
       → word ≡ x ++ (inner ++ y) → p.left ≡ x → p.right ≡ after ++ y → q.left ≡ x ++ before → q.right ≡ behind ++ y → IsFromAmbiguity rules word p q
-  from_meeting p q a inner after before behind x y m i_is j_is splits p_left p_right q_left q_right =
-      let is = ambiguity_of rules a inner after before behind m in
-      let same = same_place (leds_of rules) a inner (overlap_word_of rules a) after (first_row rules a).right before (second_row rules a).left behind (second_row rules a).right m (meeting_of rules a is) in
-      record {
-        ambiguity = a;
-        is_ambiguity = is;
-        first = i_is;
-        second = j_is;
-        before = x;
-        behind = y;
-        splits = splits ∙ ap (λ w. x ++ (w ++ y)) same.0;
-        first_left = p_left ∙ sym (append-nil x);
-        first_right = p_right ∙ ap (λ w. w ++ y) same.1;
-        second_left = q_left ∙ ap (λ w. x ++ w) same.2;
-        second_right = q_right ∙ ap (λ w. w ++ y) same.3;
-      }
+  from_meeting p q a inner after before behind x y m i_is j_is splits p_left p_right q_left q_right = record {
+    ambiguity = a;
+    is_ambiguity = m.ambiguity;
+    first = i_is;
+    second = j_is;
+    before = x;
+    behind = y;
+    splits = splits ∙ ap (λ w. x ++ (w ++ y)) (sym m.word_is);
+    first_left = p_left ∙ sym (append-nil x);
+    first_right = p_right ∙ ap (λ w. w ++ y) (sym m.after_is);
+    second_left = q_left ∙ ap (λ w. x ++ w) (sym m.before_is);
+    second_right = q_right ∙ ap (λ w. w ++ y) (sym m.behind_is);
+  }
 
   module _ (p q : Place) (is_p : IsPlace rules word p) (is_q : IsPlace rules word q) where
     p_lead : (led_at (leds_of rules) p.number).lead ≡ p.rule.lead
@@ -81,9 +73,9 @@ module _ (rules : List Rule) (word : Word) where
             let front : s ≡ [] = nil_from_length s (omega (arith, ap length whole, length-append s (q.rule.lead ++ t), length-append q.rule.lead t)) in
             let back : t ≡ [] = nil_from_length t (omega (arith, ap length whole, length-append s (q.rule.lead ++ t), length-append q.rule.lead t)) in
             inl (record { number = same; left = sym (left ∙ ap (λ w. p.left ++ w) front ∙ append-nil p.left); right = sym (right ∙ ap (λ w. w ++ p.right) back) })
-        by_number (inr differ) = inr (inr (inl (from_meeting p q (record { i = p.number; j = q.number; kind = Inclusion; place = length s }) (led_at (leds_of rules) p.number).lead [] s t p.left p.right
-            (inclusion s t refl (has_led rules p.number p.rule is_p.numbered) (has_led rules q.number q.rule is_q.numbered) differ (p_lead ∙ splits ∙ ap (λ w. s ++ (w ++ t)) (sym q_lead)) refl refl refl refl refl)
-            refl refl (is_p.splits ∙ ap (λ w. p.left ++ (w ++ p.right)) (sym p_lead)) refl refl left right)))
+        by_number (inr differ) = inr (inr (inl (from_meeting p q (record { i = p.number; j = q.number; kind = Inclusion; place = length s }) p.rule.lead [] s t p.left p.right
+            (inclusion_meeting rules p.number q.number p.rule q.rule is_p.numbered is_q.numbered s t differ splits)
+            refl refl is_p.splits refl refl left right)))
 
     -- the second leading word begins where the first does, and is longer
     longer : (t : Word) → SomeLetters t → q.rule.lead ≡ p.rule.lead ++ t → q.left ≡ p.left → p.right ≡ t ++ q.right → OneWay
@@ -91,16 +83,16 @@ module _ (rules : List Rule) (word : Word) where
       where
         by_number : (p.number ≡ q.number) ⊎ (p.number ≢ q.number) → OneWay
         by_number (inl same) = absurd (omega (arith, ap length (one_lead same), ap length splits, length-append p.rule.lead t, some_length t some))
-        by_number (inr differ) = inr (inr (inr (from_meeting q p (record { i = q.number; j = p.number; kind = Inclusion; place = 0 }) (led_at (leds_of rules) q.number).lead [] [] t q.left q.right
-            (inclusion [] t refl (has_led rules q.number q.rule is_q.numbered) (has_led rules p.number p.rule is_p.numbered) (λ e. differ (sym e)) (q_lead ∙ splits ∙ ap (λ w. w ++ t) (sym p_lead)) refl refl refl refl refl)
-            refl refl (is_q.splits ∙ ap (λ w. q.left ++ (w ++ q.right)) (sym q_lead)) refl refl (sym left ∙ sym (append-nil q.left)) right)))
+        by_number (inr differ) = inr (inr (inr (from_meeting q p (record { i = q.number; j = p.number; kind = Inclusion; place = 0 }) q.rule.lead [] [] t q.left q.right
+            (inclusion_meeting rules q.number p.number q.rule p.rule is_q.numbered is_p.numbered [] t (λ e. differ (sym e)) splits)
+            refl refl is_q.splits refl refl (sym left ∙ sym (append-nil q.left)) right)))
 
     one_way : Placed p.rule.lead q.rule.lead p.left p.right q.left q.right → OneWay
     one_way (apart m left right) = inr (inl (record { between = m; left = left; right = right }))
-    one_way (Placed.overlap s o t some_s some_o some_t p_splits q_splits left right) = inr (inr (inl (from_meeting p q (record { i = p.number; j = q.number; kind = Overlap; place = length s }) (s ++ (led_at (leds_of rules) q.number).lead) t s [] p.left q.right
-        (overlap s o t refl (has_led rules p.number p.rule is_p.numbered) (has_led rules q.number q.rule is_q.numbered) (some_length s some_s) (some_length o some_o) (some_length t some_t) (p_lead ∙ p_splits) (q_lead ∙ q_splits) refl refl refl refl refl)
+    one_way (overlap s o t some_s some_o some_t p_splits q_splits left right) = inr (inr (inl (from_meeting p q (record { i = p.number; j = q.number; kind = Overlap; place = length s }) (s ++ q.rule.lead) t s [] p.left q.right
+        (overlap_meeting rules p.number q.number p.rule q.rule is_p.numbered is_q.numbered s o t some_s some_o some_t p_splits q_splits)
         refl refl
-        (is_q.splits ∙ ap (λ w. w ++ (q.rule.lead ++ q.right)) left ∙ append_assoc p.left s (q.rule.lead ++ q.right) ∙ ap (λ w. p.left ++ w) (sym (append_assoc s q.rule.lead q.right)) ∙ ap (λ w. p.left ++ ((s ++ w) ++ q.right)) (sym q_lead))
+        (is_q.splits ∙ ap (λ w. w ++ (q.rule.lead ++ q.right)) left ∙ append_assoc p.left s (q.rule.lead ++ q.right) ∙ ap (λ w. p.left ++ w) (sym (append_assoc s q.rule.lead q.right)))
         refl right left refl)))
     one_way (inside s t splits left right) = included s t splits left right
     one_way (outside t some splits left right) = longer t some splits left right
@@ -153,9 +145,7 @@ module _ (letters : ℕ) (compare : Compare) (rank : List ℕ → List ℕ) (rul
 
   -- the polynomial of the rule at a place
   part_is : (r : Place) (is : IsPlace rules word r) (l back : Word) → l ≡ r.left → back ≡ r.right → (w : Word) → coefficient_of (poly_between l (poly (g.rule r.number)) back) w ≡ coefficient_of (place_poly r) w
-  part_is r is l back l_is back_is w =
-      same_between l back (poly (parted (led_at (leds_of rules) r.number))) (led_at (leds_of rules) r.number).poly (coefficient_of-parted o (led_at (leds_of rules) r.number) (leds_are letters compare rank laws rules are r.number (has_led rules r.number r.rule is.numbered))) w
-      ∙ ap (λ f. coefficient_of (poly_between l f.poly back) w) (led_at-is rules r.number r.rule is.numbered)
+  part_is r is l back l_is back_is w = row_poly letters compare rank laws rules are r.number r.rule is.numbered l back w
       ∙ ap₂ (λ u v. coefficient_of (poly_between u r.rule.poly.terms v) w) l_is back_is
 
   leading_is : (r : Place) (is : IsPlace rules word r) → pos (g.rule r.number).leading ≡ r.rule.leading

@@ -1,12 +1,13 @@
 -- Two words at places of one word: apart, overlapping, or one in the other.
-use Rattle.std.proofs.Common.{◌≡◌, ℕ, refl, subst, sym, ap, ◌∙◌, List, [], ◌∷◌, ◌++◌, append-nil}
-
-abbrev pub Word : Type 0
-Word = List ℕ
+use Rattle.std.proofs.Common.{◌≡◌, ℕ, refl, subst, sym, ap, ◌∙◌, [], ◌∷◌, ◌++◌, append-nil, length, ◌<◌, arith}
+use Rattle.definitions.specs.Poly.{Word}
 
 -- a word with letters
 pub data SomeLetters : Word → Type 0 where
   some_letters : (a : ℕ) (w : Word) → SomeLetters (a ∷ w)
+
+pub some_length : (w : Word) → SomeLetters w → 0 < length w
+some_length _ (some_letters a w) = omega arith
 
 -- where two joins are one word, one first part is a prefix of the other
 pub data Split (a b c d : Word) : Type 0 where

@@ -15,10 +15,9 @@ use Rattle.rule_reduce.specs.RuleLists.{IsRule, polynomials_of}
 use Rattle.rule_reduce.specs.KeptWords.{IsAtMostOf}
 use Rattle.confluence.specs.Reductions.{IsZero, IsReduced}
 use Rattle.confluence.proofs.Led.{IsAtMostOf as IsAtMostIn}
-use Rattle.confluence.proofs.LedRules.{leds_of, polys_of-leds, leds_are}
+use Rattle.confluence.proofs.LedRules.{leds_of, polys_of-leds, leds_are, ordered}
 use Rattle.confluence.proofs.Meets.{Allowed}
 use Rattle.confluence.proofs.Outside.{AnyRow}
-use Rattle.confluence.proofs.ReducibleLaws.{ordered}
 use Rattle.confluence.proofs.RuleRows.{Bounded, at_most_bounded, from_rest}
 use Rattle.confluence.proofs.Spans.{Coefs, Span, nothing, span_same}
 use Rattle.confluence.proofs.SumRows.{Numbered, span_from_numbered}

@@ -1,12 +1,12 @@
 -- What reductions by resolved rules leave.
-use Rattle.std.proofs.Common.{◌≡◌, ◌≢◌, ◌⊎◌, inl, inr, ℕ, ℤ, pos, negsuc, neg_ℤ, ◌+ℤ◌, ◌*ℤ◌, List, sym, subst, arith}
+use Rattle.std.proofs.Common.{◌≡◌, ◌≢◌, ◌⊎◌, inl, inr, ℕ, pos, negsuc, List, sym, subst, arith}
 use Rattle.std.specs.List.{All}
 use Rattle.std.proofs.lemmas.Int.{ints}
 use Rattle.definitions.specs.Poly.{Word, Term, coefficient_of}
 use Rattle.word_core.specs.Letters.{IsOver}
 use Rattle.word_core.specs.Occurrence.{OccursNowhere}
 use Rattle.word_orders.specs.Admissible.{Compare}
-use Rattle.word_orders.specs.Orders.{Order, IsBelow}
+use Rattle.word_orders.specs.Orders.{Order}
 use Rattle.word_orders.proofs.Orders.{order_from_laws, below_less}
 use Rattle.rule_reduce.specs.declared.rule.Rule.{Rule}
 use Rattle.rule_reduce.specs.declared.state.State.{State}
@@ -29,8 +29,9 @@ use Rattle.confluence.proofs.Resolve.{below}
 use Rattle.confluence.proofs.SumRows.{Numbered, listed, combination_span, combination_from}
 use Rattle.confluence.proofs.FreeRows.{Free, in_ideal, ideal_span}
 use Rattle.confluence.proofs.ReducedSpans.{reduced_part, numbered_span}
-use Rattle.confluence.proofs.ResolvedOf.{comes_from_below, below_from_comes}
-use Rattle.confluence.proofs.ReducibleLaws.{ordered, below_span, reducible_below, reducible_in_ideal}
+use Rattle.confluence.proofs.BelowSpans.{comes_from_below, below_from_comes, below_span}
+use Rattle.confluence.proofs.LedRules.{ordered}
+use Rattle.confluence.proofs.ReducibleLaws.{reducible_below, reducible_in_ideal}
 
 pub normal_forms_are_reduced : NormalFormsAreReduced
 normal_forms_are_reduced letters compare rank rules p steps s laws are shaped over ends = record {

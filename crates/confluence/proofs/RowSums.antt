@@ -74,7 +74,7 @@ module _ (generators polys : List (List Term)) where
   abbrev row_at : Row → Word → ℤ
   row_at row w = coefficient_of (poly_between row.left (origin_poly generators polys row.from) row.right) w
 
-  traced-cons : (row : Row) (rows : List Row) (w : Word) → sum_at (row ∷ rows) w ≡ row.coef *ℤ row_at row w +ℤ sum_at rows w
+  pub traced-cons : (row : Row) (rows : List Row) (w : Word) → sum_at (row ∷ rows) w ≡ row.coef *ℤ row_at row w +ℤ sum_at rows w
   traced-cons row rows w =
       coefficient_of-append (traced_poly generators polys row) (traced_sum generators polys rows) w
       ∙ ap (λ z. z +ℤ sum_at rows w) (coefficient_of-multiple row.coef (poly_between row.left (origin_poly generators polys row.from) row.right) w)

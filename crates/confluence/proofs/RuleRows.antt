@@ -1,5 +1,5 @@
 -- Rows over rules, by the polynomials of the rules.
-use Rattle.std.proofs.Common.{◌≡◌, ◌≢◌, ℕ, ◌<◌, ◌⊎◌, inl, inr, refl, arith, subst, sym, ap, ◌∙◌, List, [], ◌++◌, ℤ, pos, ◌+ℤ◌, ◌*ℤ◌, ◌<ℤ◌, neg_ℤ, append-nil}
+use Rattle.std.proofs.Common.{◌≡◌, ◌≢◌, ℕ, ◌⊎◌, inl, inr, refl, arith, subst, sym, ap, ◌∙◌, List, [], ◌++◌, ℤ, pos, ◌+ℤ◌, ◌*ℤ◌, ◌<ℤ◌, neg_ℤ}
 use Rattle.std.proofs.lemmas.Int.{ints}
 use Rattle.definitions.specs.Poly.{coefficient_of, poly_between, Word, Term}
 use Rattle.word_orders.specs.Orders.{Order}

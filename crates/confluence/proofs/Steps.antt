@@ -18,7 +18,7 @@ use Rattle.confluence.specs.Reductions.{IsZero, IsReduced}
 use Rattle.confluence.proofs.Meets.{Allowed}
 use Rattle.confluence.proofs.Outside.{AnyRow, at_most_of}
 use Rattle.confluence.proofs.ReducedSpans.{zero_rest_span}
-use Rattle.confluence.proofs.ReducibleLaws.{ordered}
+use Rattle.confluence.proofs.LedRules.{ordered}
 use Rattle.confluence.proofs.Resolve.{bounded_self}
 use Rattle.confluence.proofs.RuleRows.{Bounded}
 use Rattle.confluence.proofs.Spans.{Span}

@@ -21,7 +21,7 @@ use Rattle.ambiguities.proofs.Numbers.{rule_at-first, rule_at-last}
 use Rattle.confluence.specs.Reductions.{IsZero, IsReduced}
 use Rattle.confluence.proofs.Outside.{AnyRow}
 use Rattle.confluence.proofs.ReducedSpans.{reduced_span, zero_rest_span}
-use Rattle.confluence.proofs.ReducibleLaws.{ordered}
+use Rattle.confluence.proofs.LedRules.{ordered}
 use Rattle.confluence.proofs.Resolve.{below}
 use Rattle.confluence.proofs.RuleRows.{Bounded, from_rest}
 use Rattle.confluence.proofs.Spans.{Span}

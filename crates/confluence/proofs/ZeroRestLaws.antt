@@ -1,25 +1,24 @@
 -- What is reduced to zero is in the rational ideal of the rules, and its ambiguity is resolved.
-use Rattle.std.proofs.Common.{◌≡◌, ◌⊎◌, inl, inr, ℕ, pos, List, sym, ◌∙◌}
+use Rattle.std.proofs.Common.{ℕ, List, sym, ◌∙◌}
 use Rattle.std.specs.List.{All}
 use Rattle.definitions.specs.Poly.{Term, SamePolynomial, coefficient_of}
 use Rattle.word_orders.specs.Admissible.{Compare, IsAdmissible}
 use Rattle.word_orders.specs.Orders.{Order}
-use Rattle.word_orders.proofs.Orders.{order_from_laws}
+use Rattle.word_orders.proofs.Orders.{order_from_laws, below_less}
 use Rattle.rule_reduce.specs.declared.rule.Rule.{Rule}
 use Rattle.rule_reduce.specs.RuleLists.{IsRule, polynomials_of}
 use Rattle.ambiguities.specs.declared.ambiguity.Ambiguity.{Ambiguity}
 use Rattle.ambiguities.specs.Ambiguities.{IsAmbiguity, overlap_word_of}
-use Rattle.ambiguities.specs.SPolynomials.{first_row, second_row}
 use Rattle.ambiguities.specs.Resolved.{s_sum, IsResolved}
 use Rattle.confluence.specs.ZeroRests.{ZeroRestsAreInside, ZeroRestsAreResolved}
 use Rattle.confluence.proofs.FreeRows.{Free, in_ideal}
-use Rattle.confluence.proofs.LedRules.{leds_of, leds_are}
-use Rattle.confluence.proofs.MeetingsOf.{meeting_of, factors_of, difference_of}
+use Rattle.confluence.proofs.LedRules.{ordered}
+use Rattle.confluence.proofs.MeetingsOf.{s_words_below}
 use Rattle.confluence.proofs.Outside.{AnyRow}
 use Rattle.confluence.proofs.ReducedSpans.{numbered_span, zero_rest_span}
-use Rattle.confluence.proofs.ReducibleLaws.{ordered, below_from_span}
-use Rattle.confluence.proofs.Resolve.{below, s_words_below}
-use Rattle.confluence.proofs.RuleRows.{Bounded, from_rest}
+use Rattle.confluence.proofs.BelowSpans.{below_from_span}
+use Rattle.confluence.proofs.Resolve.{below}
+use Rattle.confluence.proofs.RuleRows.{Bounded, bounded_from, from_rest}
 use Rattle.confluence.proofs.Spans.{Span, nothing, span_same}
 use Rattle.confluence.proofs.SumRows.{Numbered}
 
@@ -35,12 +34,10 @@ module _ (letters : ℕ) (compare : Compare) (rank : List ℕ → List ℕ) (law
 
   -- the words of the S-polynomial are below the overlap word
   pub s_bounded : Bounded order (below order (overlap_word_of rules a)) p
-  s_bounded w = go (s_words_below order (leds_of rules) (leds_are letters compare rank laws rules are) a (overlap_word_of rules a) (first_row rules a).right (second_row rules a).left (second_row rules a).right (factors_of rules a is letters compare are).one (factors_of rules a is letters compare are).other (s_sum rules a)
-      (meeting_of rules a is) (difference_of rules a is letters compare are) w)
-    where
-      go : (coefficient_of (s_sum rules a) w ≡ pos 0) ⊎ (order.Range w × order.Less w (overlap_word_of rules a)) → (coefficient_of p w ≡ pos 0) ⊎ (order.Range w × order.Less w (overlap_word_of rules a))
-      go (inl none) = inl (same.at w ∙ none)
-      go (inr held) = inr held
+  s_bounded = bounded_from order (below order (overlap_word_of rules a)) p (λ w some.
+      let less = below_less letters compare rank laws w (overlap_word_of rules a)
+      (s_words_below rules a is letters compare are rank laws w (λ none. some (same.at w ∙ none))) in
+      (order.less_range w _ less, less))
 
   -- where the S-polynomial comes from the rules below the overlap word, the ambiguity is resolved
   pub resolved_by : Span (AnyRow order (ordered letters compare rank laws rules are) (below order (overlap_word_of rules a))) (coefficient_of p) → IsResolved letters compare rules a
