@@ -33,7 +33,6 @@ use Rattle.confluence.proofs.Spans.{Span}
 use Rattle.confluence.proofs.Parts.{parted, is_lower, all_words_filtered}
 use Rattle.confluence.proofs.Resolve.{everything}
 use Rattle.confluence.proofs.Resolved.{all_resolved}
-use Rattle.confluence.proofs.ResolvedOf.{meetings_all}
 use Rattle.confluence.proofs.FreeRows.{Free, ideal_span, free_span}
 use Rattle.confluence.proofs.SumRows.{Numbered, comes_from_span}
 use Rattle.normal_forms.specs.Descents.{all_grounded}
@@ -158,11 +157,8 @@ module _ (p : Parts) (rules : List Rule) (b : IsBasis p rules) where
         count_is = sym (letters-quiver_of p.quiver);
         normal_is = normal_form_is rationals (letter_count p.quiver) (asked_cmp p.order) order_rank
             (asked_cmp-admissible (letter_count p.quiver) p.order) rules b.are_rules (all_grounded (letter_count p.quiver) p.order);
-        resolved = all_resolved (word_order p rules b.are_rules) (leds_of rules)
-            (leds_are (letter_count p.quiver) (asked_cmp p.order) order_rank (asked_cmp-admissible (letter_count p.quiver) p.order) rules b.are_rules)
-            (everything (word_order p rules b.are_rules))
-            (λ a word after before behind m any. meetings_all (letter_count p.quiver) (asked_cmp p.order) order_rank
-            (asked_cmp-admissible (letter_count p.quiver) p.order) rules b.are_rules b.resolved a word after before behind m);
+        resolved = all_resolved (letter_count p.quiver) (asked_cmp p.order) order_rank (asked_cmp-admissible (letter_count p.quiver) p.order) rules b.are_rules
+            (everything (word_order p rules b.are_rules)) (λ a is any. b.resolved.each a is);
         join = λ u v one other. in_range (u ++ v) (IsOver-append (letter_count p.quiver) u v (over_from u one) (over_from v other));
         is_quiver = quiver;
         play_range = λ w each. in_range w (play_over w each);

@@ -9,6 +9,7 @@ use Rattle.definitions.specs.Quiver.{Quiver, source, target}
 use Rattle.word_core.specs.Occurrence.{OccursNowhere}
 use Rattle.word_orders.specs.Admissible.{IsAdmissible}
 use Rattle.word_orders.specs.Orders.{Order}
+use Rattle.word_orders.proofs.Orders.{order_from_laws}
 use Rattle.word_orders.specs.Specified.{asked_cmp}
 use Rattle.word_orders.proofs.AskedOrders.{asked_rank, asked_cmp-admissible}
 use Rattle.quiver.specs.Declarations.{letter_count, quiver_of}
@@ -17,9 +18,8 @@ use Rattle.rule_reduce.specs.RuleLists.{IsRule}
 use Rattle.ambiguities.specs.Resolved.{is_below}
 use Rattle.adjoint_rules.specs.declared.parts.Parts.{Parts}
 use Rattle.adjoint_rules.specs.Problem.{numbers, is_in_play}
-use Rattle.confluence.proofs.LedRules.{led_at-is, has_led}
+use Rattle.confluence.proofs.LedRules.{led_at-is, has_led, ordered}
 use Rattle.confluence.proofs.Meets.{Rules}
-use Rattle.confluence.proofs.ReducibleLaws.{order, ordered}
 use Rattle.normal_forms.specs.Fractions.{Fraction, is_zero, fractions}
 use Rattle.normal_forms.specs.Forms.{Form, multiple_form, product_form, collected}
 use Rattle.normal_forms.specs.RationalForms.{rational_normal_form}
@@ -95,7 +95,7 @@ module _ (p : Parts) (rules : List Rule) (are : All (IsRule (letter_count p.quiv
   laws = asked_cmp-admissible (letter_count p.quiver) p.order
 
   abbrev pub word_order : Order
-  word_order = order (letter_count p.quiver) (asked_cmp p.order) rank laws rules are
+  word_order = order_from_laws (letter_count p.quiver) (asked_cmp p.order) rank laws
 
   abbrev pub word_rules : Rules word_order
   word_rules = ordered (letter_count p.quiver) (asked_cmp p.order) rank laws rules are

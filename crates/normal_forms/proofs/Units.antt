@@ -28,11 +28,10 @@ all_back P (x ∷ p) q a = all_back P p q a.1
 all_marked : {A : Type 0} (P : A → Type 0) (h : ℕ → List A) (marked : List ℕ) (v : ℕ) → list_any (nat_eq v) marked ≡ true
     → AllByRecursion P (flat_map h marked) → AllByRecursion P (h v)
 all_marked P h [] v e a = absurd (true≢false (sym e))
-all_marked P h (m ∷ marked) v e a = let rest = λ j. all_marked P h marked v j (all_back P (h m) (flat_map h marked) a) in
-    elim (or_cases (eqb v m) (list_any (nat_eq v) marked) e) [
-      | inl i ↦ subst (λ z. AllByRecursion P (h z)) (sym (eqb-true v m i)) (all_front P (h m) (flat_map h marked) a)
-      | inr j ↦ rest j
-    ]
+all_marked P h (m ∷ marked) v e a = elim (or_cases (eqb v m) (list_any (nat_eq v) marked) e) [
+  | inl i ↦ subst (λ z. AllByRecursion P (h z)) (sym (eqb-true v m i)) (all_front P (h m) (flat_map h marked) a)
+  | inr j ↦ all_marked P h marked v j (all_back P (h m) (flat_map h marked) a)
+]
 
 all_range : {A : Type 0} (P : A → Type 0) (h : ℕ → List A) (n : ℕ) {b a : ℕ} → b ≤ a → a < b + n → AllByRecursion P (flat_map h (range_with_len b n))
     → AllByRecursion P (h a)

@@ -10,7 +10,7 @@ use Rattle.definitions.specs.Poly.{Word, Term, word_eq, coefficient_of}
 use Rattle.word_core.specs.Occurrence.{IsFirstPlace, OccursNowhere}
 use Rattle.word_orders.specs.Admissible.{Compare, IsAdmissible}
 use Rattle.word_orders.specs.Orders.{Order}
-use Rattle.word_orders.proofs.Orders.{over_range, less_below}
+use Rattle.word_orders.proofs.Orders.{order_from_laws, over_range, less_below}
 use Rattle.nc_polynomial.proofs.Distinct.{AreDistinct, distinct-descending, words_listed}
 use Rattle.nc_polynomial.proofs.Shapes.{recursion_from_IsDescending}
 use Rattle.rule_index.specs.Matches.{place_in}
@@ -23,10 +23,9 @@ use Rattle.ambiguities.specs.Resolved.{is_below}
 use Rattle.confluence.proofs.TermWords.{AllWords}
 use Rattle.confluence.proofs.Tests.{below_from_test, test_from_below}
 use Rattle.confluence.proofs.Led.{Led, HasLed, led_at}
-use Rattle.confluence.proofs.LedRules.{led_of, leds_of, led_at-is, has_led, rule_of_number}
+use Rattle.confluence.proofs.LedRules.{ordered, led_of, leds_of, led_at-is, has_led, rule_of_number}
 use Rattle.confluence.proofs.Meets.{Rules}
 use Rattle.confluence.proofs.Parts.{filtered, is_lower, parted}
-use Rattle.confluence.proofs.ReducibleLaws.{order, ordered}
 use Rattle.normal_forms.specs.Forms.{Form, with_words}
 use Rattle.normal_forms.specs.RationalForms.{IsGrounded, grounded, rule_or, first_rule, other_terms, form_where, lower_forms, form_by, word_form, rational_normal_form}
 use Rattle.normal_forms.proofs.Field.{Field, numbers_of}
@@ -87,7 +86,7 @@ other_terms-parted {g} is = same_kept g.poly.terms (λ w. not (word_eq g.lead w)
 module _ {K : Type 0} (k : Field K) (letters : ℕ) (compare : Compare) (rank : List ℕ → List ℕ) (laws : IsAdmissible letters compare rank) (rules : List Rule)
     (are : All (IsRule letters compare) rules) where
   abbrev o : Order
-  o = order letters compare rank laws rules are
+  o = order_from_laws letters compare rank laws
 
   abbrev g : Rules o
   g = ordered letters compare rank laws rules are
