@@ -78,8 +78,8 @@ module _ (q : Quiver) (starred : Bool) (marked : List ℕ) (assumptions : List (
 -- x - y in the ideal makes the words x and y alike
 pub unit_like : {K : Type 0} (k : Field K) {o : Order} {g : Rules o} (x y : Word) → Span (AnyRow o g) (coefficient_of (((pos 1, x) ∷ (negsuc 0, y) ∷ [])))
     → Cong k o g ((k.one, x) ∷ []) ((k.one, y) ∷ [])
-unit_like {K = K} k {o} {g} x y h = cong_left k o g (record { at = same })
-    (cong_after k o g Y (ideal_like k o g (((pos 1, x) ∷ (negsuc 0, y) ∷ [])) h))
+unit_like {K = K} k {o} {g} x y h = cong_left (record { at = same })
+    (cong_after Y (ideal_like k o g (((pos 1, x) ∷ (negsuc 0, y) ∷ [])) h))
   where
     L : Form K
     L = lifted k k.one (((pos 1, x) ∷ (negsuc 0, y) ∷ []))
@@ -95,7 +95,6 @@ unit_like {K = K} k {o} {g} x y h = cong_left k o g (record { at = same })
         (ap (λ z. k.plus z (k.int (negsuc 0))) (sym k.int_one) ∙ sym (k.int_plus (pos 1) (negsuc 0)) ∙ int_none k)
 
     same : (w : Word) → look k ((k.one, x) ∷ []) w ≡ look k (L ++ Y) w
-    same w = sym
-        (ap₂ (λ a b. k.plus (k.times a (hit k x w)) b) (k.one_times (k.int (pos 1)) ∙ k.int_one)
+    same w = sym (ap₂ (λ a b. k.plus (k.times a (hit k x w)) b) (k.one_times (k.int (pos 1)) ∙ k.int_one)
         (ap₂ k.plus (ap (λ z. k.times z (hit k y w)) (k.one_times (k.int (negsuc 0)) ∙ minus_one_is) ∙ minus_one k (hit k y w))
         (k.plus_none (k.times k.one (hit k y w)) ∙ k.one_times (hit k y w)) ∙ k.plus_comm (k.minus (hit k y w)) (hit k y w) ∙ k.plus_minus (hit k y w)))
