@@ -10,9 +10,9 @@ use Rattle.word_orders.proofs.Orders.{order_from_laws, below_less, less_below}
 use Rattle.rule_reduce.specs.declared.rule.Rule.{Rule}
 use Rattle.rule_reduce.specs.RuleLists.{IsRule, polynomials_of}
 use Rattle.ambiguities.specs.Resolved.{is_below, ComesBelow}
-use Rattle.confluence.proofs.Led.{IsAskedRow, Comes, polys_of}
+use Rattle.confluence.proofs.Led.{IsAskedRow, Comes}
 use Rattle.confluence.proofs.Tests.{below_from_test, test_from_below}
-use Rattle.confluence.proofs.LedRules.{leds_of, polys_of-leds, leds_are, ordered}
+use Rattle.confluence.proofs.LedRules.{leds_are, ordered}
 use Rattle.confluence.proofs.Outside.{AnyRow}
 use Rattle.confluence.proofs.Resolve.{below}
 use Rattle.confluence.proofs.Spans.{Span}
@@ -48,12 +48,11 @@ module _ (letters : ℕ) (compare : Compare) (rank : List ℕ → List ℕ) (law
     -- what comes below a word is a sum of rows below it
     pub below_span : (bound : Word) (p : List Term) → ComesBelow letters compare (polynomials_of rules) bound p → Span (AnyRow order (ordered letters compare rank laws rules are) (below order bound)) (coefficient_of p)
     below_span bound p comes =
-        span_from_comes order (leds_of rules) (leds_are letters compare rank laws rules are) (below order bound) (λ w. order.Less w bound) (λ u less. (order.less_range u bound less, less)) p
-        (comes_from_below (polys_of (leds_of rules)) bound p (subst (λ ps. ComesBelow letters compare ps bound p) (sym (polys_of-leds rules)) comes))
+        span_from_comes order rules (leds_are letters compare rank laws rules are) (below order bound) (λ w. order.Less w bound) (λ u less. (order.less_range u bound less, less)) p
+        (comes_from_below (polynomials_of rules) bound p comes)
 
     -- and back
     pub below_from_span : (bound : Word) (p : List Term) → Span (AnyRow order (ordered letters compare rank laws rules are) (below order bound)) (coefficient_of p) → ComesBelow letters compare (polynomials_of rules) bound p
     below_from_span bound p sp =
         below_from_comes (polynomials_of rules) bound p
-        (subst (λ ps. Comes ps (λ w. order.Less w bound) p) (polys_of-leds rules)
-        (comes_from_span order (leds_of rules) (leds_are letters compare rank laws rules are) (below order bound) (λ w. order.Less w bound) (λ u range less. less) p sp))
+        (comes_from_span order rules (leds_are letters compare rank laws rules are) (below order bound) (λ w. order.Less w bound) (λ u range less. less) p sp)

@@ -4,7 +4,9 @@ use Rattle.std.proofs.Math.IntN.{*ℤ-zero}
 use Rattle.definitions.specs.Poly.{coefficient_of, poly_between, Word, Term}
 use Rattle.definitions.specs.Combination.{generator_at, InRationalIdeal}
 use Rattle.word_orders.specs.Orders.{Order}
-use Rattle.confluence.proofs.Led.{polys_of, Led, led_at, HasLed, IsLed}
+use Rattle.rule_reduce.specs.RuleLists.{polynomials_of}
+use Rattle.rule_reduce.specs.declared.rule.Rule.{Rule}
+use Rattle.confluence.proofs.Led.{Led, led_at, HasLed, IsLed, has_decided, poly_at}
 use Rattle.confluence.proofs.Integers.{nonzero_or}
 use Rattle.confluence.proofs.Spans.{Coefs, Span, single, span_same, nothing}
 use Rattle.traced_rows.proofs.Between.{between-between}
@@ -12,7 +14,6 @@ use Rattle.confluence.proofs.Shifts.{IsLinear, span_map, shift, shift_linear, co
 use Rattle.confluence.proofs.Outside.{AnyRow}
 use Rattle.confluence.proofs.Parts.{rules_of}
 use Rattle.confluence.proofs.SumRows.{Numbered, listed, combination_span, combination_from, span_from_numbered}
-use Rattle.confluence.proofs.LedLists.{has_decided, poly_at}
 use Rattle.confluence.proofs.Resolve.{everything, InRange}
 
 -- any words
@@ -62,8 +63,8 @@ module _ (o : Order) where
     | inr n ↦ elim h [ inl z ↦ sym z | inr r ↦ absurd (n r) ]
   ]
 
-  module _ (rules : List Led) (ok : (n : ℕ) → HasLed rules n → IsLed o (led_at rules n)) where
-    pub rules_in_range : (n : ℕ) → InRange o (generator_at (polys_of rules) n)
+  module _ (rules : List Rule) (ok : (n : ℕ) → HasLed rules n → IsLed o (led_at rules n)) where
+    pub rules_in_range : (n : ℕ) → InRange o (generator_at (polynomials_of rules) n)
     rules_in_range n w k = elim (has_decided rules n) [
       | inl h ↦ range h ((ok n h).words w k')
       | inr e ↦ absurd (k' (ap (λ r. coefficient_of r.poly w) e))
@@ -77,21 +78,21 @@ module _ (o : Order) where
         range h (inr l) = o.less_range w (led_at rules n).lead l
 
     -- rows over the rules with any words, for a polynomial in range
-    pub free_span : (p : List Term) → InRange o p → Span (Numbered (polys_of rules) Free) (coefficient_of p) → Span (AnyRow o (rules_of o rules ok) (everything o)) (coefficient_of p)
-    free_span p r sp = span_same (AnyRow o (rules_of o rules ok) (everything o)) (cut (coefficient_of p)) (coefficient_of p) (span_map cut cut_linear (Numbered (polys_of rules) Free) (AnyRow o (rules_of o rules ok) (everything o)) each (coefficient_of p) sp) (λ w. sym (cut-inside (coefficient_of p) w (of_word w (nonzero_or (coefficient_of p w)))))
+    pub free_span : (p : List Term) → InRange o p → Span (Numbered (polynomials_of rules) Free) (coefficient_of p) → Span (AnyRow o (rules_of o rules ok) (everything o)) (coefficient_of p)
+    free_span p r sp = span_same (AnyRow o (rules_of o rules ok) (everything o)) (cut (coefficient_of p)) (coefficient_of p) (span_map cut cut_linear (Numbered (polynomials_of rules) Free) (AnyRow o (rules_of o rules ok) (everything o)) each (coefficient_of p) sp) (λ w. sym (cut-inside (coefficient_of p) w (of_word w (nonzero_or (coefficient_of p w)))))
       where
         of_word : (w : Word) → (coefficient_of p w ≡ pos 0) ⊎ (coefficient_of p w ≢ pos 0) → (coefficient_of p w ≡ pos 0) ⊎ o.Range w
         of_word w (inl z) = inl z
         of_word w (inr n) = inr (r w n)
 
-        each : (b : Coefs) → Numbered (polys_of rules) Free b → Span (AnyRow o (rules_of o rules ok) (everything o)) (cut b)
+        each : (b : Coefs) → Numbered (polynomials_of rules) Free b → Span (AnyRow o (rules_of o rules ok) (everything o)) (cut b)
         each b x = by_ends (o.range_decided x.left) (o.range_decided x.right)
           where
             gone : ((w : Word) → o.Range w → b w ≡ pos 0) → Span (AnyRow o (rules_of o rules ok) (everything o)) (cut b)
             gone h = nothing (cut b) (λ w. cut-outside b w (h w))
 
             outside : ((v : Word) → o.Range (x.left ++ (v ++ x.right)) → ⊥) → (w : Word) → o.Range w → b w ≡ pos 0
-            outside n w rw = elim (between_word x.left x.right (generator_at (polys_of rules) x.number) w) [
+            outside n w rw = elim (between_word x.left x.right (generator_at (polynomials_of rules) x.number) w) [
               | inl z ↦ x.is w ∙ z
               | inr (v, e, some) ↦ absurd (n v (subst o.Range e rw))
             ]
@@ -99,10 +100,10 @@ module _ (o : Order) where
             by_ends : o.Range x.left ⊎ (o.Range x.left → ⊥) → o.Range x.right ⊎ (o.Range x.right → ⊥) → Span (AnyRow o (rules_of o rules ok) (everything o)) (cut b)
             by_ends (inr n) _ = gone (outside (λ v rv. n (o.range_left x.left v x.right rv)))
             by_ends (inl a) (inr n) = gone (outside (λ v rv. n (o.range_right x.left v x.right rv)))
-            by_ends (inl a) (inl c) = span_same (AnyRow o (rules_of o rules ok) (everything o)) b (cut b) (span_from_numbered o rules ok (everything o) o.Range (λ u ru. (ru, tt)) b (single (Numbered (polys_of rules) o.Range) b (record { number = x.number; left = x.left; right = x.right; is = x.is; asked = λ v n. o.range_join x.left v x.right a (rules_in_range x.number v n) c }))) (λ w. cut-inside b w (b_range w))
+            by_ends (inl a) (inl c) = span_same (AnyRow o (rules_of o rules ok) (everything o)) b (cut b) (span_from_numbered o rules ok (everything o) o.Range (λ u ru. (ru, tt)) b (single (Numbered (polynomials_of rules) o.Range) b (record { number = x.number; left = x.left; right = x.right; is = x.is; asked = λ v n. o.range_join x.left v x.right a (rules_in_range x.number v n) c }))) (λ w. cut-inside b w (b_range w))
               where
                 b_range : (w : Word) → (b w ≡ pos 0) ⊎ o.Range w
-                b_range w = elim (between_word x.left x.right (generator_at (polys_of rules) x.number) w) [
+                b_range w = elim (between_word x.left x.right (generator_at (polynomials_of rules) x.number) w) [
                   | inl z ↦ inl (x.is w ∙ z)
                   | inr (v, e, some) ↦ inr (subst o.Range (sym e) (o.range_join x.left v x.right a (rules_in_range x.number v some) c))
                 ]

@@ -14,55 +14,10 @@ use Rattle.rule_reduce.proofs.AtMost.{IsAtMost, leading-greatest, leading-all}
 use Rattle.rule_reduce.proofs.Numbers.{rule_at-all}
 use Rattle.rule_reduce.proofs.WordsKept.{words_with_coefficients}
 use Rattle.ambiguities.proofs.Multiples.{leading_coefficient}
-use Rattle.confluence.proofs.Led.{Led, IsLed, no_led, led_at, HasLed, polys_of}
+use Rattle.confluence.proofs.Led.{Led, IsLed, no_led, led_at, HasLed, led_of, led_at-is}
 use Rattle.confluence.proofs.Meets.{Rules, poly}
 use Rattle.confluence.proofs.Parts.{coefficient_of-parted, rules_of}
 use Rattle.confluence.proofs.RuleRows.{same_between}
-
-abbrev pub led_of : Rule → Led
-led_of g = record { leading = unsigned_abs g.leading; lead = g.lead; poly = g.poly.terms }
-
-abbrev pub leds_of : List Rule → List Led
-leds_of rules = map led_of rules
-
-pub polys_of-leds : (rules : List Rule) → polys_of (leds_of rules) ≡ polynomials_of rules
-polys_of-leds [] = refl
-polys_of-leds (g ∷ rules) = ap (λ ps. g.poly.terms ∷ ps) (polys_of-leds rules)
-
--- by number
-same_rule : (g h : Rule) → ◌≡◌ {A = Option Rule} (Some g) (Some h) → g ≡ h
-same_rule g h e = cc
-
-pub length-leds : (rules : List Rule) → length (leds_of rules) ≡ length rules
-length-leds [] = refl
-length-leds (g ∷ rules) = ap suc (length-leds rules)
-
-led_from_slice : (rules : List Rule) (n : ℕ) (g : Rule) → slice_get rules n ≡ Some g → get_or (leds_of rules) n no_led ≡ led_of g
-led_from_slice [] n g is = absurd (cc)
-led_from_slice (f ∷ rules) zero g is = ap led_of (same_rule f g is)
-led_from_slice (f ∷ rules) (suc n) g is = led_from_slice rules n g is
-
-pub led_at-is : (rules : List Rule) (n : ℕ) (g : Rule) → rule_at rules n ≡ Some g → led_at (leds_of rules) n ≡ led_of g
-led_at-is rules zero g is = absurd (cc)
-led_at-is rules (suc n) g is = led_from_slice rules n g is
-
-slice_inside : (rules : List Rule) (n : ℕ) (g : Rule) → slice_get rules n ≡ Some g → n < length rules
-slice_inside [] n g is = absurd (cc)
-slice_inside (f ∷ rules) zero g is = omega arith
-slice_inside (f ∷ rules) (suc n) g is = let rest : n < length rules = slice_inside rules n g is in omega arith
-
-pub has_led : (rules : List Rule) (n : ℕ) (g : Rule) → rule_at rules n ≡ Some g → HasLed (leds_of rules) n
-has_led rules zero g is = absurd (cc)
-has_led rules (suc n) g is = (omega arith, omega (arith, slice_inside rules n g is, length-leds rules))
-
-slice_some : (rules : List Rule) (n : ℕ) → n < length rules → (g : Rule) × (slice_get rules n ≡ Some g)
-slice_some [] n inside = absurd (omega arith)
-slice_some (g ∷ rules) zero inside = (g, refl)
-slice_some (g ∷ rules) (suc n) inside = slice_some rules n (omega arith)
-
-pub rule_of_number : (rules : List Rule) (n : ℕ) → HasLed (leds_of rules) n → (g : Rule) × (rule_at rules n ≡ Some g)
-rule_of_number rules zero has = absurd (omega (arith, has.0))
-rule_of_number rules (suc n) has = slice_some rules n (omega (arith, has.1, length-leds rules))
 
 -- with their orders
 module _ (letters : ℕ) (compare : Compare) (rank : List ℕ → List ℕ) (laws : IsAdmissible letters compare rank) where
@@ -92,17 +47,15 @@ module _ (letters : ℕ) (compare : Compare) (rank : List ℕ → List ℕ) (law
       one w (inl same) over = inl same
       one w (inr less) over = inr (below_less letters compare rank laws w g.lead (record { left = over; right = lead_over; less = less }))
 
-  pub leds_are : (rules : List Rule) → All (IsRule letters compare) rules → (n : ℕ) → HasLed (leds_of rules) n → IsLed order (led_at (leds_of rules) n)
-  leds_are rules are n has =
-      let found = rule_of_number rules n has in
-      subst (IsLed order) (sym (led_at-is rules n found.0 found.1)) (led_is found.0 (rule_at-all (IsRule letters compare) rules n found.0 found.1 are))
+  pub leds_are : (rules : List Rule) → All (IsRule letters compare) rules → (n : ℕ) → HasLed rules n → IsLed order (led_at rules n)
+  leds_are rules are n (g, numbered) = subst (IsLed order) (sym (led_at-is rules n g numbered)) (led_is g (rule_at-all (IsRule letters compare) rules n g numbered are))
 
   -- the rules with their order
   module _ (rules : List Rule) (are : All (IsRule letters compare) rules) where
     abbrev pub ordered : Rules order
-    ordered = rules_of order (leds_of rules) (leds_are rules are)
+    ordered = rules_of order rules (leds_are rules are)
 
     pub row_poly : (n : ℕ) (f : Rule) → rule_at rules n ≡ Some f → (l r w : Word) → coefficient_of (poly_between l (poly (ordered.rule n)) r) w ≡ coefficient_of (poly_between l f.poly.terms r) w
     row_poly n f numbered l r w =
-        same_between l r (poly (ordered.rule n)) (led_at (leds_of rules) n).poly (coefficient_of-parted order (led_at (leds_of rules) n) (leds_are rules are n (has_led rules n f numbered))) w
+        same_between l r (poly (ordered.rule n)) (led_at rules n).poly (coefficient_of-parted order (led_at rules n) (leds_are rules are n ((f, numbered)))) w
         ∙ ap (λ x. coefficient_of (poly_between l x.poly r) w) (led_at-is rules n f numbered)

@@ -8,7 +8,6 @@ pub mod Meets
 pub mod Closed
 pub mod Outside
 pub mod Led
-pub mod LedLists
 pub mod Parts
 pub mod RuleRows
 pub mod SumRows

@@ -13,8 +13,8 @@ use Rattle.rule_reduce.specs.declared.state.State.{State}
 use Rattle.rule_reduce.specs.RuleLists.{IsRule, rule_at}
 use Rattle.confluence.specs.Reductions.{IsReduced}
 use Rattle.confluence.proofs.Integers.{neg_ℤ-*ℤ, *ℤ_cancel, nonzero_or}
-use Rattle.confluence.proofs.Led.{led_at}
-use Rattle.confluence.proofs.LedRules.{leds_of, led_at-is, has_led, leds_are, ordered}
+use Rattle.confluence.proofs.Led.{led_at, led_at-is}
+use Rattle.confluence.proofs.LedRules.{leds_are, ordered}
 use Rattle.confluence.proofs.Meets.{Allowed}
 use Rattle.confluence.proofs.Outside.{AnyRow}
 use Rattle.confluence.proofs.ReducedSpans.{reduced_part, at_most_in, reduced_span}
@@ -55,19 +55,19 @@ module _ (letters : ℕ) (compare : Compare) (rank : List ℕ → List ℕ) (law
     -- the rest is one row of the rule that is made of it
     pub accounted_span : (rest : List Term) → IsAccounted rules rest → Bounded order q rest → Span (AnyRow order (ordered letters compare rank laws rules are) q) (coefficient_of rest)
     accounted_span rest is bounded =
-        more (coefficient_of rest) (λ _. pos 0) (coefficient_of (poly_between [] (led_at (leds_of rules) is.number).poly [])) is.scale
-        (_, row_at order (leds_of rules) (leds_are letters compare rank laws rules are) q is.number [] [] (has_led rules is.number is.rule is.numbered) (subst order.Range (sym (append-nil (led_at (leds_of rules) is.number).lead)) top.0) (subst q.May (sym (append-nil (led_at (leds_of rules) is.number).lead)) top.1))
-        (nothing _ (λ _. refl)) (λ w. at w ∙ ap (λ z. is.scale *ℤ z) (sym (coefficient_of-bare (led_at (leds_of rules) is.number).poly w))
+        more (coefficient_of rest) (λ _. pos 0) (coefficient_of (poly_between [] (led_at rules is.number).poly [])) is.scale
+        (_, row_at order rules (leds_are letters compare rank laws rules are) q is.number [] [] ((is.rule, is.numbered)) (subst order.Range (sym (append-nil (led_at rules is.number).lead)) top.0) (subst q.May (sym (append-nil (led_at rules is.number).lead)) top.1))
+        (nothing _ (λ _. refl)) (λ w. at w ∙ ap (λ z. is.scale *ℤ z) (sym (coefficient_of-bare (led_at rules is.number).poly w))
         ∙ sym (+ℤ_idr _))
       where
-        at : (w : Word) → coefficient_of rest w ≡ is.scale *ℤ coefficient_of (led_at (leds_of rules) is.number).poly w
+        at : (w : Word) → coefficient_of rest w ≡ is.scale *ℤ coefficient_of (led_at rules is.number).poly w
         at w = sym (is.divided.at w) ∙ coefficient_of-multiple is.scale is.rule.poly.terms w ∙ ap (λ r. is.scale *ℤ coefficient_of r.poly w) (sym (led_at-is rules is.number is.rule is.numbered))
 
-        occurs : coefficient_of rest (led_at (leds_of rules) is.number).lead ≢ pos 0
-        occurs none = leading_nonzero order (led_at (leds_of rules) is.number) (leds_are letters compare rank laws rules are is.number (has_led rules is.number is.rule is.numbered)) (cancel_nonzero is.scale (coefficient_of (led_at (leds_of rules) is.number).poly (led_at (leds_of rules) is.number).lead) is.nonzero (sym (at (led_at (leds_of rules) is.number).lead) ∙ none))
+        occurs : coefficient_of rest (led_at rules is.number).lead ≢ pos 0
+        occurs none = leading_nonzero order (led_at rules is.number) (leds_are letters compare rank laws rules are is.number ((is.rule, is.numbered))) (cancel_nonzero is.scale (coefficient_of (led_at rules is.number).poly (led_at rules is.number).lead) is.nonzero (sym (at (led_at rules is.number).lead) ∙ none))
 
-        top : order.Range (led_at (leds_of rules) is.number).lead × q.May (led_at (leds_of rules) is.number).lead
-        top = elim (bounded (led_at (leds_of rules) is.number).lead) [ inl none ↦ absurd (occurs none) | inr held ↦ held ]
+        top : order.Range (led_at rules is.number).lead × q.May (led_at rules is.number).lead
+        top = elim (bounded (led_at rules is.number).lead) [ inl none ↦ absurd (occurs none) | inr held ↦ held ]
 
   -- what was reduced by fewer rules to a rest that comes from the rules
   pub reduced_in : (rules more : List Rule) (are : All (IsRule letters compare) rules) (all_are : All (IsRule letters compare) (rules ++ more)) (q : Allowed order) (p : List Term) (s : State)

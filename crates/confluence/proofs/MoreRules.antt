@@ -10,8 +10,8 @@ use Rattle.rule_reduce.specs.RuleLists.{IsRule, rule_at, polynomials_of}
 use Rattle.rule_reduce.specs.KeptWords.{IsAtMostOf}
 use Rattle.ambiguities.specs.Resolved.{ComesBelow}
 use Rattle.confluence.specs.Reductions.{HasLettersBelow}
-use Rattle.confluence.proofs.Led.{Comes, led_at, HasLed, IsAtMostOf as IsAtMostIn}
-use Rattle.confluence.proofs.LedRules.{leds_of, led_at-is, has_led, rule_of_number, polys_of-leds, leds_are, ordered}
+use Rattle.confluence.proofs.Led.{Comes, led_at, HasLed, IsAtMostOf as IsAtMostIn, led_at-is}
+use Rattle.confluence.proofs.LedRules.{leds_are, ordered}
 use Rattle.confluence.proofs.Meets.{Allowed}
 use Rattle.confluence.proofs.Outside.{AnyRow, at_most_of}
 use Rattle.confluence.proofs.Parts.{parted, Extends, any_more}
@@ -60,12 +60,12 @@ module _ (letters : ℕ) (compare : Compare) (rank : List ℕ → List ℕ) (law
 
     pub reached_span : (p : List Term) → HasLettersBelow letters p → IsReached letters compare rules p → Span (AnyRow order (ordered letters compare rank laws rules are) (at_most_of order p)) (coefficient_of p)
     reached_span p over reached =
-        span_from_comes order (leds_of rules) (leds_are letters compare rank laws rules are) (at_most_of order p) (IsAtMostIn order p)
+        span_from_comes order rules (leds_are letters compare rank laws rules are) (at_most_of order p) (IsAtMostIn order p)
         (λ u most. at_most_bounded order (at_most_of order p) p (bounded_self order p (in_range p over)) u most) p
-        (subst (λ ps. Comes ps (IsAtMostIn order p) p) (sym (polys_of-leds rules)) (comes_reached p reached))
+        (comes_reached p reached)
 
     pub reached_from_span : (p : List Term) → Span (AnyRow order (ordered letters compare rank laws rules are) (at_most_of order p)) (coefficient_of p) → IsReached letters compare rules p
-    reached_from_span p sp = go (subst (λ ps. Comes ps (IsAtMostIn order p) p) (polys_of-leds rules) (comes_from_span order (leds_of rules) (leds_are letters compare rank laws rules are) (at_most_of order p) (IsAtMostIn order p) (λ u range most. most) p sp))
+    reached_from_span p sp = go (comes_from_span order rules (leds_are letters compare rank laws rules are) (at_most_of order p) (IsAtMostIn order p) (λ u range most. most) p sp)
       where
         go : Comes (polynomials_of rules) (IsAtMostIn order p) p → IsReached letters compare rules p
         go c = record {
@@ -78,13 +78,10 @@ module _ (letters : ℕ) (compare : Compare) (rank : List ℕ → List ℕ) (law
   -- with more rules
   module _ (rules more : List Rule) (are : All (IsRule letters compare) rules) (all_are : All (IsRule letters compare) (rules ++ more)) where
     pub extends : Extends order (ordered letters compare rank laws rules are) (ordered letters compare rank laws (rules ++ more) all_are)
-    extends = record { has = λ n has. longer n (rule_of_number rules n has); same = λ n has. same n (rule_of_number rules n has) }
-      where
-        longer : (n : ℕ) → ((g : Rule) × (rule_at rules n ≡ Some g)) → HasLed (leds_of (rules ++ more)) n
-        longer n (g, numbered) = has_led (rules ++ more) n g (rule_at-more rules more n g numbered)
-
-        same : (n : ℕ) → ((g : Rule) × (rule_at rules n ≡ Some g)) → parted (led_at (leds_of (rules ++ more)) n) ≡ parted (led_at (leds_of rules) n)
-        same n (g, numbered) = ap (λ r. parted r) (led_at-is (rules ++ more) n g (rule_at-more rules more n g numbered) ∙ sym (led_at-is rules n g numbered))
+    extends = record {
+      has = λ n (g, numbered). (g, rule_at-more rules more n g numbered);
+      same = λ n (g, numbered). ap parted (led_at-is (rules ++ more) n g (rule_at-more rules more n g numbered) ∙ sym (led_at-is rules n g numbered));
+    }
 
     pub span_more : (q : Allowed order) (f : Word → ℤ) → Span (AnyRow order (ordered letters compare rank laws rules are) q) f → Span (AnyRow order (ordered letters compare rank laws (rules ++ more) all_are) q) f
     span_more q f sp = any_more order (ordered letters compare rank laws rules are) (ordered letters compare rank laws (rules ++ more) all_are) extends q f sp

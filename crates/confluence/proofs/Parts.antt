@@ -6,6 +6,7 @@ use Rattle.std.proofs.Math.IntN.{+ℤ_idl, +ℤ_idr}
 use Rattle.std.specs.Ordering.{int_eq}
 use Rattle.definitions.specs.Poly.{coefficient_of, Word, Term, word_eq, poly_between}
 use Rattle.word_orders.specs.Orders.{Order}
+use Rattle.rule_reduce.specs.declared.rule.Rule.{Rule}
 use Rattle.confluence.proofs.Led.{Led, led_at, HasLed, IsLed}
 use Rattle.confluence.proofs.TermWords.{AllWords}
 use Rattle.definitions.proofs.Linear.{word_eq-true, word_eq-same}
@@ -89,7 +90,7 @@ same_nat zero (suc j) = inr (λ e. absurd (omega arith))
 same_nat (suc i) zero = inr (λ e. absurd (omega arith))
 same_nat (suc i) (suc j) = elim (same_nat i j) [ inl e ↦ inl (ap suc e) | inr n ↦ inr (λ e. n (omega (arith, e))) ]
 
-abbrev pub rules_of : (o : Order) (rules : List Led) → ((n : ℕ) → HasLed rules n → IsLed o (led_at rules n)) → Rules o
+abbrev pub rules_of : (o : Order) (rules : List Rule) → ((n : ℕ) → HasLed rules n → IsLed o (led_at rules n)) → Rules o
 rules_of o rules ok = record {
   Has = HasLed rules;
   rule = λ n. parted (led_at rules n);

@@ -18,8 +18,8 @@ use Rattle.ambiguities.specs.declared.ambiguity.Ambiguity.{Ambiguity}
 use Rattle.ambiguities.specs.Resolved.{ComesBelow}
 use Rattle.confluence.specs.Places.{Place, IsPlace, IsOnePlace, IsApart, IsFromAmbiguity, PlacesOfOneWord, place_poly, RowsApartDiffer}
 use Rattle.confluence.proofs.Integers.{neg_ℤ-*ℤ}
-use Rattle.confluence.proofs.Led.{led_at, polys_of, Comes}
-use Rattle.confluence.proofs.LedRules.{leds_of, led_at-is, has_led, polys_of-leds, leds_are, row_poly}
+use Rattle.confluence.proofs.Led.{led_at, Comes, led_at-is}
+use Rattle.confluence.proofs.LedRules.{leds_are, row_poly}
 use Rattle.confluence.proofs.MeetingsOf.{IsMeeting, overlap_meeting, inclusion_meeting}
 use Rattle.confluence.proofs.Places.{SomeLetters, some_length, Placed, apart, overlap, inside, outside, EitherWay, first, second, two_places}
 use Rattle.confluence.proofs.Parts.{same_nat, rules_of}
@@ -50,15 +50,15 @@ module _ (rules : List Rule) (word : Word) where
   }
 
   module _ (p q : Place) (is_p : IsPlace rules word p) (is_q : IsPlace rules word q) where
-    p_lead : (led_at (leds_of rules) p.number).lead ≡ p.rule.lead
+    p_lead : (led_at rules p.number).lead ≡ p.rule.lead
     p_lead = ap (λ r. r.lead) (led_at-is rules p.number p.rule is_p.numbered)
 
-    q_lead : (led_at (leds_of rules) q.number).lead ≡ q.rule.lead
+    q_lead : (led_at rules q.number).lead ≡ q.rule.lead
     q_lead = ap (λ r. r.lead) (led_at-is rules q.number q.rule is_q.numbered)
 
     -- rules with one number have one leading word
     one_lead : p.number ≡ q.number → p.rule.lead ≡ q.rule.lead
-    one_lead same = sym p_lead ∙ ap (λ n. (led_at (leds_of rules) n).lead) same ∙ q_lead
+    one_lead same = sym p_lead ∙ ap (λ n. (led_at rules n).lead) same ∙ q_lead
 
     abbrev OneWay : Type 0
     OneWay = IsOnePlace p q ⊎ (IsApart p q ⊎ (IsFromAmbiguity rules word p q ⊎ IsFromAmbiguity rules word q p))
@@ -124,7 +124,7 @@ module _ (letters : ℕ) (compare : Compare) (rank : List ℕ → List ℕ) (rul
   o = order_from_laws letters compare rank laws
 
   abbrev g : Rules (order_from_laws letters compare rank laws)
-  g = rules_of (order_from_laws letters compare rank laws) (leds_of rules) (leds_are letters compare rank laws rules are)
+  g = rules_of (order_from_laws letters compare rank laws) rules (leds_are letters compare rank laws rules are)
 
   abbrev one_poly : List Term
   one_poly = poly_between p.left (poly (g.rule p.number)) (far.between ++ ((g.rule q.number).lead ++ q.right))
@@ -133,7 +133,7 @@ module _ (letters : ℕ) (compare : Compare) (rank : List ℕ → List ℕ) (rul
   other_poly = poly_between (p.left ++ ((g.rule p.number).lead ++ far.between)) (poly (g.rule q.number)) q.right
 
   span : Span (Under o g (everything o) word) (λ w. pos (g.rule q.number).leading *ℤ coefficient_of one_poly w +ℤ neg_ℤ (pos (g.rule p.number).leading *ℤ coefficient_of other_poly w))
-  span = apart_span o g (everything o) p.number q.number p.left far.between q.right word (has_led rules p.number p.rule is_p.numbered) (has_led rules q.number q.rule is_q.numbered)
+  span = apart_span o g (everything o) p.number q.number p.left far.between q.right word ((p.rule, is_p.numbered)) ((q.rule, is_q.numbered))
       (is_p.splits ∙ ap (λ w. p.left ++ (p.rule.lead ++ w)) far.right ∙ ap₂ (λ u v. p.left ++ (u ++ (far.between ++ (v ++ q.right)))) (sym (p_lead rules word p q is_p is_q)) (sym (q_lead rules word p q is_p is_q)))
       (over_range letters compare rank laws word over) tt
 
@@ -165,13 +165,13 @@ module _ (letters : ℕ) (compare : Compare) (rank : List ℕ → List ℕ) (rul
       (ap₂ ◌*ℤ◌ (sym (leading_is q is_q)) (sym (part_is p is_p p.left (far.between ++ ((g.rule q.number).lead ++ q.right)) refl (ap (λ u. far.between ++ (u ++ q.right)) (q_lead rules word p q is_p is_q) ∙ sym far.right) w)))
       (ap₂ ◌*ℤ◌ (sym (leading_is p is_p)) (sym (part_is q is_q (p.left ++ ((g.rule p.number).lead ++ far.between)) q.right (ap (λ u. p.left ++ (u ++ far.between)) (p_lead rules word p q is_p is_q) ∙ sym far.left) refl w)))
 
-  comes : Comes (polys_of (leds_of rules)) (λ w. o.Less w word) difference
-  comes = comes_from_span o (leds_of rules) (leds_are letters compare rank laws rules are) (below o word) (λ w. o.Less w word) (λ u range less. less) difference
+  comes : Comes (polynomials_of rules) (λ w. o.Less w word) difference
+  comes = comes_from_span o rules (leds_are letters compare rank laws rules are) (below o word) (λ w. o.Less w word) (λ u range less. less) difference
       (span_same (AnyRow o g (below o word)) (λ w. pos (g.rule q.number).leading *ℤ coefficient_of one_poly w +ℤ neg_ℤ (pos (g.rule p.number).leading *ℤ coefficient_of other_poly w)) (coefficient_of difference)
       (span_bind (Under o g (everything o) word) (AnyRow o g (below o word)) lower (λ w. pos (g.rule q.number).leading *ℤ coefficient_of one_poly w +ℤ neg_ℤ (pos (g.rule p.number).leading *ℤ coefficient_of other_poly w)) span) value)
 
   pub apart_comes : ComesBelow letters compare (polynomials_of rules) word difference
-  apart_comes = below_from_comes letters compare rank laws (polynomials_of rules) word difference (subst (λ ps. Comes ps (λ w. o.Less w word) difference) (polys_of-leds rules) comes)
+  apart_comes = below_from_comes letters compare rank laws (polynomials_of rules) word difference comes
 
 pub rows_apart_differ : RowsApartDiffer
 rows_apart_differ letters compare rank rules word p q laws are over is_p is_q far = apart_comes letters compare rank rules word p q laws are over is_p is_q far

@@ -15,7 +15,7 @@ use Rattle.rule_reduce.specs.RuleLists.{IsRule, polynomials_of}
 use Rattle.rule_reduce.specs.KeptWords.{IsAtMostOf}
 use Rattle.confluence.specs.Reductions.{IsZero, IsReduced}
 use Rattle.confluence.proofs.Led.{IsAtMostOf as IsAtMostIn}
-use Rattle.confluence.proofs.LedRules.{leds_of, polys_of-leds, leds_are, ordered}
+use Rattle.confluence.proofs.LedRules.{leds_are, ordered}
 use Rattle.confluence.proofs.Meets.{Allowed}
 use Rattle.confluence.proofs.Outside.{AnyRow}
 use Rattle.confluence.proofs.RuleRows.{Bounded, at_most_bounded, from_rest}
@@ -55,9 +55,8 @@ module _ (letters : ℕ) (compare : Compare) (rank : List ℕ → List ℕ) (law
   module _ (rules : List Rule) (are : All (IsRule letters compare) rules) (q : Allowed order) (p : List Term) (s : State) (reduced : IsReduced letters compare rules p s) (bounded : Bounded order q p) where
     pub reduced_span : Span (AnyRow order (ordered letters compare rank laws rules are) q) (reduced_part p s)
     reduced_span =
-        span_from_numbered order (leds_of rules) (leds_are letters compare rank laws rules are) q Asked (λ u asked. asked) (reduced_part p s)
-        (subst (λ ps. Span (Numbered ps Asked) (reduced_part p s)) (sym (polys_of-leds rules))
-        (numbered_span letters compare rules p s reduced Asked (λ u most. at_most_bounded order q p bounded u (at_most_in p u most))))
+        span_from_numbered order rules (leds_are letters compare rank laws rules are) q Asked (λ u asked. asked) (reduced_part p s)
+        (numbered_span letters compare rules p s reduced Asked (λ u most. at_most_bounded order q p bounded u (at_most_in p u most)))
       where
         Asked : Word → Type 0
         Asked u = order.Range u × q.May u

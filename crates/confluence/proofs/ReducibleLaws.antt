@@ -12,7 +12,8 @@ use Rattle.rule_reduce.specs.RuleLists.{IsRule, rule_at, polynomials_of}
 use Rattle.ambiguities.specs.Ambiguities.{overlap_word_of}
 use Rattle.confluence.specs.Reductions.{IsNonzero}
 use Rattle.confluence.specs.Reducible.{IsReducible, HasReducibleGreatest, ReducibleBelow, ReducibleInIdeal}
-use Rattle.confluence.proofs.LedRules.{leds_of, polys_of-leds, led_at-is, rule_of_number, leds_are, ordered}
+use Rattle.confluence.proofs.Led.{led_at-is}
+use Rattle.confluence.proofs.LedRules.{leds_are, ordered}
 use Rattle.confluence.proofs.Spans.{Coefs, Span}
 use Rattle.confluence.proofs.Confluence.{HasTopRow}
 use Rattle.confluence.proofs.Meets.{Allowed, Row, Resolved}
@@ -30,7 +31,7 @@ module _ (letters : ℕ) (compare : Compare) (rank : List ℕ → List ℕ) (law
 
   -- where a row ends at a word, the leading word of its rule occurs there
   reducible_row : (q : Allowed order) (word : Word) (b : Coefs) → Row order (ordered letters compare rank laws rules are) q word b → IsReducible rules word
-  reducible_row q word b row = go (rule_of_number rules row.number row.has)
+  reducible_row q word b row = go (row.has)
     where
       go : ((g : Rule) × (rule_at rules row.number ≡ Some g)) → IsReducible rules word
       go (g, numbered) = record {
@@ -75,6 +76,5 @@ pub reducible_in_ideal : ReducibleInIdeal
 reducible_in_ideal letters compare rank rules p laws are resolved inside over some =
     let o = order_from_laws letters compare rank laws in
     reducible_span letters compare rank laws rules are (everything o) (all_resolved letters compare rank laws rules are (everything o) (λ a is any. resolved.each a is)) p
-    (free_span o (leds_of rules) (leds_are letters compare rank laws rules are) p (λ w occurs. over_range letters compare rank laws w (over.at w occurs))
-    (subst (λ ps. Span (Numbered ps Free) (coefficient_of p)) (sym (polys_of-leds rules))
-    (ideal_span (polynomials_of rules) p inside))) some
+    (free_span o rules (leds_are letters compare rank laws rules are) p (λ w occurs. over_range letters compare rank laws w (over.at w occurs))
+    (ideal_span (polynomials_of rules) p inside)) some

@@ -18,7 +18,8 @@ use Rattle.confluence.proofs.Meets.{row_bound, poly, Rules, Allowed, Under, Meet
 use Rattle.confluence.proofs.Outside.{AnyRow}
 use Rattle.confluence.proofs.Resolve.{below}
 use Rattle.confluence.proofs.Factors.{Factors}
-use Rattle.confluence.proofs.LedRules.{led_at-is, rule_of_number, ordered, row_poly}
+use Rattle.confluence.proofs.Led.{led_at-is}
+use Rattle.confluence.proofs.LedRules.{ordered, row_poly}
 use Rattle.confluence.proofs.BelowSpans.{below_span}
 use Rattle.confluence.proofs.MeetingsOf.{IsMeeting, overlap_meeting, inclusion_meeting, coefficient_of-s_sum, factors_of}
 
@@ -71,14 +72,14 @@ module _ (letters : ℕ) (compare : Compare) (rank : List ℕ → List ℕ) (law
     pub all_resolved : Resolved order g q
     all_resolved = record {
       overlaps = λ i j s u t hi hj ns nu nt e1 e2 r m.
-          let (f, f_at) = rule_of_number rules i hi in
-          let (h, h_at) = rule_of_number rules j hj in
+          let (f, f_at) = hi in
+          let (h, h_at) = hj in
           subst (λ w. Meets order g q (s ++ w) [] i t s j []) (sym (lead_is j h h_at))
           (from_meeting _ (s ++ h.lead) t s [] (overlap_meeting rules i j f h f_at h_at s u t ns nu nt (sym (lead_is i f f_at) ∙ e1) (sym (lead_is j h h_at) ∙ e2))
           (subst (λ w. q.May (s ++ w)) (lead_is j h h_at) m));
       inclusions = λ i j s t hi hj differ e r m.
-          let (f, f_at) = rule_of_number rules i hi in
-          let (h, h_at) = rule_of_number rules j hj in
+          let (f, f_at) = hi in
+          let (h, h_at) = hj in
           subst (λ w. Meets order g q w [] i [] s j t) (sym (lead_is i f f_at))
           (from_meeting _ f.lead [] s t (inclusion_meeting rules i j f h f_at h_at s t differ (sym (lead_is i f f_at) ∙ e ∙ ap (λ w. s ++ (w ++ t)) (lead_is j h h_at)))
           (subst q.May (lead_is i f f_at) m));

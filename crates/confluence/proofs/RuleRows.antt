@@ -3,6 +3,7 @@ use Rattle.std.proofs.Common.{◌≡◌, ◌≢◌, ℕ, ◌⊎◌, inl, inr, re
 use Rattle.std.proofs.lemmas.Int.{ints}
 use Rattle.definitions.specs.Poly.{coefficient_of, poly_between, Word, Term}
 use Rattle.word_orders.specs.Orders.{Order}
+use Rattle.rule_reduce.specs.declared.rule.Rule.{Rule}
 use Rattle.confluence.proofs.Led.{Led, led_at, HasLed, IsLed, IsAtMostOf}
 use Rattle.confluence.proofs.Integers.{nonzero_or, positive_nat}
 use Rattle.confluence.proofs.Spans.{Coefs, Span, span_add, part}
@@ -36,7 +37,7 @@ module _ (o : Order) where
   pub leading_nonzero : (r : Led) → IsLed o r → coefficient_of r.poly r.lead ≢ pos 0
   leading_nonzero r h z = omega (arith, ints, h.positive, (sym h.at_lead ∙ z))
 
-  module _ (rules : List Led) (ok : (n : ℕ) → HasLed rules n → IsLed o (led_at rules n)) where
+  module _ (rules : List Rule) (ok : (n : ℕ) → HasLed rules n → IsLed o (led_at rules n)) where
     -- a row over the rule with this number
     pub row_at : (q : Allowed o) (n : ℕ) (l r : Word) → HasLed rules n → o.Range (l ++ ((led_at rules n).lead ++ r)) → q.May (l ++ ((led_at rules n).lead ++ r)) → Row o (rules_of o rules ok) q (l ++ ((led_at rules n).lead ++ r)) (coefficient_of (poly_between l (led_at rules n).poly r))
     row_at q n l r h ran may = record {

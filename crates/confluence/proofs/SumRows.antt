@@ -7,14 +7,15 @@ use Rattle.definitions.specs.Poly.{coefficient_of, poly_between, poly_multiple, 
 use Rattle.definitions.specs.Combination.{Row as SumRow, generator_at, row_poly, row_sum, IsCombination}
 use Rattle.definitions.proofs.Coefficients.{coefficient_of-append, coefficient_of-multiple}
 use Rattle.word_orders.specs.Orders.{Order}
-use Rattle.confluence.proofs.Led.{Led, no_led, led_at, HasLed, polys_of, IsLed, IsAskedRow, Comes}
+use Rattle.rule_reduce.specs.RuleLists.{polynomials_of}
+use Rattle.rule_reduce.specs.declared.rule.Rule.{Rule}
+use Rattle.confluence.proofs.Led.{Led, no_led, led_at, HasLed, IsLed, IsAskedRow, Comes, has_decided, poly_at}
 use Rattle.definitions.proofs.Integers.{*ℤ_assoc, *ℤ-+ℤ}
 use Rattle.confluence.proofs.Spans.{Coefs, Span, nothing, more, part, single}
 use Rattle.confluence.proofs.Shifts.{span_bind}
 use Rattle.confluence.proofs.Meets.{poly, Allowed}
 use Rattle.ambiguities.proofs.Multiples.{coefficient_of-around}
 use Rattle.confluence.proofs.Outside.{AnyRow, row_word}
-use Rattle.confluence.proofs.LedLists.{has_decided, poly_at}
 use Rattle.confluence.proofs.Parts.{parted, coefficient_of-parted, rules_of}
 use Rattle.confluence.proofs.Integers.{positive_nat}
 use Rattle.confluence.proofs.RuleRows.{same_between, row_at, leading_nonzero}
@@ -81,13 +82,13 @@ combination_from polys Asked p k = record {
     above : (n : ℕ) → 0 < n → pos 0 <ℤ pos n
     above n h = omega (arith, ints, h)
 
-module _ (o : Order) (rules : List Led) (ok : (n : ℕ) → HasLed rules n → IsLed o (led_at rules n)) (q : Allowed o) (Asked : Word → Type 0) where
+module _ (o : Order) (rules : List Rule) (ok : (n : ℕ) → HasLed rules n → IsLed o (led_at rules n)) (q : Allowed o) (Asked : Word → Type 0) where
   -- a clause's rows over the rules, from a span
-  pub comes_from_span : ((u : Word) → o.Range u → q.May u → Asked u) → (p : List Term) → Span (AnyRow o (rules_of o rules ok) q) (coefficient_of p) → Comes (polys_of rules) Asked p
-  comes_from_span ask p sp = combination_from (polys_of rules) Asked p (listed (polys_of rules) Asked (coefficient_of p) (span_bind _ _ each (coefficient_of p) sp))
+  pub comes_from_span : ((u : Word) → o.Range u → q.May u → Asked u) → (p : List Term) → Span (AnyRow o (rules_of o rules ok) q) (coefficient_of p) → Comes (polynomials_of rules) Asked p
+  comes_from_span ask p sp = combination_from (polynomials_of rules) Asked p (listed (polynomials_of rules) Asked (coefficient_of p) (span_bind _ _ each (coefficient_of p) sp))
     where
-      each : (b : Coefs) → AnyRow o (rules_of o rules ok) q b → Span (Numbered (polys_of rules) Asked) b
-      each b (M, row) = single (Numbered (polys_of rules) Asked) b (record {
+      each : (b : Coefs) → AnyRow o (rules_of o rules ok) q b → Span (Numbered (polynomials_of rules) Asked) b
+      each b (M, row) = single (Numbered (polynomials_of rules) Asked) b (record {
         number = row.number;
         left = row.left;
         right = row.right;
@@ -95,18 +96,18 @@ module _ (o : Order) (rules : List Led) (ok : (n : ℕ) → HasLed rules n → I
         asked = λ w n. from_word w n (row_word o (rules_of o rules ok) q M (row.left ++ (w ++ row.right)) b row);
       })
         where
-          by_poly : (w : Word) → b w ≡ coefficient_of (poly_between row.left (generator_at (polys_of rules) row.number) row.right) w
+          by_poly : (w : Word) → b w ≡ coefficient_of (poly_between row.left (generator_at (polynomials_of rules) row.number) row.right) w
           by_poly w = row.is w ∙ same_between row.left row.right (poly (parted (led_at rules row.number))) (led_at rules row.number).poly (coefficient_of-parted o (led_at rules row.number) (ok row.number row.has)) w ∙ ap (λ z. coefficient_of (poly_between row.left z row.right) w) (sym (poly_at rules row.number))
 
-          from_word : (w : Word) → coefficient_of (generator_at (polys_of rules) row.number) w ≢ pos 0 → (b (row.left ++ (w ++ row.right)) ≡ pos 0) ⊎ (o.Range (row.left ++ (w ++ row.right)) × q.May (row.left ++ (w ++ row.right))) → Asked (row.left ++ (w ++ row.right))
-          from_word w n (inl z) = absurd (n (sym (coefficient_of-around row.left row.right w (generator_at (polys_of rules) row.number)) ∙ sym (by_poly (row.left ++ (w ++ row.right))) ∙ z))
+          from_word : (w : Word) → coefficient_of (generator_at (polynomials_of rules) row.number) w ≢ pos 0 → (b (row.left ++ (w ++ row.right)) ≡ pos 0) ⊎ (o.Range (row.left ++ (w ++ row.right)) × q.May (row.left ++ (w ++ row.right))) → Asked (row.left ++ (w ++ row.right))
+          from_word w n (inl z) = absurd (n (sym (coefficient_of-around row.left row.right w (generator_at (polynomials_of rules) row.number)) ∙ sym (by_poly (row.left ++ (w ++ row.right))) ∙ z))
           from_word w n (inr k) = ask _ k.0 k.1
 
   -- and back, where what is asked is to be in range and a possible top
-  pub span_from_numbered : ((u : Word) → Asked u → o.Range u × q.May u) → (f : Coefs) → Span (Numbered (polys_of rules) Asked) f → Span (AnyRow o (rules_of o rules ok) q) f
+  pub span_from_numbered : ((u : Word) → Asked u → o.Range u × q.May u) → (f : Coefs) → Span (Numbered (polynomials_of rules) Asked) f → Span (AnyRow o (rules_of o rules ok) q) f
   span_from_numbered ask f sp = span_bind _ _ each f sp
     where
-      each : (b : Coefs) → Numbered (polys_of rules) Asked b → Span (AnyRow o (rules_of o rules ok) q) b
+      each : (b : Coefs) → Numbered (polynomials_of rules) Asked b → Span (AnyRow o (rules_of o rules ok) q) b
       each b k = go (has_decided rules k.number)
         where
           by_rule : (w : Word) → b w ≡ coefficient_of (poly_between k.left (led_at rules k.number).poly k.right) w
@@ -119,5 +120,5 @@ module _ (o : Order) (rules : List Led) (ok : (n : ℕ) → HasLed rules n → I
               top : o.Range (k.left ++ ((led_at rules k.number).lead ++ k.right)) × q.May (k.left ++ ((led_at rules k.number).lead ++ k.right))
               top = ask _ (k.asked (led_at rules k.number).lead (λ z. leading_nonzero o (led_at rules k.number) (ok k.number h) (ap (λ y. coefficient_of y (led_at rules k.number).lead) (sym (poly_at rules k.number)) ∙ z)))
 
-  pub span_from_comes : ((u : Word) → Asked u → o.Range u × q.May u) → (p : List Term) → Comes (polys_of rules) Asked p → Span (AnyRow o (rules_of o rules ok) q) (coefficient_of p)
-  span_from_comes ask p c = span_from_numbered ask (coefficient_of p) (combination_span (polys_of rules) Asked c.rows c.multiplier p c.combination c.within)
+  pub span_from_comes : ((u : Word) → Asked u → o.Range u × q.May u) → (p : List Term) → Comes (polynomials_of rules) Asked p → Span (AnyRow o (rules_of o rules ok) q) (coefficient_of p)
+  span_from_comes ask p c = span_from_numbered ask (coefficient_of p) (combination_span (polynomials_of rules) Asked c.rows c.multiplier p c.combination c.within)

@@ -18,7 +18,8 @@ use Rattle.rule_reduce.specs.RuleLists.{IsRule}
 use Rattle.ambiguities.specs.Resolved.{is_below}
 use Rattle.adjoint_rules.specs.declared.parts.Parts.{Parts}
 use Rattle.adjoint_rules.specs.Problem.{numbers, is_in_play}
-use Rattle.confluence.proofs.LedRules.{led_at-is, has_led, ordered}
+use Rattle.confluence.proofs.Led.{led_at-is}
+use Rattle.confluence.proofs.LedRules.{ordered}
 use Rattle.confluence.proofs.Meets.{Rules}
 use Rattle.normal_forms.specs.Fractions.{Fraction, is_zero, fractions}
 use Rattle.normal_forms.specs.Forms.{Form, multiple_form, product_form, collected}
@@ -113,7 +114,7 @@ module _ (p : Parts) (rules : List Rule) (are : All (IsRule (letter_count p.quiv
 
   nowhere : (w : Word) → Irreducible rationals word_order word_rules w → All (λ g. OccursNowhere w g.lead) rules
   nowhere w irreducible = from_numbers (λ g. OccursNowhere w g.lead) rules
-      (λ n g numbered place at. irreducible.at (suc n) at.before at.after (has_led rules (suc n) g numbered)
+      (λ n g numbered place at. irreducible.at (suc n) at.before at.after ((g, numbered))
       (at.splits ∙ ap (λ x. at.before ++ (x.lead ++ at.after)) (sym (led_at-is rules (suc n) g numbered))))
 
   irreducible_from : (w : Word) → All (λ g. OccursNowhere w g.lead) rules → Irreducible rationals word_order word_rules w

@@ -22,8 +22,8 @@ use Rattle.rule_reduce.proofs.WordsKept.{split_at}
 use Rattle.ambiguities.specs.Resolved.{is_below}
 use Rattle.confluence.proofs.TermWords.{AllWords}
 use Rattle.confluence.proofs.Tests.{below_from_test, test_from_below}
-use Rattle.confluence.proofs.Led.{Led, HasLed, led_at}
-use Rattle.confluence.proofs.LedRules.{ordered, led_of, leds_of, led_at-is, has_led, rule_of_number}
+use Rattle.confluence.proofs.Led.{Led, HasLed, led_at, led_of, led_at-is}
+use Rattle.confluence.proofs.LedRules.{ordered}
 use Rattle.confluence.proofs.Meets.{Rules}
 use Rattle.confluence.proofs.Parts.{filtered, is_lower, parted}
 use Rattle.normal_forms.specs.Forms.{Form, with_words}
@@ -95,11 +95,10 @@ module _ {K : Type 0} (k : Field K) (letters : ℕ) (compare : Compare) (rank : 
   below = is_below letters compare
 
   pub no_lead : {word : Word} → HasNoLead rules word → Irreducible k o g word
-  no_lead {word} none = record { at = λ i l r has e. at i l r e (rule_of_number rules i has) }
-    where
-      at : (i : ℕ) (l r : Word) → word ≡ l ++ ((g.rule i).lead ++ r) → ((f : Rule) × (rule_at rules i ≡ Some f)) → ⊥
-      at i l r e (f, numbered) = rule_at-all (λ f. OccursNowhere word f.lead) rules i f numbered none (length l)
-          (record { before = l; after = r; splits = e ∙ ap (λ x. l ++ (x.lead ++ r)) (led_at-is rules i f numbered); at_place = refl })
+  no_lead {word} none = record {
+    at = λ i l r (f, numbered) e. rule_at-all (λ f. OccursNowhere word f.lead) rules i f numbered none (length l)
+        (record { before = l; after = r; splits = e ∙ ap (λ x. l ++ (x.lead ++ r)) (led_at-is rules i f numbered); at_place = refl });
+  }
 
   -- what a term of a rule is replaced by, written both ways
   factor : (q : ℕ) (c : ℤ) → k.times (k.times (k.minus (k.int c)) (k.part q)) k.one ≡ k.times (k.minus (k.times k.one (k.part q))) (k.int c)
@@ -150,10 +149,10 @@ module _ {K : Type 0} (k : Field K) (letters : ℕ) (compare : Compare) (rank : 
           r : Word
           r = drop (f.1 + length f.0.lead) M
 
-          has : HasLed (leds_of rules) found.number
-          has = has_led rules found.number f.0 found.numbered
+          has : HasLed rules found.number
+          has = (f.0, found.numbered)
 
-          is : led_at (leds_of rules) found.number ≡ led_of f.0
+          is : led_at rules found.number ≡ led_of f.0
           is = led_at-is rules found.number f.0 found.numbered
 
           splits : M ≡ l ++ ((g.rule found.number).lead ++ r)
