@@ -3,6 +3,7 @@ use Rattle.std.proofs.Common.{◌≡◌, ◌≢◌, ◌⊎◌, inl, inr, ◌≤�
 use Rattle.std.specs.List.{All}
 use Rattle.std.proofs.lemmas.Int.{ints}
 use Rattle.std.proofs.lemmas.List.{length-append}
+use Rattle.std.proofs.lemmas.Option.{slice_get_within}
 use Rattle.std.proofs.lemmas.List.Elements.{All-append, All-cons, All-nil, All-weaker}
 use Rattle.definitions.specs.Poly.{Word, Term, coefficient_of, poly_multiple}
 use Rattle.definitions.specs.Combination.{generator_at}
@@ -41,11 +42,6 @@ slice_get-which (z ∷ xs) y x (suc n) is = elim (slice_get-which xs y x n is) [
   | inl old ↦ inl old
   | inr (last, same) ↦ inr (ap suc last, same)
 ]
-
-slice_get-inside : {X : Type 0} (xs : List X) (n : ℕ) (x : X) → slice_get xs n ≡ Some x → n < length xs
-slice_get-inside [] n x is = absurd (cc)
-slice_get-inside (y ∷ xs) zero x is = omega arith
-slice_get-inside (y ∷ xs) (suc n) x is = let rest : n < length xs = slice_get-inside xs n x is in omega arith
 
 pub slice_get-last : (rules : List Rule) (g : Rule) → slice_get (rules ++ (g ∷ [])) (length rules) ≡ Some g
 slice_get-last [] g = refl
@@ -129,7 +125,7 @@ module _ (letters : ℕ) (compare : Compare) (rank : List ℕ → List ℕ) (law
     where
       go : (place : ℕ) (n : Made) → (slice_get made place ≡ Some n) ⊎ ((place ≡ length made) × (n ≡ m)) → Traces generators (polynomials_of (rules ++ (g ∷ []))) n (generator_at (polynomials_of (rules ++ (g ∷ []))) (suc place))
       go place n (inl old) =
-          let inside = slice_get-inside made place n old in
+          let inside = slice_get_within made place n old in
           let within : suc place ≤ length rules = omega (arith, inside, kept.recorded.one_each) in
           let before : place ≤ length rules = omega (arith, within) in
           subst (Traces generators (polynomials_of (rules ++ (g ∷ []))) n) (sym (polynomial-more rules (g ∷ []) (suc place) within))

@@ -34,6 +34,7 @@ use Rattle.confluence.proofs.ZeroRestLaws.{zero_rests_are_inside, zero_rests_are
 use Rattle.confluence.specs.Rests.{generator_rows, IsAppended, rule_made}
 use Rattle.confluence.specs.Kept.{HaveLettersBelow, Kept}
 use Rattle.confluence.specs.Conclusions.{AreAllDone, NothingPending}
+use Rattle.confluence.proofs.ShapeLaws.{zero_is_shaped}
 use Rattle.confluence.proofs.Steps.{start_is_kept, generators_are_kept}
 use Rattle.confluence.proofs.Treating.{resolved_at_once_is_kept}
 use Rattle.confluence.proofs.OutsideIdeals.{nonzero_is_outside}
@@ -117,14 +118,11 @@ word = refl
 difference : s_polynomial_of (rule ∷ []) itself ≡ Ok []
 difference = refl
 
-zero_shaped : IsShaped []
-zero_shaped = shaped_as_written [] tt tt tt
-
 rules_are : All (IsRule 1 word_cmp) (rule ∷ [])
 rules_are = all_one (IsRule 1 word_cmp) rule is_rule
 
 zero_reduced : IsReduced 1 word_cmp (rule ∷ []) [] (start_of [])
-zero_reduced = normal_forms_are_reduced 1 word_cmp (rank_of 1) (rule ∷ []) [] 0 (start_of []) laws rules_are zero_shaped (All-nil (λ (t : Term). IsOver 1 t.1)) refl
+zero_reduced = normal_forms_are_reduced 1 word_cmp (rank_of 1) (rule ∷ []) [] 0 (start_of []) laws rules_are zero_is_shaped (All-nil (λ (t : Term). IsOver 1 t.1)) refl
 
 closed : Kept 1 word_cmp generators (rule ∷ []) (made ∷ []) (1 ∷ []) (itself ∷ [])
 closed = resolved_at_once_is_kept 1 word_cmp (rank_of 1) generators (rule ∷ []) [] (made ∷ []) (1 ∷ []) [] itself [] (start_of []) laws after_round_zero is_one

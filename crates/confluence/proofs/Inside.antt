@@ -68,14 +68,12 @@ module _ (generators : List (List Term)) where
         step (suc place) before first last = of_record (slice_some made place (omega (arith, last, recorded.one_each)))
           where
             of_record : ((m : Made) × (slice_get made place ≡ Some m)) → FromGenerators (generator_at (polynomials_of rules) (suc place))
-            of_record (m, found) = go (positive_nat m.scale (recorded.each place m found).positive)
+            of_record (m, found) = let (k, above, scale) = positive_nat m.scale (recorded.each place m found).positive in
+                part (coefficient_of (generator_at (polynomials_of rules) (suc place))) (coefficient_of (traced_sum generators (polynomials_of rules) m.rows)) k above rows
+                    (λ w. (recorded.traces.at place m found).at w ∙ coefficient_of-multiple m.scale (generator_at (polynomials_of rules) (suc place)) w ∙ ap (λ z. z *ℤ coefficient_of (generator_at (polynomials_of rules) (suc place)) w) scale)
               where
                 rows : FromGenerators (traced_sum generators (polynomials_of rules) m.rows)
                 rows = from_rows (polynomials_of rules) place (λ j above within. before j (omega (arith, within)) above (omega (arith, within, last))) m.rows (recorded.each place m found).earlier
-
-                go : ((k : ℕ) × (0 < k) × (m.scale ≡ pos k)) → FromGenerators (generator_at (polynomials_of rules) (suc place))
-                go (k, above, scale) = part (coefficient_of (generator_at (polynomials_of rules) (suc place))) (coefficient_of (traced_sum generators (polynomials_of rules) m.rows)) k above rows
-                    (λ w. (recorded.traces.at place m found).at w ∙ coefficient_of-multiple m.scale (generator_at (polynomials_of rules) (suc place)) w ∙ ap (λ z. z *ℤ coefficient_of (generator_at (polynomials_of rules) (suc place)) w) scale)
 
     pub rule_inside : (n : ℕ) (g : Rule) → rule_at rules n ≡ Some g → InRationalIdeal generators g.poly.terms
     rule_inside n g numbered = in_ideal generators g.poly.terms (subst FromGenerators (rule_at-polynomial rules n g numbered) (rule_from_generators n (rule_at-first rules n g numbered) (rule_at-last rules n g numbered)))

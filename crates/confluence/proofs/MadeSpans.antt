@@ -5,6 +5,7 @@ use Rattle.std.proofs.Math.IntN.{+ℤ_idr}
 use Rattle.std.specs.List.{All}
 use Rattle.definitions.specs.Poly.{Word, Term, SamePolynomial, coefficient_of, poly_multiple, poly_between}
 use Rattle.definitions.proofs.Coefficients.{coefficient_of-multiple}
+use Rattle.nc_polynomial.proofs.Kept.{product_nonzero}
 use Rattle.word_orders.specs.Admissible.{Compare, IsAdmissible}
 use Rattle.word_orders.specs.Orders.{Order}
 use Rattle.word_orders.proofs.Orders.{order_from_laws}
@@ -33,12 +34,7 @@ pub record IsAccounted (rules : List Rule) (rest : List Term) : Type 0 where
 
 -- an integer that isn't zero can be cancelled
 pub cancel_nonzero : (c x : ℤ) → c ≢ pos 0 → c *ℤ x ≡ pos 0 → x ≡ pos 0
-cancel_nonzero (pos zero) x some e = absurd (some refl)
-cancel_nonzero (pos (suc n)) x some e = *ℤ_cancel (suc n) x (omega arith) e
-cancel_nonzero (negsuc n) x some e = *ℤ_cancel (suc n) x (omega arith) (turned (neg_ℤ-*ℤ (pos (suc n)) x) e)
-  where
-    turned : (negsuc n *ℤ x ≡ neg_ℤ (pos (suc n) *ℤ x)) → negsuc n *ℤ x ≡ pos 0 → pos (suc n) *ℤ x ≡ pos 0
-    turned same none = let z : neg_ℤ (pos (suc n) *ℤ x) ≡ pos 0 = sym same ∙ none in omega (arith, ints, z)
+cancel_nonzero c x some e = elim (nonzero_or x) [ inl none ↦ none | inr n ↦ absurd (product_nonzero c x some n e) ]
 
 module _ (letters : ℕ) (compare : Compare) (rank : List ℕ → List ℕ) (laws : IsAdmissible letters compare rank) where
   abbrev order : Order

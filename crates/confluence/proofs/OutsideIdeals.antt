@@ -91,19 +91,18 @@ module _ (letters : ℕ) (compare : Compare) (rank : List ℕ → List ℕ) (law
 
   -- a row over a generator whose words are below the bound comes from rows over rules below it
   row_below : (b : Coefs) → Numbered generators Lower b → Span (AnyRow order (ordered letters compare rank laws rules are) (below order bound)) b
-  row_below b row = go (generator_decided generators row.number)
+  row_below b row = elim (generator_decided generators row.number) [
+    | inr none ↦ nothing b (λ w. row.is w ∙ ap (λ z. coefficient_of (poly_between row.left z row.right) w) none)
+    | inl named ↦ piece_span order (ordered letters compare rank laws rules are) (below order bound) (generator_at generators row.number) b
+        (reached_span letters compare rank laws rules are (generator_at generators row.number) (over row.number) (All-contains (λ n. IsReached letters compare rules (generator_at generators n)) done row.number reached (all row.number named.0 named.1)))
+        (record { left = row.left; right = row.right; words = words; is = row.is })
+  ]
     where
       words : (w : Word) → (coefficient_of (poly_between row.left (generator_at generators row.number) row.right) w ≡ pos 0) ⊎ (order.Range w × order.Less w bound)
       words w = elim (between_word row.left row.right (generator_at generators row.number) w) [
         | inl none ↦ inl none
         | inr (v, is, some) ↦ inr (subst (λ u. order.Range u × order.Less u bound) (sym is) (order.less_range _ bound (row.asked v some), row.asked v some))
       ]
-
-      go : ((1 ≤ row.number) × (row.number ≤ length generators)) ⊎ (generator_at generators row.number ≡ []) → Span (AnyRow order (ordered letters compare rank laws rules are) (below order bound)) b
-      go (inr none) = nothing b (λ w. row.is w ∙ ap (λ z. coefficient_of (poly_between row.left z row.right) w) none)
-      go (inl named) = piece_span order (ordered letters compare rank laws rules are) (below order bound) (generator_at generators row.number) b
-          (reached_span letters compare rank laws rules are (generator_at generators row.number) (over row.number) (All-contains (λ n. IsReached letters compare rules (generator_at generators n)) done row.number reached (all row.number named.0 named.1)))
-          (record { left = row.left; right = row.right; words = words; is = row.is })
 
   pub below_rules : (p : List Term) → ComesBelow letters compare generators bound p → ComesBelow letters compare (polynomials_of rules) bound p
   below_rules p comes =

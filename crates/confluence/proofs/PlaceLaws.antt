@@ -79,13 +79,12 @@ module _ (rules : List Rule) (word : Word) where
 
     -- the second leading word begins where the first does, and is longer
     longer : (t : Word) → SomeLetters t → q.rule.lead ≡ p.rule.lead ++ t → q.left ≡ p.left → p.right ≡ t ++ q.right → OneWay
-    longer t some splits left right = by_number (same_nat p.number q.number)
-      where
-        by_number : (p.number ≡ q.number) ⊎ (p.number ≢ q.number) → OneWay
-        by_number (inl same) = absurd (omega (arith, ap length (one_lead same), ap length splits, length-append p.rule.lead t, some_length t some))
-        by_number (inr differ) = inr (inr (inr (from_meeting q p (record { i = q.number; j = p.number; kind = Inclusion; place = 0 }) q.rule.lead [] [] t q.left q.right
-            (inclusion_meeting rules q.number p.number q.rule p.rule is_q.numbered is_p.numbered [] t (λ e. differ (sym e)) splits)
-            refl refl is_q.splits refl refl (sym left ∙ sym (append-nil q.left)) right)))
+    longer t some splits left right = elim (same_nat p.number q.number) [
+      | inl same ↦ absurd (omega (arith, ap length (one_lead same), ap length splits, length-append p.rule.lead t, some_length t some))
+      | inr differ ↦ inr (inr (inr (from_meeting q p (record { i = q.number; j = p.number; kind = Inclusion; place = 0 }) q.rule.lead [] [] t q.left q.right
+          (inclusion_meeting rules q.number p.number q.rule p.rule is_q.numbered is_p.numbered [] t (λ e. differ (sym e)) splits)
+          refl refl is_q.splits refl refl (sym left ∙ sym (append-nil q.left)) right)))
+    ]
 
     one_way : Placed p.rule.lead q.rule.lead p.left p.right q.left q.right → OneWay
     one_way (apart m left right) = inr (inl (record { between = m; left = left; right = right }))
@@ -103,21 +102,19 @@ places_of_one_word rules word p q is_p is_q = go (two_places p.rule.lead q.rule.
     Goal : Type 0
     Goal = IsOnePlace p q ⊎ ((IsApart p q ⊎ IsApart q p) ⊎ (IsFromAmbiguity rules word p q ⊎ IsFromAmbiguity rules word q p))
 
-    there : OneWay rules word p q is_p is_q → Goal
-    there (inl one) = inl one
-    there (inr (inl far)) = inr (inl (inl far))
-    there (inr (inr (inl from))) = inr (inr (inl from))
-    there (inr (inr (inr from))) = inr (inr (inr from))
-
-    back : OneWay rules word q p is_q is_p → Goal
-    back (inl one) = inl (record { number = sym one.number; left = sym one.left; right = sym one.right })
-    back (inr (inl far)) = inr (inl (inr far))
-    back (inr (inr (inl from))) = inr (inr (inr from))
-    back (inr (inr (inr from))) = inr (inr (inl from))
-
     go : EitherWay p.rule.lead q.rule.lead p.left p.right q.left q.right → Goal
-    go (first placed) = there (one_way rules word p q is_p is_q placed)
-    go (second placed) = back (one_way rules word q p is_q is_p placed)
+    go (first placed) = elim (one_way rules word p q is_p is_q placed) [
+      | inl one ↦ inl one
+      | inr (inl far) ↦ inr (inl (inl far))
+      | inr (inr (inl from)) ↦ inr (inr (inl from))
+      | inr (inr (inr from)) ↦ inr (inr (inr from))
+    ]
+    go (second placed) = elim (one_way rules word q p is_q is_p placed) [
+      | inl one ↦ inl (record { number = sym one.number; left = sym one.left; right = sym one.right })
+      | inr (inl far) ↦ inr (inl (inr far))
+      | inr (inr (inl from)) ↦ inr (inr (inr from))
+      | inr (inr (inr from)) ↦ inr (inr (inl from))
+    ]
 
 module _ (letters : ℕ) (compare : Compare) (rank : List ℕ → List ℕ) (rules : List Rule) (word : Word) (p q : Place) (laws : IsAdmissible letters compare rank) (are : All (IsRule letters compare) rules) (over : IsOver letters word) (is_p : IsPlace rules word p) (is_q : IsPlace rules word q) (far : IsApart p q) where
   abbrev o : Order

@@ -14,6 +14,7 @@ use Rattle.rule_reduce.specs.declared.state.State.{State}
 use Rattle.rule_reduce.specs.RuleLists.{IsRule, polynomials_of}
 use Rattle.rule_reduce.specs.KeptWords.{IsAtMostOf}
 use Rattle.confluence.specs.Reductions.{IsZero, IsReduced}
+use Rattle.confluence.proofs.Integers.{second_part}
 use Rattle.confluence.proofs.Led.{IsAtMostOf as IsAtMostIn}
 use Rattle.confluence.proofs.LedRules.{leds_are, ordered}
 use Rattle.confluence.proofs.Meets.{Allowed}
@@ -34,11 +35,8 @@ numbered_span letters compare rules p s reduced Asked asked =
     span_same (Numbered (polynomials_of rules) Asked) (coefficient_of (traced_sum [] (polynomials_of rules) s.rows)) (reduced_part p s)
     (numbered_rows (polynomials_of rules) Asked (length rules) s.rows reduced.by_rules
     (All-weaker (IsAsked (polynomials_of rules) (IsAtMostOf letters compare p)) (IsAsked (polynomials_of rules) Asked) (λ row each w some. asked (row.left ++ (w ++ row.right)) (each w some)) s.rows reduced.words.rows))
-    (λ w. moved (s.multiplier *ℤ coefficient_of p w) (coefficient_of s.rest w) (coefficient_of (traced_sum [] (polynomials_of rules) s.rows) w)
+    (λ w. second_part (s.multiplier *ℤ coefficient_of p w) (coefficient_of s.rest w) (coefficient_of (traced_sum [] (polynomials_of rules) s.rows) w)
     (sym (coefficient_of-multiple s.multiplier p w) ∙ reduced.balances.at w ∙ coefficient_of-append s.rest (traced_sum [] (polynomials_of rules) s.rows) w))
-  where
-    moved : (x a t : ℤ) → x ≡ a +ℤ t → x +ℤ neg_ℤ a ≡ t
-    moved x a t e = omega (arith, ints, e)
 
 module _ (letters : ℕ) (compare : Compare) (rank : List ℕ → List ℕ) (laws : IsAdmissible letters compare rank) where
   abbrev order : Order

@@ -31,10 +31,8 @@ module _ (letters : ℕ) (compare : Compare) (rank : List ℕ → List ℕ) (law
 
   -- where a row ends at a word, the leading word of its rule occurs there
   reducible_row : (q : Allowed order) (word : Word) (b : Coefs) → Row order (ordered letters compare rank laws rules are) q word b → IsReducible rules word
-  reducible_row q word b row = go (row.has)
-    where
-      go : ((g : Rule) × (rule_at rules row.number ≡ Some g)) → IsReducible rules word
-      go (g, numbered) = record {
+  reducible_row q word b row = let (g, numbered) = row.has in
+      record {
         number = row.number;
         rule = g;
         numbered = numbered;

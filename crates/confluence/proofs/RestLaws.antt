@@ -20,7 +20,7 @@ use Rattle.rule_reduce.proofs.Multipliers.{multipliers_are_positive}
 use Rattle.rule_reduce.proofs.Numbers.{rule_at-all}
 use Rattle.rule_reduce.proofs.RowsByRules.{rows_are_by_rules}
 use Rattle.rule_reduce.proofs.WordsKept.{words_with_coefficients}
-use Rattle.confluence.specs.Reductions.{IsNonzero, IsZero, IsReduced, NormalFormsAreReduced}
+use Rattle.confluence.specs.Reductions.{HasLettersBelow, IsNonzero, IsZero, IsReduced, NormalFormsAreReduced}
 use Rattle.confluence.specs.Reducible.{IsReducible, HasReducibleGreatest, RestsBelowAreZero, RestsOfIdealAreZero}
 use Rattle.confluence.proofs.Integers.{nonzero_or}
 use Rattle.confluence.proofs.Spans.{Span, span_same, span_add, span_scale}
@@ -48,6 +48,16 @@ not_reducible rules p irreducible w some reducible =
     let nowhere = words_with_coefficients (λ v. All (λ g. OccursNowhere v g.lead) rules) p irreducible w some in
     rule_at-all (λ g. OccursNowhere w g.lead) rules reducible.number reducible.rule reducible.numbered nowhere reducible.place reducible.occurs
 
+-- the letters of the rest are those of the polynomial
+pub rest_over : (letters : ℕ) (compare : Compare) (rules : List Rule) (p : List Term) (s : State) → HasLettersBelow letters p → IsReduced letters compare rules p s
+    → HasLettersBelow letters s.rest
+rest_over letters compare rules p s over reduced = record {
+  at = λ w some. let most = reduced.words.rest w some in elim most.at_most [
+    | inl same ↦ subst (IsOver letters) (sym same) (over.at most.word most.occurs)
+    | inr below ↦ below.left
+  ];
+}
+
 module _ (letters : ℕ) (compare : Compare) (rules : List Rule) (p : List Term) (s : State) (reduced : IsReduced letters compare rules p s) where
   -- without a reducible greatest word the rest is zero
   zero_rest : (IsNonzero s.rest → HasReducibleGreatest letters compare rules s.rest) → IsZero s.rest
@@ -68,13 +78,7 @@ pub rests_of_ideal_are_zero : RestsOfIdealAreZero
 rests_of_ideal_are_zero letters compare rank rules p s laws are resolved inside over reduced =
     let polys = polynomials_of rules in
     let rest_inside = in_ideal polys s.rest (rest_span letters compare rules p s reduced Free (λ w most. tt) (ideal_span polys p inside)) in
-    zero_rest letters compare rules p s reduced (reducible_in_ideal letters compare rank rules s.rest laws are resolved rest_inside (record { at = λ w some. of_word w (reduced.words.rest w some) }))
-  where
-    of_word : (w : Word) → IsAtMostOf letters compare p w → IsOver letters w
-    of_word w most = elim most.at_most [
-      | inl same ↦ subst (IsOver letters) (sym same) (over.at most.word most.occurs)
-      | inr below ↦ below.left
-    ]
+    zero_rest letters compare rules p s reduced (reducible_in_ideal letters compare rank rules s.rest laws are resolved rest_inside (rest_over letters compare rules p s over reduced))
 
 pub rests_below_are_zero : RestsBelowAreZero
 rests_below_are_zero letters compare rank rules bound p s laws are resolved comes reduced =

@@ -33,6 +33,7 @@ use Rattle.rule_reduce.proofs.Exits.{multiplied-scaled}
 use Rattle.rule_reduce.proofs.Runs.{move_result-value}
 use Rattle.ambiguities.specs.SPolynomials.{first_row, second_row, row_multiple}
 use Rattle.ambiguities.proofs.Multiples.{passed}
+use Rattle.confluence.proofs.RestLaws.{rest_over}
 use Rattle.confluence.proofs.WrittenTerms.{shaped_as_written}
 use Rattle.confluence.specs.Shapes.{NormalFormsAreShaped, SPolynomialsAreShaped, RestsHaveLettersBelow}
 
@@ -72,7 +73,7 @@ combined_shaped a p b q r p_shaped q_shaped ends =
     (shaped_scale b q (scaled b q) q_shaped (fits (products b q) (scaled b q) two.first))
     (fits (sums (scaled a p) (scaled b q)) (added (scaled a p) (scaled b q)) two.rest))
 
-zero_is_shaped : IsShaped []
+pub zero_is_shaped : IsShaped []
 zero_is_shaped = shaped_as_written [] tt tt tt
 
 -- the polynomial of a rule, and zero where there is none
@@ -154,10 +155,5 @@ normal_forms_are_shaped compare rules p steps s shaped ends = reduction_shaped c
 
 pub rests_have_letters_below : RestsHaveLettersBelow
 rests_have_letters_below letters compare rules p s over reduced shaped =
-    words_listed (IsOver letters) s.rest (distinct-descending s.rest (recursion_from_IsDescending s.rest shaped.descending)) shaped.nonzero (λ w some. of_word w (reduced.words.rest w some))
-  where
-    of_word : (w : Word) → IsAtMostOf letters compare p w → IsOver letters w
-    of_word w most = elim most.at_most [
-      | inl same ↦ subst (IsOver letters) (sym same) (over.at most.word most.occurs)
-      | inr below ↦ below.left
-    ]
+    words_listed (IsOver letters) s.rest (distinct-descending s.rest (recursion_from_IsDescending s.rest shaped.descending)) shaped.nonzero
+    (rest_over letters compare rules p s over reduced).at

@@ -1,6 +1,7 @@
 -- Between rows with a multiplier and spans.
 use Rattle.std.proofs.Common.{◌≡◌, ◌≢◌, ℕ, ◌*◌, ◌<◌, ◌⊎◌, inl, inr, refl, arith, sym, ap, ◌∙◌, List, [], ◌∷◌, ◌++◌, ℤ, pos, ◌+ℤ◌, ◌*ℤ◌, ◌<ℤ◌}
 use Rattle.std.proofs.lemmas.Int.{ints}
+use Rattle.std.proofs.Math.Nat.{mul-pos}
 use Rattle.std.specs.List.{All}
 use Rattle.std.proofs.lemmas.List.Elements.{All-nil, All-cons, All-tail}
 use Rattle.definitions.specs.Poly.{coefficient_of, poly_between, poly_multiple, Word, Term}
@@ -38,10 +39,8 @@ pub record Numbered (polys : List (List Term)) (Asked : Word → Type 0) (b : Co
 
 pub listed : (polys : List (List Term)) (Asked : Word → Type 0) (f : Coefs) → Span (Numbered polys Asked) f → Listed polys Asked f
 listed polys Asked _ (nothing f h) = record { multiplier = 1; positive = omega arith; rows = []; sum = λ w. sym (ap (λ z. pos 1 *ℤ z) (h w)); within = All-nil (IsAskedRow polys Asked) }
-listed polys Asked _ (more f g b c hb hg h) = go (listed polys Asked g hg)
-  where
-    go : Listed polys Asked g → Listed polys Asked f
-    go k = record {
+listed polys Asked _ (more f g b c hb hg h) = let k = listed polys Asked g hg in
+    record {
       multiplier = k.multiplier;
       positive = k.positive;
       rows = record { coefficient = pos k.multiplier *ℤ c; left = hb.left; generator = hb.number; right = hb.right } ∷ k.rows;
@@ -50,12 +49,10 @@ listed polys Asked _ (more f g b c hb hg h) = go (listed polys Asked g hg)
           ∙ ap (λ z. pos k.multiplier *ℤ (c *ℤ b w) +ℤ z) (k.sum w) ∙ sym (*ℤ-+ℤ (pos k.multiplier) (c *ℤ b w) (g w)) ∙ ap (λ z. pos k.multiplier *ℤ z) (sym (h w));
       within = All-cons (IsAskedRow polys Asked) (record { coefficient = pos k.multiplier *ℤ c; left = hb.left; generator = hb.number; right = hb.right }) k.rows hb.asked k.within;
     }
-listed polys Asked _ (part f g e pe hg h) = go (listed polys Asked g hg)
-  where
-    go : Listed polys Asked g → Listed polys Asked f
-    go k = record {
+listed polys Asked _ (part f g e pe hg h) = let k = listed polys Asked g hg in
+    record {
       multiplier = k.multiplier * e;
-      positive = grind arith;
+      positive = mul-pos k.positive pe;
       rows = k.rows;
       sum = λ w. k.sum w ∙ ap (λ z. pos k.multiplier *ℤ z) (h w) ∙ sym (*ℤ_assoc (pos k.multiplier) (pos e) (f w));
       within = k.within;

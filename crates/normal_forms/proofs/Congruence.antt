@@ -1,6 +1,7 @@
 -- Polynomials that differ by a sum of rows over the rules, with multipliers in the field.
 use Rattle.std.proofs.Common.{◌≡◌, ◌⊎◌, inl, inr, ℕ, ◌<◌, ◌*◌, refl, sym, ap, ap₂, subst, ◌∙◌, Bool, true, false, cond, List, [], ◌∷◌, ◌++◌, append_assoc, arith, ℤ, pos, ◌+ℤ◌, ◌*ℤ◌, neg_ℤ}
 use Rattle.std.proofs.lemmas.Int.{ints}
+use Rattle.std.proofs.Math.Nat.{mul-pos}
 use Rattle.normal_forms.proofs.Field.{Field}
 use Rattle.definitions.specs.Poly.{Word, Term, word_eq, coefficient_of, poly_between}
 use Rattle.confluence.proofs.TermWords.{map_words}
@@ -26,9 +27,6 @@ no_reducible_word {o} {g} res {f} top span = elim (zero_or_reducible o g (everyt
   | inl zero ↦ zero
   | inr found ↦ absurd (found.occurs (top found.word found.row.0 found.row.1))
 ]
-
-pos_mul : {x y : ℕ} → 0 < x → 0 < y → 0 < x * y
-pos_mul p q = grind arith
 
 module _ {K : Type 0} {k : Field K} where
   pub alike_refl : (p : Form K) → Alike k p p
@@ -188,7 +186,7 @@ module _ {K : Type 0} (k : Field K) (o : Order) (g : Rules o) where
       by_parts d (a, n, h', e') = record {
         denominator = n * d.denominator;
         difference = λ w. (pos d.denominator *ℤ a) *ℤ b w +ℤ pos n *ℤ d.difference w;
-        positive = pos_mul h' d.positive;
+        positive = mul-pos h' d.positive;
         span = more _ (λ w. pos n *ℤ d.difference w) b (pos d.denominator *ℤ a)
             (_, record { number = i; has = h; left = l; right = r; top = refl; range = m; may = tt; is = λ w. refl })
             (span_scale (AnyRow o g) (pos n) d.difference d.span) (λ w. refl);

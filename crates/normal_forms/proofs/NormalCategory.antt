@@ -383,10 +383,8 @@ module _ {K : Type 0} (k : Field K) (s : Ground k) where
     unit_back : {x : ℕ} (y : ℕ) (c : K) (w : Word) → x < s.quiver.objects → s.marked x ≡ true → Good x y w
         → Like ((k.times c k.one, w ++ (x ∷ [])) ∷ []) ((c, w) ∷ [])
     unit_back y c [] hx m a = absurd (true≢false (sym m ∙ a.unit refl))
-    unit_back {x} y c (b ∷ w) hx m a = at_last (last_of x y w a.leads a.plays)
-      where
-        at_last : Last x (b ∷ w) → Like ((k.times c k.one, (b ∷ w) ++ (x ∷ [])) ∷ []) ((c, b ∷ w) ∷ [])
-        at_last l = cong_trans (cong_same
+    unit_back {x} y c (b ∷ w) hx m a = let l = last_of x y w a.leads a.plays in
+        cong_trans (cong_same
             (ap (λ z. (k.times c k.one, z) ∷ []) (ap (λ z. z ++ (x ∷ [])) l.is ∙ append_assoc l.before (l.last ∷ []) (x ∷ []))))
             (cong_trans (cong_before k s.order s.rules facts.join empty_range (facts.play_range l.before l.plays)
             (cong_scaled c (facts.unit_right x l.last hx m l.letter l.play l.source)))

@@ -93,19 +93,15 @@ module _ {K : Type 0} (k : Field K) (o : Order) (g : Rules o) (normal : Form K �
       by_mark v h (inr x) = absurd (omega (arith, h, x.0))
 
       left : (v a : ℕ) → list_any (nat_eq v) marked ≡ true → Plays a → target q a ≡ v → IsGenerated (left_unit v a)
-      left v a m p t = go p.which
-        where
-          go : ((a < q.objects) × (list_any (nat_eq a) marked ≡ true)) ⊎ ((q.objects ≤ a) × ((starred || nat_le a (star q a)) ≡ true))
-              → IsGenerated (left_unit v a)
-          go (inl x) = subst (λ z. IsGenerated (left_unit v z)) (sym t ∙ c.is_quiver.identity_target a x.0)
-              (unit_itself q starred marked assumptions IsGenerated c.generated v m)
-          go (inr x) = unit_of_target q starred marked assumptions IsGenerated c.generated m x.0 (subst (λ n. a < n) c.count_is p.letter) x.1 t
+      left v a m p t = elim p.which [
+        | inl x ↦ subst (λ z. IsGenerated (left_unit v z)) (sym t ∙ c.is_quiver.identity_target a x.0)
+            (unit_itself q starred marked assumptions IsGenerated c.generated v m)
+        | inr x ↦ unit_of_target q starred marked assumptions IsGenerated c.generated m x.0 (subst (λ n. a < n) c.count_is p.letter) x.1 t
+      ]
 
       right : (v a : ℕ) → list_any (nat_eq v) marked ≡ true → Plays a → source q a ≡ v → IsGenerated (right_unit v a)
-      right v a m p t = go p.which
-        where
-          go : ((a < q.objects) × (list_any (nat_eq a) marked ≡ true)) ⊎ ((q.objects ≤ a) × ((starred || nat_le a (star q a)) ≡ true))
-              → IsGenerated (right_unit v a)
-          go (inl x) = subst (λ z. IsGenerated (right_unit v z)) (sym t ∙ c.is_quiver.identity_source a x.0)
-              (unit_itself q starred marked assumptions IsGenerated c.generated v m)
-          go (inr x) = unit_of_source q starred marked assumptions IsGenerated c.generated m x.0 (subst (λ n. a < n) c.count_is p.letter) x.1 t
+      right v a m p t = elim p.which [
+        | inl x ↦ subst (λ z. IsGenerated (right_unit v z)) (sym t ∙ c.is_quiver.identity_source a x.0)
+            (unit_itself q starred marked assumptions IsGenerated c.generated v m)
+        | inr x ↦ unit_of_source q starred marked assumptions IsGenerated c.generated m x.0 (subst (λ n. a < n) c.count_is p.letter) x.1 t
+      ]
