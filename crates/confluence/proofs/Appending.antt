@@ -4,7 +4,7 @@ use Rattle.std.specs.List.{All}
 use Rattle.std.proofs.lemmas.Int.{ints}
 use Rattle.std.proofs.lemmas.List.{length-append}
 use Rattle.std.proofs.lemmas.Option.{slice_get_within}
-use Rattle.std.proofs.lemmas.List.Elements.{All-append, All-cons, All-nil, All-weaker}
+use Rattle.std.proofs.lemmas.List.Elements.{All-weaker, All-push}
 use Rattle.definitions.specs.Poly.{Word, Term, coefficient_of, poly_multiple}
 use Rattle.definitions.specs.Combination.{generator_at}
 use Rattle.definitions.proofs.Coefficients.{coefficient_of-multiple}
@@ -72,7 +72,7 @@ module _ (letters : ℕ) (compare : Compare) (rank : List ℕ → List ℕ) (law
     (rest : List Term) (rows : List Row) (irreducible : IsIrreducible rules rest) (adds : AddsUpTo generators rules rest rows)
     (g : Rule) (m : Made) (is : IsMadeOf letters compare rest rows g m) where
   pub all_rules : All (IsRule letters compare) (rules ++ (g ∷ []))
-  all_rules = All-append (IsRule letters compare) rules (g ∷ []) kept.are_rules (All-cons (IsRule letters compare) g [] is.is_rule (All-nil (IsRule letters compare)))
+  all_rules = All-push (IsRule letters compare) rules g kept.are_rules is.is_rule
 
   -- the leading word is a word of the rest
   lead_coefficient : coefficient_of g.poly.terms g.lead ≡ g.leading

@@ -1,5 +1,5 @@
 -- The generator x x - x, with the letter x = 0 in the canonical order: closed after one ambiguity, and x is outside.
-use Rattle.std.proofs.Common.{◌≡◌, ◌<◌, ◌+◌, ℕ, zero, suc, pos, negsuc, List, [], ◌∷◌, length, Some, Ok, false, refl, sym, ap, ◌∙◌, subst, arith}
+use Rattle.std.proofs.Common.{◌≡◌, ◌<◌, ◌+◌, ℕ, zero, suc, pos, negsuc, List, [], ◌∷◌, length, Ok, false, refl, sym, ap, ◌∙◌, subst, arith}
 use Rattle.std.proofs.lemmas.Int.{ints}
 use Rattle.std.specs.List.{All}
 use Rattle.std.proofs.lemmas.List.{length-append}
@@ -16,7 +16,7 @@ use Rattle.traced_rows.specs.declared.Made.{Made}
 use Rattle.traced_rows.specs.declared.Origin.TheVariants as origin
 use Rattle.rule_reduce.specs.declared.rule.Rule.{Rule}
 use Rattle.rule_reduce.specs.declared.state.State.{State}
-use Rattle.rule_reduce.specs.RuleLists.{IsRule, rule_at, polynomials_of}
+use Rattle.rule_reduce.specs.RuleLists.{IsRule, polynomials_of}
 use Rattle.rule_reduce.specs.NormalForms.{start_of}
 use Rattle.rule_reduce.proofs.WordsKept.{words_with_coefficients}
 use Rattle.ambiguities.specs.declared.ambiguity.Kind.{Kind}
@@ -27,6 +27,7 @@ use Rattle.ambiguities.specs.SPolynomials.{s_polynomial_of}
 use Rattle.ambiguities.specs.Resolved.{IsResolved, Resolved}
 use Rattle.ambiguities.proofs.Balance.{s_polynomials_balance}
 use Rattle.confluence.specs.Reductions.{IsZero, IsReduced}
+use Rattle.confluence.proofs.Examples.{only_rule}
 use Rattle.confluence.proofs.Ideals.{ideals_stay_inside}
 use Rattle.confluence.proofs.RestLaws.{normal_forms_are_reduced, rests_of_ideal_are_zero}
 use Rattle.confluence.proofs.WrittenTerms.{shaped_as_written, canonical_as_written}
@@ -129,11 +130,6 @@ closed = resolved_at_once_is_kept 1 word_cmp (rank_of 1) generators (rule ∷ []
     (s_polynomials_balance (rule ∷ []) itself [] difference) zero_reduced (record { at = λ w. refl })
 
 -- there is no other ambiguity
-only_rule : (n : ℕ) (g : Rule) → rule_at (rule ∷ []) n ≡ Some g → (n ≡ 1) × (g ≡ rule)
-only_rule zero g is = absurd (cc)
-only_rule (suc zero) g is = (refl, (cc))
-only_rule (suc (suc n)) g is = absurd (cc)
-
 only_itself : (a : Ambiguity) → IsAmbiguity (rule ∷ []) a → a ≡ itself
 only_itself a is = by_kind a.kind refl is.meets
   where

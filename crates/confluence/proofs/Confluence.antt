@@ -64,11 +64,6 @@ module _ (s : Setting) where
     | one_row d c b pd hb l ↦ one_row (d * e) c b (mul-pos pd pe) hb (span_same (Lower M) (λ w. pos d *ℤ g w +ℤ neg_ℤ (c *ℤ b w)) _ l (λ w. ap (λ x. x +ℤ neg_ℤ (c *ℤ b w)) (*ℤ_assoc (pos d) (pos e) (f w) ∙ ap (λ x. pos d *ℤ x) (sym (h w)))))
   ]
 
-  -- what is spanned has a greatest row, or is zero
-  pub data Topped (f : Coefs) : Type 0 where
-    zero_all : ((w : Word) → f w ≡ pos 0) → Topped f
-    top_at : (N : Word) (b : Coefs) → s.Row N b → Span (AtMost N) f → Topped f
-
   at_most_weaker : (M N : Word) → ((M ≡ N) ⊎ s.Less M N) → (f : Coefs) → Span (AtMost M) f → Span (AtMost N) f
   at_most_weaker M N r = span_bind (AtMost M) (AtMost N) each
     where

@@ -6,7 +6,7 @@ use Rattle.definitions.specs.Combination.{generator_at, InRationalIdeal}
 use Rattle.word_orders.specs.Orders.{Order}
 use Rattle.rule_reduce.specs.RuleLists.{polynomials_of}
 use Rattle.rule_reduce.specs.declared.rule.Rule.{Rule}
-use Rattle.confluence.proofs.Led.{Led, led_at, HasLed, IsLed, has_decided, poly_at}
+use Rattle.confluence.proofs.Led.{led_at, HasLed, IsLed, has_decided, poly_at}
 use Rattle.confluence.proofs.Integers.{nonzero_or}
 use Rattle.confluence.proofs.Spans.{Coefs, Span, single, span_same, nothing}
 use Rattle.traced_rows.proofs.Between.{between-between}

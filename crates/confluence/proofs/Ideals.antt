@@ -1,6 +1,8 @@
 -- What is in the rational ideal of polynomials that are in a rational ideal themselves.
-use Rattle.std.proofs.Common.{◌≡◌, ◌⊎◌, inl, inr, ◌≤◌, ℕ, zero, suc, List, [], ◌∷◌, length, get_or, refl, ap, ◌∙◌, arith}
+use Rattle.std.proofs.Common.{◌≡◌, ◌⊎◌, inl, inr, ◌≤◌, ℕ, zero, suc, List, [], length, refl, ap, ◌∙◌, arith}
 use Rattle.std.specs.List.{All}
+use Rattle.std.proofs.lemmas.Bool.{cases_lt}
+use Rattle.std.proofs.lemmas.List.{get_or_past}
 use Rattle.std.proofs.lemmas.List.Elements.{All-get_or, All-from_get_or}
 use Rattle.definitions.specs.Poly.{Word, Term, coefficient_of, poly_between}
 use Rattle.definitions.specs.Combination.{generator_at, InRationalIdeal}
@@ -19,11 +21,9 @@ between_span polys l r p sp =
 -- a number is that of a generator, or names the polynomial zero
 pub generator_decided : (generators : List (List Term)) (n : ℕ) → ((1 ≤ n) × (n ≤ length generators)) ⊎ (generator_at generators n ≡ [])
 generator_decided gs zero = inr refl
-generator_decided [] (suc n) = inr (elim n as (λ n. get_or {A = List Term} [] n [] ≡ []) [ zero ↦ refl | suc n ↦ refl ])
-generator_decided (g ∷ gs) (suc zero) = inl (omega arith, omega arith)
-generator_decided (g ∷ gs) (suc (suc n)) = elim (generator_decided gs (suc n)) [
-  | inl named ↦ inl (omega arith, omega (arith, named.1))
-  | inr none ↦ inr none
+generator_decided gs (suc n) = elim (cases_lt n (length gs)) [
+  | inl inside ↦ inl (omega arith, omega (arith, inside))
+  | inr past ↦ inr (get_or_past gs n [] past)
 ]
 
 -- what holds of each generator, by number

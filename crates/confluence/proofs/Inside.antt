@@ -1,6 +1,7 @@
 -- What is in the rational ideal of the generators.
-use Rattle.std.proofs.Common.{◌≡◌, ◌≤◌, ◌<◌, ℕ, zero, suc, pos, ◌+ℤ◌, ◌*ℤ◌, List, [], ◌∷◌, length, slice_get, Some, refl, ap, ◌∙◌, subst, arith}
+use Rattle.std.proofs.Common.{◌≡◌, inl, inr, ◌≤◌, ◌<◌, ℕ, zero, suc, ◌+ℤ◌, ◌*ℤ◌, List, [], ◌∷◌, length, slice_get, Some, refl, ap, ◌∙◌, subst, arith}
 use Rattle.std.specs.List.{All}
+use Rattle.std.proofs.lemmas.Option.{slice_get_cases}
 use Rattle.std.proofs.lemmas.List.Elements.{All-contains, All-tail}
 use Rattle.definitions.specs.Poly.{Term, coefficient_of, poly_between}
 use Rattle.definitions.specs.Combination.{generator_at, InRationalIdeal}
@@ -37,9 +38,7 @@ strong P step n = step n (below n)
     below (suc n) m less = step m (λ k lower. below n k (omega arith))
 
 slice_some : (made : List Made) (n : ℕ) → n < length made → (m : Made) × (slice_get made n ≡ Some m)
-slice_some [] n inside = absurd (omega arith)
-slice_some (m ∷ made) zero inside = (m, refl)
-slice_some (m ∷ made) (suc n) inside = slice_some made n (omega arith)
+slice_some made n inside = elim (slice_get_cases made n).1 [ inl (m, within, is, _) ↦ (m, is) | inr past ↦ absurd (omega (arith, inside, past.0)) ]
 
 module _ (generators : List (List Term)) where
   abbrev FromGenerators : List Term → Type 0
@@ -70,7 +69,7 @@ module _ (generators : List (List Term)) where
             of_record : ((m : Made) × (slice_get made place ≡ Some m)) → FromGenerators (generator_at (polynomials_of rules) (suc place))
             of_record (m, found) = let (k, above, scale) = positive_nat m.scale (recorded.each place m found).positive in
                 part (coefficient_of (generator_at (polynomials_of rules) (suc place))) (coefficient_of (traced_sum generators (polynomials_of rules) m.rows)) k above rows
-                    (λ w. (recorded.traces.at place m found).at w ∙ coefficient_of-multiple m.scale (generator_at (polynomials_of rules) (suc place)) w ∙ ap (λ z. z *ℤ coefficient_of (generator_at (polynomials_of rules) (suc place)) w) scale)
+                (λ w. (recorded.traces.at place m found).at w ∙ coefficient_of-multiple m.scale (generator_at (polynomials_of rules) (suc place)) w ∙ ap (λ z. z *ℤ coefficient_of (generator_at (polynomials_of rules) (suc place)) w) scale)
               where
                 rows : FromGenerators (traced_sum generators (polynomials_of rules) m.rows)
                 rows = from_rows (polynomials_of rules) place (λ j above within. before j (omega (arith, within)) above (omega (arith, within, last))) m.rows (recorded.each place m found).earlier

@@ -1,5 +1,5 @@
 -- Rules of an admissible order as the proofs about an order take them.
-use Rattle.std.proofs.Common.{◌≡◌, ◌⊎◌, inl, inr, ◌<◌, ℕ, zero, suc, ℤ, pos, negsuc, ◌<ℤ◌, List, [], ◌∷◌, map, length, get_or, slice_get, Option, Some, refl, sym, ap, ◌∙◌, subst, arith}
+use Rattle.std.proofs.Common.{◌≡◌, ◌⊎◌, inl, inr, ◌<◌, ℕ, ℤ, pos, negsuc, ◌<ℤ◌, List, get_or, Some, refl, sym, ap, ◌∙◌, subst, arith}
 use Rattle.std.specs.List.{All}
 use Rattle.std.specs.Int.RustNames.{unsigned_abs}
 use Rattle.std.proofs.lemmas.Int.{ints}
@@ -9,12 +9,12 @@ use Rattle.word_orders.specs.Admissible.{Compare, IsAdmissible}
 use Rattle.word_orders.specs.Orders.{Order}
 use Rattle.word_orders.proofs.Orders.{order_from_laws, over_range, below_less}
 use Rattle.rule_reduce.specs.declared.rule.Rule.{Rule}
-use Rattle.rule_reduce.specs.RuleLists.{IsRule, rule_at, polynomials_of}
+use Rattle.rule_reduce.specs.RuleLists.{IsRule, rule_at}
 use Rattle.rule_reduce.proofs.AtMost.{IsAtMost, leading-greatest, leading-all}
 use Rattle.rule_reduce.proofs.Numbers.{rule_at-all}
 use Rattle.rule_reduce.proofs.WordsKept.{words_with_coefficients}
 use Rattle.ambiguities.proofs.Multiples.{leading_coefficient}
-use Rattle.confluence.proofs.Led.{Led, IsLed, no_led, led_at, HasLed, led_of, led_at-is}
+use Rattle.confluence.proofs.Led.{IsLed, led_at, HasLed, led_of, led_at-is}
 use Rattle.confluence.proofs.Meets.{Rules, poly}
 use Rattle.confluence.proofs.Parts.{coefficient_of-parted, rules_of}
 use Rattle.confluence.proofs.RuleRows.{same_between}

@@ -1,6 +1,5 @@
 -- What was reduced, as rows over the rules with one that is made of its rest.
-use Rattle.std.proofs.Common.{◌≡◌, ◌≢◌, inl, inr, ℕ, zero, suc, ℤ, pos, negsuc, ◌*ℤ◌, neg_ℤ, List, [], ◌++◌, Some, refl, sym, ap, ◌∙◌, subst, arith, append-nil}
-use Rattle.std.proofs.lemmas.Int.{ints}
+use Rattle.std.proofs.Common.{◌≡◌, ◌≢◌, inl, inr, ℕ, ℤ, pos, ◌*ℤ◌, List, [], ◌++◌, Some, refl, sym, ap, ◌∙◌, subst, append-nil}
 use Rattle.std.proofs.Math.IntN.{+ℤ_idr}
 use Rattle.std.specs.List.{All}
 use Rattle.definitions.specs.Poly.{Word, Term, SamePolynomial, coefficient_of, poly_multiple, poly_between}
@@ -13,7 +12,7 @@ use Rattle.rule_reduce.specs.declared.rule.Rule.{Rule}
 use Rattle.rule_reduce.specs.declared.state.State.{State}
 use Rattle.rule_reduce.specs.RuleLists.{IsRule, rule_at}
 use Rattle.confluence.specs.Reductions.{IsReduced}
-use Rattle.confluence.proofs.Integers.{neg_ℤ-*ℤ, *ℤ_cancel, nonzero_or}
+use Rattle.confluence.proofs.Integers.{nonzero_or}
 use Rattle.confluence.proofs.Led.{led_at, led_at-is}
 use Rattle.confluence.proofs.LedRules.{leds_are, ordered}
 use Rattle.confluence.proofs.Meets.{Allowed}

@@ -1,5 +1,5 @@
 -- What comes from rules comes from more rules.
-use Rattle.std.proofs.Common.{◌≡◌, ◌⊎◌, inl, inr, ℕ, zero, suc, ℤ, List, [], ◌∷◌, ◌++◌, slice_get, Some, sym, ap, ◌∙◌, subst, get_or}
+use Rattle.std.proofs.Common.{◌≡◌, ◌⊎◌, inl, inr, ℕ, zero, suc, ℤ, List, [], ◌∷◌, ◌++◌, slice_get, Some, sym, ap, ◌∙◌, get_or}
 use Rattle.std.specs.List.{All}
 use Rattle.definitions.specs.Poly.{Word, Term, coefficient_of}
 use Rattle.word_orders.specs.Admissible.{Compare, IsAdmissible}
@@ -10,7 +10,7 @@ use Rattle.rule_reduce.specs.RuleLists.{IsRule, rule_at, polynomials_of}
 use Rattle.rule_reduce.specs.KeptWords.{IsAtMostOf}
 use Rattle.ambiguities.specs.Resolved.{ComesBelow}
 use Rattle.confluence.specs.Reductions.{HasLettersBelow}
-use Rattle.confluence.proofs.Led.{Comes, led_at, HasLed, IsAtMostOf as IsAtMostIn, led_at-is}
+use Rattle.confluence.proofs.Led.{Comes, IsAtMostOf as IsAtMostIn, led_at-is}
 use Rattle.confluence.proofs.LedRules.{leds_are, ordered}
 use Rattle.confluence.proofs.Meets.{Allowed}
 use Rattle.confluence.proofs.Outside.{AnyRow, at_most_of}

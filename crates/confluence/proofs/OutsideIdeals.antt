@@ -1,5 +1,5 @@
 -- What is outside the rational ideal, and what does not come from the generators below a word.
-use Rattle.std.proofs.Common.{◌≡◌, ◌≢◌, ◌⊎◌, inl, inr, ◌≤◌, ℕ, zero, suc, pos, List, [], ◌∷◌, length, refl, sym, ap, ◌∙◌, subst, arith, Contains}
+use Rattle.std.proofs.Common.{◌≡◌, ◌≢◌, ◌⊎◌, inl, inr, ℕ, zero, suc, pos, List, [], ◌∷◌, refl, sym, ap, ◌∙◌, subst, arith, Contains}
 use Rattle.std.specs.List.{All}
 use Rattle.std.proofs.lemmas.List.Elements.{All-contains}
 use Rattle.definitions.specs.Poly.{Word, Term, coefficient_of, poly_between}

@@ -1,7 +1,6 @@
 -- What was reduced, as rows over the rules.
-use Rattle.std.proofs.Common.{◌≡◌, ◌⊎◌, inl, inr, ℕ, ℤ, ◌+ℤ◌, ◌*ℤ◌, neg_ℤ, List, [], ◌++◌, length, sym, ◌∙◌, subst, arith}
+use Rattle.std.proofs.Common.{◌≡◌, ◌⊎◌, inl, inr, ℕ, ◌+ℤ◌, ◌*ℤ◌, neg_ℤ, List, [], ◌++◌, length, sym, ◌∙◌}
 use Rattle.std.specs.List.{All}
-use Rattle.std.proofs.lemmas.Int.{ints}
 use Rattle.std.proofs.lemmas.List.Elements.{All-weaker}
 use Rattle.definitions.specs.Poly.{Word, Term, coefficient_of}
 use Rattle.definitions.proofs.Coefficients.{coefficient_of-append, coefficient_of-multiple}

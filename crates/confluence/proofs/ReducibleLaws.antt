@@ -1,5 +1,5 @@
 -- Sums of rows over resolved rules have a reducible greatest word.
-use Rattle.std.proofs.Common.{◌≡◌, ◌≢◌, ◌⊎◌, inl, inr, ℕ, pos, List, ◌++◌, length, Some, sym, ap, ◌∙◌, subst}
+use Rattle.std.proofs.Common.{◌≡◌, ◌≢◌, ◌⊎◌, inl, inr, ℕ, pos, List, ◌++◌, length, sym, ap, ◌∙◌, subst}
 use Rattle.std.specs.List.{All}
 use Rattle.definitions.specs.Poly.{Word, Term, coefficient_of}
 use Rattle.word_core.proofs.Places.{OccursAt-between}
@@ -8,7 +8,7 @@ use Rattle.word_orders.specs.Admissible.{Compare, IsAdmissible}
 use Rattle.word_orders.specs.Orders.{Order, IsBelow}
 use Rattle.word_orders.proofs.Orders.{order_from_laws, over_range, less_below}
 use Rattle.rule_reduce.specs.declared.rule.Rule.{Rule}
-use Rattle.rule_reduce.specs.RuleLists.{IsRule, rule_at, polynomials_of}
+use Rattle.rule_reduce.specs.RuleLists.{IsRule, polynomials_of}
 use Rattle.ambiguities.specs.Ambiguities.{overlap_word_of}
 use Rattle.confluence.specs.Reductions.{IsNonzero}
 use Rattle.confluence.specs.Reducible.{IsReducible, HasReducibleGreatest, ReducibleBelow, ReducibleInIdeal}
@@ -21,8 +21,7 @@ use Rattle.confluence.proofs.Closed.{setting, zero_or_reducible}
 use Rattle.confluence.proofs.Outside.{AnyRow, span_word}
 use Rattle.confluence.proofs.Resolve.{everything, below}
 use Rattle.confluence.proofs.Resolved.{all_resolved}
-use Rattle.confluence.proofs.SumRows.{Numbered}
-use Rattle.confluence.proofs.FreeRows.{Free, ideal_span, free_span}
+use Rattle.confluence.proofs.FreeRows.{ideal_span, free_span}
 use Rattle.confluence.proofs.BelowSpans.{below_span}
 
 module _ (letters : ℕ) (compare : Compare) (rank : List ℕ → List ℕ) (laws : IsAdmissible letters compare rank) (rules : List Rule) (are : All (IsRule letters compare) rules) where

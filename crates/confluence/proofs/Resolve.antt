@@ -1,5 +1,5 @@
 -- Bounds for the words of rows.
-use Rattle.std.proofs.Common.{◌≡◌, ◌≢◌, ◌⊎◌, inl, inr, refl, subst, List, pos}
+use Rattle.std.proofs.Common.{◌≢◌, inl, refl, List, pos}
 use Rattle.definitions.specs.Poly.{coefficient_of, Word, Term}
 use Rattle.word_orders.specs.Orders.{Order}
 use Rattle.confluence.proofs.Meets.{Allowed}
@@ -12,13 +12,6 @@ everything o = record { May = λ _. Unit {0}; closed = λ _ _ _ _. tt }
 
 abbrev pub below : (o : Order) → Word → Allowed o
 below o W = record { May = λ u. o.Less u W; closed = λ u v h k. o.less_trans u v W h k }
-
-abbrev pub up_to : (o : Order) → Word → Allowed o
-up_to o W = record { May = λ u. (u ≡ W) ⊎ o.Less u W; closed = λ u v h k. inr (joined u v h k) }
-  where
-    joined : (u v : Word) → o.Less u v → (v ≡ W) ⊎ o.Less v W → o.Less u W
-    joined u v h (inl e) = subst (λ z. o.Less u z) e h
-    joined u v h (inr k) = o.less_trans u v W h k
 
 abbrev pub InRange : (o : Order) → List Term → Type 0
 InRange o p = (w : Word) → coefficient_of p w ≢ pos 0 → o.Range w

@@ -1,9 +1,9 @@
 -- Sums, multiples and moves that go well keep polynomials sorted and in range.
-use Rattle.std.proofs.Common.{◌≡◌, ◌≢◌, inl, inr, ℕ, zero, suc, ℤ, pos, List, [], ◌∷◌, ◌++◌, get_or, Option, Some, None, Result, Ok, Err, refl, sym, ap, ◌∙◌, subst}
+use Rattle.std.proofs.Common.{◌≡◌, ◌≢◌, ℕ, zero, suc, ℤ, pos, List, [], ◌∷◌, ◌++◌, Option, Some, None, Result, Ok, Err, refl, sym, ap, ◌∙◌, subst}
 use Rattle.std.specs.List.{All}
 use Rattle.coef_int.specs.declared.Overflow.{Overflow}
 use Rattle.coef_int.specs.Operations.{product_of, first_overflow}
-use Rattle.definitions.specs.Poly.{Word, Term, poly_between}
+use Rattle.definitions.specs.Poly.{Term, poly_between}
 use Rattle.definitions.specs.Combination.{generator_at}
 use Rattle.word_core.specs.Letters.{IsOver}
 use Rattle.word_orders.specs.Admissible.{Compare}
@@ -28,11 +28,11 @@ use Rattle.rule_reduce.specs.RuleLists.{rule_at, polynomials_of, entries_of}
 use Rattle.rule_reduce.specs.Choices.{choice_of}
 use Rattle.rule_reduce.specs.Steps.{Move, moved, move_of, move_result, move_operations, row_operations, state_operations, less_operations, if_sized, step_by, step_result}
 use Rattle.rule_reduce.specs.NormalForms.{halt_of, then_next, at_limit, one_step, reduction, start_of}
-use Rattle.rule_reduce.specs.KeptWords.{IsAtMostOf}
 use Rattle.rule_reduce.proofs.Exits.{multiplied-scaled}
 use Rattle.rule_reduce.proofs.Runs.{move_result-value}
 use Rattle.ambiguities.specs.SPolynomials.{first_row, second_row, row_multiple}
 use Rattle.ambiguities.proofs.Multiples.{passed}
+use Rattle.confluence.proofs.Led.{led_or, poly_at}
 use Rattle.confluence.proofs.RestLaws.{rest_over}
 use Rattle.confluence.proofs.WrittenTerms.{shaped_as_written}
 use Rattle.confluence.specs.Shapes.{NormalFormsAreShaped, SPolynomialsAreShaped, RestsHaveLettersBelow}
@@ -78,14 +78,10 @@ zero_is_shaped = shaped_as_written [] tt tt tt
 
 -- the polynomial of a rule, and zero where there is none
 rule_shaped : (rules : List Rule) (n : ℕ) → IsShaped (generator_at (polynomials_of rules) n)
-rule_shaped rules zero = zero_is_shaped
-rule_shaped [] (suc n) = subst IsShaped (sym (past n)) zero_is_shaped
-  where
-    past : (n : ℕ) → get_or {A = List Term} [] n [] ≡ []
-    past zero = refl
-    past (suc n) = refl
-rule_shaped (g ∷ rules) (suc zero) = g.poly.canonical.shaped
-rule_shaped (g ∷ rules) (suc (suc n)) = rule_shaped rules (suc n)
+rule_shaped rules n = subst IsShaped (sym (poly_at rules n)) (elim (rule_at rules n) as (λ o. IsShaped (led_or o).poly) [
+  | None ↦ zero_is_shaped
+  | Some g ↦ g.poly.canonical.shaped
+])
 
 pub s_polynomials_are_shaped : SPolynomialsAreShaped
 s_polynomials_are_shaped rules a p ends =

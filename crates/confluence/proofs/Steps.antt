@@ -1,7 +1,7 @@
 -- The invariant stays when one generator or one ambiguity is treated.
 use Rattle.std.proofs.Common.{◌≡◌, ◌≤◌, ℕ, zero, suc, List, [], ◌∷◌, ◌++◌, length, slice_get, Some, refl, sym, subst, append-nil}
 use Rattle.std.specs.List.{All}
-use Rattle.std.proofs.lemmas.List.Elements.{All-append, All-cons, All-nil}
+use Rattle.std.proofs.lemmas.List.Elements.{All-nil, All-push}
 use Rattle.definitions.specs.Poly.{Term, coefficient_of}
 use Rattle.definitions.specs.Combination.{generator_at}
 use Rattle.word_orders.specs.Admissible.{Compare, IsAdmissible}
@@ -83,7 +83,7 @@ module _ (letters : ℕ) (compare : Compare) (rank : List ℕ → List ℕ) (law
     are_rules = kept.are_rules;
     apart = kept.apart;
     recorded = kept.recorded;
-    reached = All-append (λ k. IsReached letters compare rules (generator_at generators k)) done (n ∷ []) kept.reached (All-cons (λ k. IsReached letters compare rules (generator_at generators k)) n [] reached (All-nil (λ k. IsReached letters compare rules (generator_at generators k))));
+    reached = All-push (λ k. IsReached letters compare rules (generator_at generators k)) done n kept.reached reached;
     resolved = kept.resolved;
   }
 

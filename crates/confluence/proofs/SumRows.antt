@@ -10,7 +10,7 @@ use Rattle.definitions.proofs.Coefficients.{coefficient_of-append, coefficient_o
 use Rattle.word_orders.specs.Orders.{Order}
 use Rattle.rule_reduce.specs.RuleLists.{polynomials_of}
 use Rattle.rule_reduce.specs.declared.rule.Rule.{Rule}
-use Rattle.confluence.proofs.Led.{Led, no_led, led_at, HasLed, IsLed, IsAskedRow, Comes, has_decided, poly_at}
+use Rattle.confluence.proofs.Led.{no_led, led_at, HasLed, IsLed, IsAskedRow, Comes, has_decided, poly_at}
 use Rattle.definitions.proofs.Integers.{*ℤ_assoc, *ℤ-+ℤ}
 use Rattle.confluence.proofs.Spans.{Coefs, Span, nothing, more, part, single}
 use Rattle.confluence.proofs.Shifts.{span_bind}

@@ -2,7 +2,7 @@
 use Rattle.std.proofs.Common.{◌≡◌, ℕ, List, [], ◌∷◌, ◌++◌, length, refl, sym, ap, ◌∙◌, subst, append_assoc}
 use Rattle.std.specs.List.{All}
 use Rattle.std.proofs.lemmas.List.{take_at}
-use Rattle.std.proofs.lemmas.List.Elements.{All-append, All-cons, All-nil, All-weaker, All-take}
+use Rattle.std.proofs.lemmas.List.Elements.{All-weaker, All-take, All-push}
 use Rattle.definitions.specs.Poly.{Word, Term, SamePolynomial, coefficient_of}
 use Rattle.word_orders.specs.Admissible.{Compare, IsAdmissible}
 use Rattle.word_orders.specs.Orders.{Order}
@@ -61,7 +61,7 @@ module _ (letters : ℕ) (compare : Compare) (rank : List ℕ → List ℕ) (law
     apart = kept.apart;
     recorded = kept.recorded;
     reached = kept.reached;
-    resolved = All-append (IsResolved letters compare rules) treated (a ∷ []) kept.resolved (All-cons (IsResolved letters compare rules) a [] resolved (All-nil (IsResolved letters compare rules)));
+    resolved = All-push (IsResolved letters compare rules) treated a kept.resolved resolved;
   }
 
   module _ (start : List Rule) (a : Ambiguity) (is : IsAmbiguity start a) (p : List Term) (same : SamePolynomial p (s_sum start a)) where

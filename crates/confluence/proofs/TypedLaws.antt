@@ -4,7 +4,7 @@ use Rattle.std.specs.List.{All, list_all}
 use Rattle.std.proofs.lemmas.Bool.{and_parts, and_from}
 use Rattle.std.proofs.lemmas.Int.{ints}
 use Rattle.std.proofs.lemmas.List.{take-append-drop}
-use Rattle.std.proofs.lemmas.List.Elements.{All-append, All-cons, All-nil, All-weaker}
+use Rattle.std.proofs.lemmas.List.Elements.{All-weaker, All-push}
 use Rattle.std.proofs.lemmas.List.Folds.{list_all-append}
 use Rattle.definitions.specs.Poly.{Word, Term, coefficient_of, poly_between}
 use Rattle.definitions.specs.Quiver.{Quiver, IsPath}
@@ -117,7 +117,7 @@ pub rules_stay_typed : RulesStayTyped
 rules_stay_typed q play letters compare rest rows rules made rules_after made_after typed rest_typed (nothing_left none rules_same made_same) = subst (AreTypedInPlay q play) (sym rules_same) typed
 rules_stay_typed q play letters compare rest rows rules made rules_after made_after typed rest_typed (rule_made g m is rules_are made_are) =
     let P = λ (f : Rule). IsTypedInPlay q play f.poly.terms in
-    subst (AreTypedInPlay q play) (sym rules_are) (All-append P rules (g ∷ []) typed (All-cons P g [] (made_typed q play letters compare rest rows g m rest_typed is) (All-nil P)))
+    subst (AreTypedInPlay q play) (sym rules_are) (All-push P rules g typed (made_typed q play letters compare rest rows g m rest_typed is))
 
 pub typed_has_no_empty_word : TypedHasNoEmptyWord
 typed_has_no_empty_word q play p typed = record { at = λ w some. letters_in w (typed.typed.at w some) }
