@@ -30,7 +30,7 @@ use Rattle.confluence.specs.Conclusions.{AreAllDone, RulesAreInside, ZeroIsInsid
 use Rattle.confluence.proofs.RowSums.{length-polynomials}
 
 -- strong induction
-strong : (P : ℕ → Type 0) → ((n : ℕ) → ((m : ℕ) → m < n → P m) → P n) → (n : ℕ) → P n
+pub strong : (P : ℕ → Type 0) → ((n : ℕ) → ((m : ℕ) → m < n → P m) → P n) → (n : ℕ) → P n
 strong P step n = step n (below n)
   where
     below : (n m : ℕ) → m < n → P m

@@ -6,6 +6,7 @@ use Rattle.std.specs.List.{AllByRecursion}
 use Rattle.definitions.specs.Quiver.{Quiver, IsQuiver, letters, source, target, leads, is_path}
 use Rattle.definitions.specs.Category.{Structure, IsArrow, PreadditiveLaws}
 use Rattle.definitions.proofs.Paths.{leads-append, fits_from_path, path_from_fits, Step, step}
+use Rattle.definitions.proofs.UnitSound.{all-append}
 use Rattle.normal_forms.proofs.Field.{Field, numbers_of}
 use Rattle.normal_forms.specs.Forms.{Form}
 use Rattle.normal_forms.specs.Maps.{NormalMap, LeadsInPlay, structure_of}
@@ -15,7 +16,7 @@ use Rattle.word_orders.specs.Orders.{Order}
 use Rattle.confluence.proofs.Resolve.{everything}
 use Rattle.confluence.proofs.Meets.{Parted as Rule, Rules, Resolved}
 use Rattle.normal_forms.proofs.FieldLaws.{times_one, minus_one}
-use Rattle.normal_forms.proofs.Forms.{Each, each-append, each-weaker, each-scaled, hit, look, scaled, sum-append, sum-scaled, Alike, alike-append}
+use Rattle.normal_forms.proofs.Forms.{all_front, all_back, Each, each-append, each-weaker, each-scaled, hit, look, scaled, sum-append, sum-scaled, Alike, alike-append}
 use Rattle.normal_forms.proofs.Collect.{Sorting, IsForm, collect, each-collect, look-collect, alike-collect, form-collect, form_unique}
 use Rattle.normal_forms.proofs.Congruence.{alike_refl, alike_sym, alike_trans, alike_same, alike-swap, Cong, alike, cong_refl, cong_same, cong_left, cong_trans, cong_append, cong_scaled, cong_sym, Irreducible, irreducible_unique}
 use Rattle.normal_forms.proofs.Normal.{Normal, normal_irreducible, normal_each, Kept, normal_cong}
@@ -108,19 +109,10 @@ module _ {K : Type 0} (k : Field K) (s : Ground k) where
   abbrev pub normal_structure : Structure ℕ (NormalMap K)
   normal_structure = structure_of (numbers_of k) s.sorting.below s.normal s.marked (λ v. v < s.quiver.objects) IsMap
 
+  abbrev Played : ℕ → Type 0
+  Played a = IsTrue (s.play a)
+
   module _ (facts : Facts k s) where
-    pub plays-append : (u v : Word) → AllPlay s.play u → AllPlay s.play v → AllPlay s.play (u ++ v)
-    plays-append [] v a b = b
-    plays-append (x ∷ u) v a b = (a.0, plays-append u v a.1 b)
-
-    plays_front : (u v : Word) → AllPlay s.play (u ++ v) → AllPlay s.play u
-    plays_front [] v a = tt
-    plays_front (x ∷ u) v a = (a.0, plays_front u v a.1)
-
-    plays_back : (u v : Word) → AllPlay s.play (u ++ v) → AllPlay s.play v
-    plays_back [] v a = a
-    plays_back (x ∷ u) v a = plays_back u v a.1
-
     pub good_range : (u v : ℕ) (w : Word) → Good u v w → InRange w
     good_range u v w h = facts.play_range w h.plays
 
@@ -133,7 +125,7 @@ module _ {K : Type 0} (k : Field K) (s : Ground k) where
 
     pub good_join : (u m v : ℕ) (x y : Word) → Good m v x → Good u m y → Good u v (x ++ y)
     good_join u m v x y a b =
-        record { leads = leads-append s.quiver u m v x y a.leads b.leads; plays = plays-append x y a.plays b.plays; unit = λ e. b.unit (back_empty x y e) }
+        record { leads = leads-append s.quiver u m v x y a.leads b.leads; plays = all-append Played x y a.plays b.plays; unit = λ e. b.unit (back_empty x y e) }
 
     pub path_leads : (u v : ℕ) (w : Word) → is_path s.quiver u v w ≡ true → leads s.quiver u v w ≡ true
     path_leads u v [] e = absurd (cc)
@@ -163,8 +155,8 @@ module _ {K : Type 0} (k : Field K) (s : Ground k) where
             leads = path_leads u v _ (path_from_fits s.quiver u v t.source t.target l x.1 r
                 (fits_from_path s.quiver u v t.source t.target l (s.rules.rule i).lead r t.lead_path
                 (leads_path u v l (s.rules.rule i).lead r t.source t.target t.lead_path a.leads)) e.0.0);
-            plays = plays-append l (x.1 ++ r) (plays_front l _ a.plays)
-                (plays-append x.1 r e.0.1 (plays_back (s.rules.rule i).lead r (plays_back l _ a.plays)));
+            plays = all-append Played l (x.1 ++ r) (all_front Played l _ a.plays)
+                (all-append Played x.1 r e.0.1 (all_back Played (s.rules.rule i).lead r (all_back Played l _ a.plays)));
             unit = λ q. absurd (path_some t.source t.target l x.1 r e.0.0 q);
           },
           go p e.1,

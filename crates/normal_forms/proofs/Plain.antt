@@ -30,7 +30,7 @@ use Rattle.normal_forms.specs.NormalForms.{IsNonzero, IsBasis, is_marked_in, IsN
 use Rattle.normal_forms.proofs.Field.{numbers_of}
 use Rattle.normal_forms.proofs.Homomorphisms.{mapped, mapped-append, mapped-multiple, mapped-product, mapped-collected, mapped-normal}
 use Rattle.normal_forms.proofs.Rationals.{Rational, rationals, none_test, raw, raw_is_homomorphism, read, read_raw, raw_read}
-use Rattle.normal_forms.proofs.Forms.{Each}
+use Rattle.normal_forms.proofs.Forms.{Each, each-weaker}
 use Rattle.normal_forms.proofs.Collect.{IsForm}
 use Rattle.normal_forms.proofs.CanonicalOrder.{canonical}
 use Rattle.normal_forms.proofs.Congruence.{Irreducible}
@@ -84,10 +84,6 @@ from_numbers : (P : Rule → Type 0) (rules : List Rule) → ((n : ℕ) (g : Rul
 from_numbers P [] each = All-nil P
 from_numbers P (g ∷ rules) each = All-cons P g rules (each 0 g refl) (from_numbers P rules (λ n. each (suc n)))
 
-all_words_weaker : (P Q : Word → Type 0) → ((w : Word) → P w → Q w) → (p : Form Fraction) → AllByRecursion (λ t. P t.1) p → AllByRecursion (λ t. Q t.1) p
-all_words_weaker P Q weaker [] each = tt
-all_words_weaker P Q weaker (t ∷ p) each = (weaker t.1 each.0, all_words_weaker P Q weaker p each.1)
-
 module _ (p : Parts) (rules : List Rule) (are : All (IsRule (letter_count p.quiver) (asked_cmp p.order)) rules) where
   abbrev rank : List ℕ → List ℕ
   rank = asked_rank (letter_count p.quiver) p.order
@@ -127,7 +123,7 @@ module _ (p : Parts) (rules : List Rule) (are : All (IsRule (letter_count p.quiv
       target_is_object = is.target_is_object;
       sorted = form_read m.form is.nonzero is.ascending;
       irreducible = each_read (Irreducible rationals word_order word_rules) m.form
-          (all_words_weaker (λ w. All (λ g. OccursNowhere w g.lead) rules)
+          (each-weaker (λ w. All (λ g. OccursNowhere w g.lead) rules)
           (Irreducible rationals word_order word_rules) irreducible_from m.form is.irreducible);
       words = each_read
           (LeadsInPlay (quiver_of p.quiver) (is_in_play p.quiver p.starred (numbers p.marked)) (is_marked_in p) m.source m.target) m.form is.words;
@@ -142,7 +138,7 @@ module _ (p : Parts) (rules : List Rule) (are : All (IsRule (letter_count p.quiv
     nonzero = nonzero_raw a.form is.sorted;
     ascending = ascending_raw a.form is.sorted;
     words = each_raw (LeadsInPlay (quiver_of p.quiver) (is_in_play p.quiver p.starred (numbers p.marked)) (is_marked_in p) a.source a.target) a.form is.words;
-    irreducible = all_words_weaker (Irreducible rationals word_order word_rules) (λ w. All (λ g. OccursNowhere w g.lead) rules) nowhere (mapped raw a.form)
+    irreducible = each-weaker (Irreducible rationals word_order word_rules) (λ w. All (λ g. OccursNowhere w g.lead) rules) nowhere (mapped raw a.form)
         (each_raw (Irreducible rationals word_order word_rules) a.form is.irreducible);
   }
 

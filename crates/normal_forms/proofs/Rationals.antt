@@ -3,8 +3,8 @@ use Rattle.std.proofs.Common.{◌≡◌, ◌≢◌, ℕ, ◌*◌, ◌/◌, ◌<�
 use Rattle.std.proofs.lemmas.Int.{ints}
 use Rattle.std.specs.Int.{IsGcd}
 use Rattle.std.specs.Int.RustNames.{unsigned_abs}
-use Rattle.std.proofs.lemmas.Nat.Gcd.{dvd_antisymm}
-use Rattle.std.proofs.Math.Nat.{mul_comm, mul_assoc, dvd-mul_left, eq-one_of_dvd-one, mul-div_cancel', eq-zero_of_zero-dvd, ℕ_set, dvd_of_mul-dvd-mul_left, mul-dvd-mul_left}
+use Rattle.std.proofs.lemmas.Nat.Gcd.{dvd_antisymm, same_from_IsGcd}
+use Rattle.std.proofs.Math.Nat.{mul-one, mul_comm, mul_assoc, dvd-mul_left, eq-one_of_dvd-one, mul-div_cancel', eq-zero_of_zero-dvd, ℕ_set, dvd_of_mul-dvd-mul_left, mul-dvd-mul_left}
 use Rattle.std.proofs.Math.Bridge.{le_prop}
 use Rattle.std.proofs.Math.IntN.{*ℤ_comm, zero-*ℤ, +ℤ_idr, +ℤ_invr}
 use Prim.Native.Nat.{◌∣◌}
@@ -12,19 +12,20 @@ use Rattle.normal_forms.proofs.Field.{Field, numbers_of}
 use Rattle.normal_forms.proofs.Homomorphisms.{IsHomomorphism}
 use Rattle.definitions.proofs.Integers.{+ℤ-*ℤ, *ℤ-+ℤ, *ℤ_assoc, *ℤ-neg_ℤ, *ℤ_zero}
 use Rattle.coef_int.specs.Divisor.{gcd_of}
-use Rattle.coef_int.proofs.Divisors.{gcd_of-IsGcd}
+use Rattle.coef_int.proofs.Divisors.{gcd_of-IsGcd, gcd_of-scaled}
 use Rattle.normal_forms.specs.Fractions.{Fraction, IsLowest, is_zero, quotient, over as fraction_over, fraction_sum, fraction_product, fraction_negative, whole, part_of, fractions}
-use Rattle.normal_forms.proofs.Divisors.{divides_other}
+use Rattle.confluence.proofs.Integers.{neg_ℤ-*ℤ, *ℤ_cancel}
+use Rattle.confluence.proofs.Spans.{mul_swap}
 
-neg_ℤ-*ℤ : (a b : ℤ) → neg_ℤ a *ℤ b ≡ neg_ℤ (a *ℤ b)
-neg_ℤ-*ℤ a b = *ℤ_comm (neg_ℤ a) b ∙ *ℤ-neg_ℤ b a ∙ ap neg_ℤ (*ℤ_comm b a)
+turn : (p q r : ℤ) → (p *ℤ q) *ℤ r ≡ (p *ℤ r) *ℤ q
+turn p q r = *ℤ_assoc p q r ∙ ap (λ z. p *ℤ z) (*ℤ_comm q r) ∙ sym (*ℤ_assoc p r q)
 
-*ℤ_cancel : (e : ℕ) (a : ℤ) → 0 < e → pos e *ℤ a ≡ pos 0 → a ≡ pos 0
-*ℤ_cancel zero a h z = absurd (omega arith)
-*ℤ_cancel (suc e) a h z = *ℤ_zero e a z
-
-mul_swap : (a b c : ℤ) → a *ℤ (b *ℤ c) ≡ b *ℤ (a *ℤ c)
-mul_swap a b c = sym (*ℤ_assoc a b c) ∙ ap (λ x. x *ℤ c) (*ℤ_comm a b) ∙ *ℤ_assoc b a c
+-- what divides a product and has nothing in common with the one divides the other
+divides_other : (a b c : ℕ) → IsGcd a b 1 → a ∣ b * c → a ∣ c
+divides_other a b c apart divides =
+    let g = unsigned_abs (gcd_of (pos a) (pos b)) in
+    let one : g ≡ 1 = same_from_IsGcd a b g 1 (gcd_of-IsGcd (pos a) (pos b)) apart in
+    subst (λ z. a ∣ z) (ap (λ z. c * z) one ∙ mul-one c) (gcd_of-scaled (pos a) (pos b) c a (dvd-mul_left a c) (subst (λ z. a ∣ z) (mul_comm b c) divides))
 
 -- a fraction with the proof that it is in lowest terms
 pub record Rational : Type 0 where
@@ -146,9 +147,6 @@ pub value_unique : {x y : Rational} {a : ℤ} {b : ℕ} → Value x a b → Valu
 value_unique {x} {y} {a} {b} v w = cross_unique x y (cancel _ _ v.positive
     (turn x.top (pos y.bottom) (pos b) ∙ ap (λ z. z *ℤ pos y.bottom) v.cross ∙ turn a (pos x.bottom) (pos y.bottom)
     ∙ ap (λ z. z *ℤ pos x.bottom) (sym w.cross) ∙ turn y.top (pos b) (pos x.bottom)))
-  where
-    turn : (p q r : ℤ) → (p *ℤ q) *ℤ r ≡ (p *ℤ r) *ℤ q
-    turn p q r = *ℤ_assoc p q r ∙ ap (λ z. p *ℤ z) (*ℤ_comm q r) ∙ sym (*ℤ_assoc p r q)
 
 pub value_change : {x : Rational} {a c : ℤ} {b d : ℕ} → a ≡ c → b ≡ d → Value x a b → Value x c d
 value_change {x} {a} {d} e f v = subst (λ z. Value x z d) e (subst (λ z. Value x a z) f v)
@@ -179,9 +177,6 @@ pub carry : {x : Rational} {a : ℤ} (c : ℤ) {b : ℕ} (d : ℕ) → Value x a
 carry {x} {a} c {b} d v e = cancel _ _ v.positive
     (turn x.top (pos d) (pos b) ∙ ap (λ z. z *ℤ pos d) v.cross ∙ turn a (pos x.bottom) (pos d) ∙ ap (λ z. z *ℤ pos x.bottom) e
     ∙ turn c (pos b) (pos x.bottom))
-  where
-    turn : (p q r : ℤ) → (p *ℤ q) *ℤ r ≡ (p *ℤ r) *ℤ q
-    turn p q r = *ℤ_assoc p q r ∙ ap (λ z. p *ℤ z) (*ℤ_comm q r) ∙ sym (*ℤ_assoc p r q)
 
 pub plus_value : {x y : Rational} {a c : ℤ} {b d : ℕ} → Value x a b → Value y c d → Value (rational_plus x y) (a *ℤ pos d +ℤ c *ℤ pos b) (b * d)
 unfolding rational_plus

@@ -11,18 +11,10 @@ use Rattle.confluence.proofs.Spans.{Span}
 use Rattle.word_orders.specs.Orders.{Order}
 use Rattle.confluence.proofs.Meets.{Rules}
 use Rattle.normal_forms.proofs.FieldLaws.{minus_one, minus_unique, int_none}
-use Rattle.normal_forms.proofs.Forms.{hit, look}
+use Rattle.normal_forms.proofs.Forms.{all_front, all_back, hit, look}
 use Rattle.normal_forms.specs.Forms.{Form}
 use Rattle.normal_forms.proofs.Congruence.{lifted, AnyRow, Cong, cong_left, cong_after}
 use Rattle.normal_forms.proofs.Sharp.{ideal_like}
-
-pub all_front : {A : Type 0} (P : A → Type 0) (p q : List A) → AllByRecursion P (p ++ q) → AllByRecursion P p
-all_front P [] q a = tt
-all_front P (x ∷ p) q a = (a.0, all_front P p q a.1)
-
-pub all_back : {A : Type 0} (P : A → Type 0) (p q : List A) → AllByRecursion P (p ++ q) → AllByRecursion P q
-all_back P [] q a = a
-all_back P (x ∷ p) q a = all_back P p q a.1
 
 -- what holds of all that a member gives
 all_marked : {A : Type 0} (P : A → Type 0) (h : ℕ → List A) (marked : List ℕ) (v : ℕ) → list_any (nat_eq v) marked ≡ true
