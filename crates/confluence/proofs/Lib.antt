@@ -40,6 +40,5 @@ pub mod OutsideIdeals
 pub mod TypedLaws
 pub mod ShapeLaws
 pub mod MakingLaws
-pub mod Ends
 pub mod Contents
 mod CompletionExample

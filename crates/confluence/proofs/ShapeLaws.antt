@@ -1,5 +1,5 @@
--- Sums, multiples and moves that go well keep polynomials sorted and in range.
-use Rattle.std.proofs.Common.{◌≡◌, ◌≢◌, ℕ, zero, suc, ℤ, pos, List, [], ◌∷◌, ◌++◌, Option, Some, None, Result, Ok, Err, refl, sym, ap, ◌∙◌, subst}
+-- Sums, multiples, moves and reductions that go well keep polynomials sorted and in range, and what does not go well is a fault that isn't want of memory.
+use Rattle.std.proofs.Common.{◌≡◌, ◌≢◌, ℕ, zero, suc, ℤ, pos, List, [], ◌∷◌, ◌++◌, Option, Some, None, Result, Ok, Err, refl, sym, ap, ◌∙◌, subst, ◌⊎◌, inl, inr, Bool, true, false, cond, length, nat_lt}
 use Rattle.std.specs.List.{All}
 use Rattle.coef_int.specs.declared.Overflow.{Overflow}
 use Rattle.coef_int.specs.Operations.{product_of, first_overflow}
@@ -10,14 +10,14 @@ use Rattle.word_orders.specs.Admissible.{Compare}
 use Rattle.nc_polynomial.specs.declared.fault.PolyFault.{PolyFault}
 use Rattle.nc_polynomial.specs.declared.fault.PolyFault.TheVariants as fault
 use Rattle.nc_polynomial.specs.Terms.{IsDescending, scaled, multiplied, multiplications, negated, shifted, products, added, sums}
-use Rattle.nc_polynomial.specs.Faults.{checked, unless_overflow, sized}
-use Rattle.nc_polynomial.specs.Shape.{IsShaped}
+use Rattle.nc_polynomial.specs.Faults.{checked, unless_overflow, sized, size_fault, has_long_word, IsMemory}
+use Rattle.nc_polynomial.specs.Shape.{IsShaped, IsCanonical}
 use Rattle.nc_polynomial.specs.Arithmetic.{combined}
 use Rattle.nc_polynomial.specs.Product.{and_then}
 use Rattle.nc_polynomial.proofs.Around.{shaped-between}
 use Rattle.nc_polynomial.proofs.Chains.{or_first, first-append, ranged_multiply, shaped_scale, shaped_add, sized-value, finished-value}
 use Rattle.nc_polynomial.proofs.Distinct.{distinct-descending, words_listed}
-use Rattle.nc_polynomial.proofs.Products.{shaped_shift}
+use Rattle.nc_polynomial.proofs.Products.{shaped_shift, canonical_sized}
 use Rattle.nc_polynomial.proofs.Shapes.{IsDescending-from_recursion, recursion_from_IsDescending, descending-scaled, nonzero-scaled, shaped-negated}
 use Rattle.rule_reduce.specs.declared.rule.Rule.{Rule}
 use Rattle.rule_reduce.specs.declared.state.State.{State}
@@ -27,15 +27,18 @@ use Rattle.rule_reduce.specs.declared.fault.ReduceFault.TheVariants as halt
 use Rattle.rule_reduce.specs.RuleLists.{rule_at, polynomials_of, entries_of}
 use Rattle.rule_reduce.specs.Choices.{choice_of}
 use Rattle.rule_reduce.specs.Steps.{Move, moved, move_of, move_result, move_operations, row_operations, state_operations, less_operations, if_sized, step_by, step_result}
-use Rattle.rule_reduce.specs.NormalForms.{halt_of, then_next, at_limit, one_step, reduction, start_of}
+use Rattle.rule_reduce.specs.NormalForms.{halt_of, then_next, at_limit, one_step, reduction, start_of, normal_form_of}
 use Rattle.rule_reduce.proofs.Exits.{multiplied-scaled}
 use Rattle.rule_reduce.proofs.Runs.{move_result-value}
-use Rattle.ambiguities.specs.SPolynomials.{first_row, second_row, row_multiple}
+use Rattle.ambiguities.specs.SPolynomials.{first_row, second_row, row_multiple, s_polynomial_of}
 use Rattle.ambiguities.proofs.Multiples.{passed}
 use Rattle.confluence.proofs.Led.{led_or, poly_at}
 use Rattle.confluence.proofs.RestLaws.{rest_over}
 use Rattle.confluence.proofs.WrittenTerms.{shaped_as_written}
 use Rattle.confluence.specs.Shapes.{NormalFormsAreShaped, SPolynomialsAreShaped, RestsHaveLettersBelow}
+use Rattle.rule_reduce.specs.NormalForms as reduce
+use Rattle.ambiguities.specs.declared.ambiguity.Ambiguity.{Ambiguity}
+use Rattle.nc_polynomial.specs.Limits.{term_limit}
 
 -- no overflow
 no_error : {A E : Type 0} (x : A) (e : E) → ◌≡◌ {A = Result A E} (Err e) (Ok x) → ⊥
@@ -115,39 +118,111 @@ move_shaped m s t rule_is rest_is ends =
     (shaped_multiply s.rest m.by rest_is state.first) (shaped-negated (shifted m.times m.left m.rule m.right) taken)
     (fits (sums (multiplied s.rest m.by) (negated (shifted m.times m.left m.rule m.right))) (added (multiplied s.rest m.by) (negated (shifted m.times m.left m.rule m.right))) less.rest))
 
-step_shaped : (rules : List Rule) (c : Choice) (s t : State) → IsShaped s.rest → step_result rules c s ≡ Ok t → IsShaped t.rest
-step_shaped rules c s t shaped ends = (elim (rule_at rules c.number) as (λ o. step_by o c s ≡ Ok t → IsShaped t.rest) [
-  | None ↦ λ e. subst (λ (u : State). IsShaped u.rest) (same s t e) shaped
-  | Some g ↦ λ e. move_shaped (move_of c g) s t g.poly.canonical.shaped shaped e
-]) ends
-  where
-    same : (x y : State) → ◌≡◌ {A = Result State PolyFault} (Ok x) (Ok y) → x ≡ y
-    same x y e = cc
+-- a value with a property, or a fault that isn't want of memory
+abbrev pub Makes : {A : Type 0} → (A → Type 0) → Result A PolyFault → Type 0
+Makes P (Ok x) = P x
+Makes P (Err e) = IsMemory e → ⊥
 
-reduction_shaped : (compare : Compare) (rules : List Rule) (limit n : ℕ) (s t : State) → IsShaped s.rest → reduction limit compare rules n s ≡ Ok t → IsShaped t.rest
-reduction_shaped compare rules limit zero s t shaped ends = go (choice_of compare (entries_of rules) s.rest) ends
-  where
-    same : (x y : State) → ◌≡◌ {A = Result State ReduceFault} (Ok x) (Ok y) → x ≡ y
-    same x y e = cc
+abbrev pub Gives : {A : Type 0} → (A → Type 0) → Result A ReduceFault → Type 0
+Gives P (Ok x) = P x
+Gives P (Err e) = reduce.IsMemory e → ⊥
 
-    go : (o : Option Choice) → at_limit limit o s ≡ Ok t → IsShaped t.rest
-    go None e = subst (λ (u : State). IsShaped u.rest) (same s t e) shaped
-    go (Some c) e = absurd (no_error t (halt.Steps limit) e)
-reduction_shaped compare rules limit (suc n) s t shaped ends = go (choice_of compare (entries_of rules) s.rest) (reduction_shaped compare rules limit n) ends
-  where
-    same : (x y : State) → ◌≡◌ {A = Result State ReduceFault} (Ok x) (Ok y) → x ≡ y
-    same x y e = cc
+pub makes_too : {A : Type 0} (P Q : A → Type 0) (r : Result A PolyFault) → ((x : A) → r ≡ Ok x → P x → Q x) → Makes P r → Makes Q r
+makes_too P Q (Ok x) follows makes = follows x refl makes
+makes_too P Q (Err e) follows makes = makes
 
-    go : (o : Option Choice) → ((u v : State) → IsShaped u.rest → reduction limit compare rules n u ≡ Ok v → IsShaped v.rest) → one_step rules o s (reduction limit compare rules n) ≡ Ok t → IsShaped t.rest
-    go None later e = subst (λ (u : State). IsShaped u.rest) (same s t e) shaped
-    go (Some c) later e = stepped (step_result rules c s) refl e
+pub gives_too : {A : Type 0} (P Q : A → Type 0) (r : Result A ReduceFault) → ((x : A) → r ≡ Ok x → P x → Q x) → Gives P r → Gives Q r
+gives_too P Q (Ok x) follows gives = follows x refl gives
+gives_too P Q (Err e) follows gives = gives
+
+-- polynomials
+abbrev IsSized : List Term → Type 0
+IsSized p = sized p ≡ Ok p
+
+sized_or_not : (p : List Term) → IsSized p ⊎ ((letters : Bool) × (sized p ≡ Err (size_fault letters)))
+sized_or_not p = go (has_long_word p) (nat_lt term_limit (length p))
+  where
+    go : (long many : Bool) → (cond long (Err (size_fault true)) (cond many (Err (size_fault false)) (Ok p)) ≡ Ok p)
+        ⊎ ((letters : Bool) × (cond long (Err (size_fault true)) (cond many (Err (size_fault false)) (Ok p)) ≡ Err (size_fault letters)))
+    go true many = inr (true, refl)
+    go false true = inr (false, refl)
+    go false false = inl refl
+
+sized_makes : (p : List Term) → Makes IsSized (sized p)
+sized_makes p = elim (sized_or_not p) [
+  | inl within ↦ subst (Makes IsSized) (sym within) within
+  | inr (letters, large) ↦ subst (Makes IsSized) (sym large) (λ memory. memory)
+]
+
+overflow_makes : {A : Type 0} (P : A → Type 0) (o : Option Overflow) (r : Result A PolyFault) → Makes P r → Makes P (unless_overflow o r)
+overflow_makes P None r makes = makes
+overflow_makes P (Some o) r makes = λ memory. memory
+
+then_makes : (P Q : List Term → Type 0) (r : Result (List Term) PolyFault) (next : List Term → Result (List Term) PolyFault) → Makes P r → ((p : List Term) → P p → Makes Q (next p)) → Makes Q (and_then r next)
+then_makes P Q (Ok p) next makes later = later p makes
+then_makes P Q (Err e) next makes later = makes
+
+-- S-polynomials
+combined_makes : (a : ℤ) (p : List Term) (b : ℤ) (q : List Term) → Makes IsSized (combined a p b q)
+combined_makes a p b q =
+    overflow_makes IsSized (first_overflow (products a p ++ (products b q ++ sums (scaled a p) (scaled b q)))) (sized (added (scaled a p) (scaled b q))) (sized_makes (added (scaled a p) (scaled b q)))
+
+pub s_polynomial_makes : (rules : List Rule) (a : Ambiguity) → Makes IsCanonical (s_polynomial_of rules a)
+s_polynomial_makes rules a =
+    makes_too IsSized IsCanonical (s_polynomial_of rules a) (λ p is within. canonical_sized p p (s_polynomials_are_shaped rules a p is) within)
+    (then_makes IsSized IsSized (row_multiple rules (first_row rules a)) (λ p. and_then (row_multiple rules (second_row rules a)) (λ q. combined (first_row rules a).coef p (second_row rules a).coef q))
+    (sized_makes (poly_between (first_row rules a).left (generator_at (polynomials_of rules) a.i) (first_row rules a).right)) (λ p _.
+    then_makes IsSized IsSized (row_multiple rules (second_row rules a)) (λ q. combined (first_row rules a).coef p (second_row rules a).coef q)
+    (sized_makes (poly_between (second_row rules a).left (generator_at (polynomials_of rules) a.j) (second_row rules a).right)) (λ q _.
+    combined_makes (first_row rules a).coef p (second_row rules a).coef q)))
+
+-- reductions
+move_makes : (m : Move) (s : State) → Makes (λ t. IsSized t.rest) (move_result m s)
+move_makes m s = overflow_makes (λ t. IsSized t.rest) (first_overflow (move_operations m s)) (if_sized (sized (moved m s).rest) (moved m s)) (elim (sized_or_not (moved m s).rest) [
+  | inl within ↦ subst (λ r. Makes (λ t. IsSized t.rest) (if_sized r (moved m s))) (sym within) within
+  | inr (letters, large) ↦ subst (λ r. Makes (λ t. IsSized t.rest) (if_sized r (moved m s))) (sym large) (λ memory. memory)
+])
+
+halt_memory : (e : PolyFault) → reduce.IsMemory (halt_of e) → IsMemory e
+halt_memory (fault.Overflow o) memory = memory
+halt_memory (fault.Size s) memory = memory
+halt_memory (fault.Memory e) memory = memory
+
+module _ (first : List Term) where
+  -- It is sorted and in range, and it is what there was at first, or within the limits.
+  abbrev IsKept : State → Type 0
+  IsKept s = IsShaped s.rest × ((s.rest ≡ first) ⊎ IsSized s.rest)
+
+  step_makes : (o : Option Rule) (c : Choice) (s : State) → IsKept s → Makes IsKept (step_by o c s)
+  step_makes None c s kept = kept
+  step_makes (Some g) c s kept = makes_too (λ t. IsSized t.rest) IsKept (move_result (move_of c g) s)
+      (λ t is within. (move_shaped (move_of c g) s t g.poly.canonical.shaped kept.0 is, inr within)) (move_makes (move_of c g) s)
+
+  next_gives : (r : Result State PolyFault) (next : State → Result State ReduceFault) → Makes IsKept r → ((s : State) → IsKept s → Gives IsKept (next s)) → Gives IsKept (then_next r next)
+  next_gives (Ok s) next makes later = later s makes
+  next_gives (Err e) next makes later = λ memory. makes (halt_memory e memory)
+
+  module _ (compare : Compare) (rules : List Rule) (limit : ℕ) where
+    reduction_gives : (n : ℕ) (s : State) → IsKept s → Gives IsKept (reduction limit compare rules n s)
+    reduction_gives zero s kept = elim (choice_of compare (entries_of rules) s.rest) as (λ o. Gives IsKept (at_limit limit o s)) [
+      | None ↦ kept
+      | Some c ↦ λ memory. memory
+    ]
+    reduction_gives (suc n) s kept = go (choice_of compare (entries_of rules) s.rest) (reduction_gives n)
       where
-        stepped : (r : Result State PolyFault) → step_result rules c s ≡ r → then_next r (reduction limit compare rules n) ≡ Ok t → IsShaped t.rest
-        stepped (Ok u) went k = later u t (step_shaped rules c s u shaped went) k
-        stepped (Err x) went k = absurd (no_error t (halt_of x) k)
+        go : (o : Option Choice) → ((t : State) → IsKept t → Gives IsKept (reduction limit compare rules n t)) → Gives IsKept (one_step rules o s (reduction limit compare rules n))
+        go None later = kept
+        go (Some c) later = next_gives (step_result rules c s) (reduction limit compare rules n) (step_makes (rule_at rules c.number) c s kept) later
 
 pub normal_forms_are_shaped : NormalFormsAreShaped
-normal_forms_are_shaped compare rules p steps s shaped ends = reduction_shaped compare rules steps steps (start_of p) s shaped ends
+normal_forms_are_shaped compare rules p steps s shaped ends = (subst (Gives (IsKept p)) ends (reduction_gives p compare rules steps steps (start_of p) (shaped, inl refl))).0
+
+pub normal_form_gives : (compare : Compare) (rules : List Rule) (p : List Term) (steps : ℕ) → IsCanonical p → Gives (λ s. IsCanonical s.rest) (normal_form_of compare rules p steps)
+normal_form_gives compare rules p steps canonical =
+    gives_too (IsKept p) (λ s. IsCanonical s.rest) (normal_form_of compare rules p steps) (λ s is kept. elim kept.1 [
+      | inl same ↦ subst IsCanonical (sym same) canonical
+      | inr within ↦ canonical_sized s.rest s.rest kept.0 within
+    ]) (reduction_gives p compare rules steps steps (start_of p) (canonical.shaped, inl refl))
 
 pub rests_have_letters_below : RestsHaveLettersBelow
 rests_have_letters_below letters compare rules p s over reduced shaped =

@@ -35,7 +35,7 @@ use Rattle.claim_decider.specs.declared.outcome.Outcome.{Outcome}
 use Rattle.claim_decider.specs.declared.outcome.Outcome.TheVariants as outcome
 use Rattle.claim_decider.specs.Outcomes.{IsCauseOfExpansion, IsCauseOfGathering, halted_at, IsHalted, record_of, certificate_of, Expands, Gathers, IsProved, evidence_of_zero, IsLeft, IsDoneWith, IsDoneBy, IsDone, IsOpen, IsClosedWith, GetsOutcome, at_once, after_round, by_closing, by_stop}
 use Rattle.outcome_laws.specs.Existence.{HasRound}
-use Rattle.confluence.proofs.Ends.{Gives, normal_form_gives}
+use Rattle.confluence.proofs.ShapeLaws.{Gives, normal_form_gives}
 use Rattle.outcome_laws.proofs.Evidence.{IsExact, expansion_exact, gathered_exact}
 use Rattle.outcome_laws.proofs.Rounds.{has_cause, has_round}
 
