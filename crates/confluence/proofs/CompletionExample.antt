@@ -36,8 +36,7 @@ use Rattle.confluence.specs.Rests.{generator_rows, IsAppended, rule_made}
 use Rattle.confluence.specs.Kept.{HaveLettersBelow, Kept}
 use Rattle.confluence.specs.Conclusions.{AreAllDone, NothingPending}
 use Rattle.confluence.proofs.ShapeLaws.{zero_is_shaped}
-use Rattle.confluence.proofs.Steps.{start_is_kept, generators_are_kept}
-use Rattle.confluence.proofs.Treating.{resolved_at_once_is_kept}
+use Rattle.confluence.proofs.Steps.{start_is_kept, generators_are_kept, resolved_at_once_is_kept}
 use Rattle.confluence.proofs.OutsideIdeals.{nonzero_is_outside}
 use Rattle.traced_rows.proofs.Lists.{all_one, all_two}
 

@@ -20,7 +20,6 @@ pub mod Factors
 pub mod MeetingsOf
 pub mod BelowSpans
 pub mod ReducibleLaws
-pub mod TracedRows
 pub mod ReducedSpans
 pub mod RestLaws
 pub mod Ideals
@@ -32,9 +31,7 @@ pub mod MoreRules
 pub mod MadeSpans
 pub mod MoreAmbiguities
 pub mod RowSums
-pub mod Appending
 pub mod Steps
-pub mod Treating
 pub mod Inside
 pub mod OutsideIdeals
 pub mod TypedLaws

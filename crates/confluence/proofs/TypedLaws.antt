@@ -30,7 +30,7 @@ use Rattle.confluence.proofs.Shifts.{between_word}
 use Rattle.confluence.specs.Rests.{signed, IsMadeOf, nothing_left, rule_made}
 use Rattle.confluence.specs.Typed.{IsTypedInPlay, AreTypedInPlay, NormalFormsStayTyped, SPolynomialsStayTyped, RulesStayTyped, TypedHasNoEmptyWord}
 use Rattle.confluence.proofs.MadeSpans.{cancel_nonzero}
-use Rattle.confluence.proofs.Appending.{signed_nonzero}
+use Rattle.confluence.proofs.Steps.{signed_nonzero}
 
 typed_rules : (q : Quiver) (play : ℕ → Bool) (rules : List Rule) → AreTypedInPlay q play rules → All (IsTypedRule q) rules
 typed_rules q play rules typed = All-weaker (λ (g : Rule). IsTypedInPlay q play g.poly.terms) (IsTypedRule q) (λ g is. record { source = is.source; target = is.target; typed = is.typed }) rules typed

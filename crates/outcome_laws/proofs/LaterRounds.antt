@@ -24,7 +24,7 @@ use Rattle.confluence.specs.Rests.{rows_less, IsAppended}
 use Rattle.confluence.specs.Kept.{Kept}
 use Rattle.confluence.specs.Typed.{AreTypedInPlay}
 use Rattle.confluence.proofs.ShapeLaws.{s_polynomials_are_shaped}
-use Rattle.confluence.proofs.Treating.{ambiguities_are_kept, resolved_at_once_is_kept}
+use Rattle.confluence.proofs.Steps.{ambiguities_are_kept, resolved_at_once_is_kept}
 use Rattle.confluence.proofs.TypedLaws.{s_polynomials_stay_typed, rules_stay_typed}
 use Rattle.rule_making.specs.Making.{Recorded, Rest, rest_with, Adds}
 use Rattle.traced_completion.specs.Results.{and_then, halted, unless_overflow, each_in_turn}
