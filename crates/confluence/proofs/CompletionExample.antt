@@ -29,9 +29,8 @@ use Rattle.ambiguities.proofs.Balance.{s_polynomials_balance}
 use Rattle.confluence.specs.Reductions.{IsZero, IsReduced}
 use Rattle.confluence.proofs.Examples.{only_rule}
 use Rattle.confluence.proofs.Ideals.{ideals_stay_inside}
-use Rattle.confluence.proofs.RestLaws.{normal_forms_are_reduced, rests_of_ideal_are_zero}
+use Rattle.confluence.proofs.RestLaws.{normal_forms_are_reduced, rests_of_ideal_are_zero, zero_rests_are_inside, zero_rests_are_resolved}
 use Rattle.confluence.proofs.WrittenTerms.{shaped_as_written, canonical_as_written}
-use Rattle.confluence.proofs.ZeroRestLaws.{zero_rests_are_inside, zero_rests_are_resolved}
 use Rattle.confluence.specs.Rests.{generator_rows, IsAppended, rule_made}
 use Rattle.confluence.specs.Kept.{HaveLettersBelow, Kept}
 use Rattle.confluence.specs.Conclusions.{AreAllDone, NothingPending}

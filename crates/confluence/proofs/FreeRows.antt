@@ -12,7 +12,7 @@ use Rattle.confluence.proofs.Spans.{Coefs, Span, single, span_same, nothing}
 use Rattle.traced_rows.proofs.Between.{between-between}
 use Rattle.confluence.proofs.Shifts.{IsLinear, span_map, shift, shift_linear, coefficient_of-between, between_word}
 use Rattle.confluence.proofs.Outside.{AnyRow}
-use Rattle.confluence.proofs.Parts.{rules_of}
+use Rattle.confluence.proofs.LedRules.{rules_of}
 use Rattle.confluence.proofs.SumRows.{Numbered, listed, combination_span, combination_from, span_from_numbered}
 use Rattle.confluence.proofs.Resolve.{everything, InRange}
 

@@ -21,7 +21,7 @@ use Rattle.confluence.specs.Reductions.{IsZero, IsReduced}
 use Rattle.confluence.proofs.Integers.{positive_nat}
 use Rattle.confluence.proofs.Spans.{Span, nothing, part, single, span_same, span_add, span_scale}
 use Rattle.confluence.proofs.SumRows.{Numbered}
-use Rattle.confluence.proofs.ZeroRestLaws.{zero_rests_are_inside}
+use Rattle.confluence.proofs.RestLaws.{zero_rests_are_inside}
 use Rattle.confluence.proofs.FreeRows.{Free, in_ideal}
 use Rattle.confluence.proofs.Ideals.{between_span, all_from_numbers, ideals_stay_inside}
 use Rattle.confluence.specs.Rests.{IsEarlier}

@@ -8,8 +8,6 @@ pub mod Meets
 pub mod Closed
 pub mod Outside
 pub mod Led
-pub mod Parts
-pub mod RuleRows
 pub mod SumRows
 pub mod Resolve
 pub mod FreeRows
@@ -23,12 +21,10 @@ pub mod ReducibleLaws
 pub mod ReducedSpans
 pub mod RestLaws
 pub mod Ideals
-pub mod ZeroRestLaws
 pub mod PlaceLaws
 pub mod WrittenTerms
 mod Examples
 pub mod MoreRules
-pub mod MadeSpans
 pub mod MoreAmbiguities
 pub mod RowSums
 pub mod Steps

@@ -17,8 +17,7 @@ use Rattle.ambiguities.specs.Resolved.{ComesBelow, IsResolved}
 use Rattle.confluence.proofs.Shifts.{between_word, span_bind}
 use Rattle.confluence.proofs.Ideals.{generator_decided}
 use Rattle.confluence.proofs.Outside.{AnyRow, piece_span}
-use Rattle.confluence.proofs.Parts.{same_nat}
-use Rattle.confluence.proofs.LedRules.{ordered}
+use Rattle.confluence.proofs.LedRules.{ordered, same_nat}
 use Rattle.confluence.proofs.BelowSpans.{below_from_span, comes_from_below}
 use Rattle.confluence.proofs.Resolve.{below}
 use Rattle.confluence.proofs.RestLaws.{rests_of_ideal_are_zero, rests_below_are_zero}

@@ -19,10 +19,9 @@ use Rattle.ambiguities.specs.Resolved.{ComesBelow}
 use Rattle.confluence.specs.Places.{Place, IsPlace, IsOnePlace, IsApart, IsFromAmbiguity, PlacesOfOneWord, place_poly, RowsApartDiffer}
 use Rattle.confluence.proofs.Integers.{neg_ℤ-*ℤ}
 use Rattle.confluence.proofs.Led.{led_at, Comes, led_at-is}
-use Rattle.confluence.proofs.LedRules.{leds_are, row_poly}
+use Rattle.confluence.proofs.LedRules.{leds_are, row_poly, same_nat, rules_of}
 use Rattle.confluence.proofs.MeetingsOf.{IsMeeting, overlap_meeting, inclusion_meeting}
 use Rattle.confluence.proofs.Places.{SomeLetters, some_length, Placed, apart, overlap, inside, outside, EitherWay, first, second, two_places}
-use Rattle.confluence.proofs.Parts.{same_nat, rules_of}
 use Rattle.confluence.proofs.Resolve.{everything, below}
 use Rattle.confluence.proofs.Spans.{Coefs, Span, span_same, single}
 use Rattle.confluence.proofs.Shifts.{span_bind}

@@ -22,10 +22,9 @@ use Rattle.rule_reduce.specs.KeptWords.{IsAtMostOf}
 use Rattle.confluence.specs.Reductions.{IsZero, IsReduced}
 use Rattle.confluence.proofs.Integers.{second_part}
 use Rattle.confluence.proofs.Led.{IsAtMostOf as IsAtMostIn}
-use Rattle.confluence.proofs.LedRules.{leds_are, ordered}
+use Rattle.confluence.proofs.LedRules.{leds_are, ordered, Bounded, at_most_bounded, from_rest}
 use Rattle.confluence.proofs.Meets.{Allowed}
 use Rattle.confluence.proofs.Outside.{AnyRow}
-use Rattle.confluence.proofs.RuleRows.{Bounded, at_most_bounded, from_rest}
 
 -- each word to which the row multiplies its polynomial is as asked
 abbrev pub IsAsked : List (List Term) → (Word → Type 0) → Row → Type 0

@@ -4,7 +4,7 @@ use Rattle.definitions.specs.Poly.{coefficient_of, Word, Term}
 use Rattle.word_orders.specs.Orders.{Order}
 use Rattle.confluence.proofs.Meets.{Allowed}
 use Rattle.confluence.proofs.Outside.{at_most_of}
-use Rattle.confluence.proofs.RuleRows.{Bounded, bounded_from}
+use Rattle.confluence.proofs.LedRules.{Bounded, bounded_from}
 
 -- the bounds
 abbrev pub everything : (o : Order) → Allowed o

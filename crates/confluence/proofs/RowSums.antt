@@ -21,7 +21,7 @@ use Rattle.rule_reduce.specs.Laws.{IsByRule}
 use Rattle.rule_reduce.specs.Steps.{multiplied_row}
 use Rattle.confluence.specs.Reductions.{IsReduced}
 use Rattle.confluence.proofs.Integers.{neg_ℤ-*ℤ, first_part}
-use Rattle.confluence.proofs.RuleRows.{coefficient_of-bare}
+use Rattle.confluence.proofs.LedRules.{coefficient_of-bare}
 use Rattle.confluence.specs.Rests.{negated_row, negated_rows, generator_rows, rows_less, IsEarlier, AddsUpTo}
 
 -- the same rows over more rules

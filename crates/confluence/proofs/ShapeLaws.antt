@@ -23,7 +23,6 @@ use Rattle.rule_reduce.specs.declared.rule.Rule.{Rule}
 use Rattle.rule_reduce.specs.declared.state.State.{State}
 use Rattle.rule_reduce.specs.declared.state.Choice.{Choice}
 use Rattle.rule_reduce.specs.declared.fault.ReduceFault.{ReduceFault}
-use Rattle.rule_reduce.specs.declared.fault.ReduceFault.TheVariants as halt
 use Rattle.rule_reduce.specs.RuleLists.{rule_at, polynomials_of, entries_of}
 use Rattle.rule_reduce.specs.Choices.{choice_of}
 use Rattle.rule_reduce.specs.Steps.{Move, moved, move_of, move_result, move_operations, row_operations, state_operations, less_operations, if_sized, step_by, step_result}

@@ -28,9 +28,8 @@ use Rattle.ambiguities.proofs.Numbers.{rule_at-last, rule_at-first}
 use Rattle.confluence.proofs.Integers.{neg_ℤ-*ℤ}
 use Rattle.confluence.specs.Rests.{IsEarlier, AddsUpTo, signed, signed_rows, IsMadeOf, generator_rows, rows_less, IsAppended, nothing_left, rule_made}
 use Rattle.confluence.specs.Kept.{AreApart, IsRecorded, AreRecorded, IsReached, HaveLettersBelow, Kept, StartIsKept, GeneratorsAreKept, AmbiguitiesAreKept, ResolvedAtOnceIsKept}
-use Rattle.confluence.proofs.MoreRules.{reached_more, in_range, reached_from_span, span_more}
+use Rattle.confluence.proofs.MoreRules.{reached_more, in_range, reached_from_span, span_more, cancel_nonzero, IsAccounted, rest_bounded, accounted_span, reduced_in}
 use Rattle.confluence.proofs.MoreAmbiguities.{resolved_more, ambiguity_more, overlap_word-more, s_sum-more}
-use Rattle.confluence.proofs.MadeSpans.{cancel_nonzero, IsAccounted, rest_bounded, accounted_span, reduced_in}
 use Rattle.confluence.proofs.RowSums.{polynomial-more, traced_sum-more, traced-negated, all_negated, less_adds_up, generator_adds_up, traced_sum-by_rules, earlier_by_rule}
 use Rattle.word_orders.specs.Orders.{Order}
 use Rattle.word_orders.proofs.Orders.{order_from_laws}
@@ -39,13 +38,12 @@ use Rattle.confluence.specs.Reductions.{IsZero, IsReduced}
 use Rattle.confluence.proofs.Meets.{Allowed}
 use Rattle.confluence.proofs.Outside.{AnyRow, at_most_of}
 use Rattle.confluence.proofs.ReducedSpans.{zero_rest_span, reduced_span}
-use Rattle.confluence.proofs.LedRules.{ordered}
+use Rattle.confluence.proofs.LedRules.{ordered, Bounded, from_rest}
 use Rattle.confluence.proofs.Resolve.{bounded_self, below}
-use Rattle.confluence.proofs.RuleRows.{Bounded, from_rest}
 use Rattle.confluence.proofs.Spans.{Span}
 use Rattle.ambiguities.specs.Ambiguities.{IsAmbiguity, overlap_word_of}
 use Rattle.ambiguities.specs.SPolynomials.{first_row, second_row, s_rows_of}
-use Rattle.confluence.proofs.ZeroRestLaws.{s_bounded, resolved_by, zero_rests_are_resolved}
+use Rattle.confluence.proofs.RestLaws.{s_bounded, resolved_by, zero_rests_are_resolved}
 use Rattle.traced_rows.proofs.Lists.{all_two}
 
 -- the last item of a list

@@ -17,9 +17,8 @@ use Rattle.confluence.proofs.Shifts.{span_bind}
 use Rattle.confluence.proofs.Meets.{poly, Allowed}
 use Rattle.ambiguities.proofs.Multiples.{coefficient_of-around}
 use Rattle.confluence.proofs.Outside.{AnyRow, row_word}
-use Rattle.confluence.proofs.Parts.{parted, coefficient_of-parted, rules_of}
+use Rattle.confluence.proofs.LedRules.{parted, coefficient_of-parted, rules_of, same_between, row_at, leading_nonzero}
 use Rattle.confluence.proofs.Integers.{positive_nat}
-use Rattle.confluence.proofs.RuleRows.{same_between, row_at, leading_nonzero}
 
 -- rows over polynomials of any kind whose sum is a multiple
 pub record Listed (polys : List (List Term)) (Asked : Word → Type 0) (f : Coefs) : Type 0 where

@@ -29,7 +29,7 @@ use Rattle.ambiguities.proofs.Signatures.{s_polynomials_are_typed}
 use Rattle.confluence.proofs.Shifts.{between_word}
 use Rattle.confluence.specs.Rests.{signed, IsMadeOf, nothing_left, rule_made}
 use Rattle.confluence.specs.Typed.{IsTypedInPlay, AreTypedInPlay, NormalFormsStayTyped, SPolynomialsStayTyped, RulesStayTyped, TypedHasNoEmptyWord}
-use Rattle.confluence.proofs.MadeSpans.{cancel_nonzero}
+use Rattle.confluence.proofs.MoreRules.{cancel_nonzero}
 use Rattle.confluence.proofs.Steps.{signed_nonzero}
 
 typed_rules : (q : Quiver) (play : ℕ → Bool) (rules : List Rule) → AreTypedInPlay q play rules → All (IsTypedRule q) rules

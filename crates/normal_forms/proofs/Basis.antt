@@ -1,5 +1,5 @@
 -- The category of the normal forms of resolved rules, and what is zero in it.
-use Rattle.std.proofs.Common.{◌≡◌, ◌≢◌, ℕ, ◌<◌, pos, Bool, true, not, List, [], ◌∷◌, ◌++◌, Some, refl, sym, ap, ◌∙◌, subst, arith, true≢false, ltb, ltb-true}
+use Rattle.std.proofs.Common.{◌≡◌, ◌≢◌, ℕ, ◌<◌, pos, Bool, true, not, List, [], ◌∷◌, ◌++◌, refl, sym, ap, ◌∙◌, subst, arith, true≢false, ltb, ltb-true}
 use Rattle.std.proofs.lemmas.Bool.{and_parts}
 use Rattle.std.proofs.lemmas.Bool.Decides.{Decides-int_eq}
 use Rattle.std.proofs.lemmas.Int.{ints}
@@ -21,20 +21,19 @@ use Rattle.word_orders.proofs.Over.{IsOver-append}
 use Rattle.quiver.specs.Declarations.{letter_count, quiver_of}
 use Rattle.quiver.proofs.Counts.{letters-quiver_of}
 use Rattle.rule_reduce.specs.declared.rule.Rule.{Rule}
-use Rattle.rule_reduce.specs.RuleLists.{IsRule, rule_at, polynomials_of}
+use Rattle.rule_reduce.specs.RuleLists.{IsRule, polynomials_of}
 use Rattle.rule_reduce.proofs.Numbers.{rule_at-all}
 use Rattle.adjoint_rules.specs.declared.parts.Parts.{Parts}
 use Rattle.adjoint_rules.specs.Problem.{numbers, is_in_play, polynomials, generators_in}
 use Rattle.adjoint_rules.proofs.Generators.{posed_quiver, marked_are_objects, assumptions_have_signatures}
 use Rattle.confluence.specs.Typed.{IsTypedInPlay}
-use Rattle.confluence.proofs.Led.{HasLed, led_at, Comes, led_of, led_at-is}
-use Rattle.confluence.proofs.LedRules.{led_is, leds_are}
+use Rattle.confluence.proofs.Led.{HasLed, led_at, led_of, led_at-is}
+use Rattle.confluence.proofs.LedRules.{led_is, leds_are, parted, is_lower, all_words_filtered}
 use Rattle.confluence.proofs.Spans.{Span}
-use Rattle.confluence.proofs.Parts.{parted, is_lower, all_words_filtered}
 use Rattle.confluence.proofs.Resolve.{everything}
 use Rattle.confluence.proofs.Resolved.{all_resolved}
 use Rattle.confluence.proofs.FreeRows.{Free, ideal_span, free_span}
-use Rattle.confluence.proofs.SumRows.{Numbered, comes_from_span}
+use Rattle.confluence.proofs.SumRows.{comes_from_span}
 use Rattle.normal_forms.specs.Descents.{all_grounded}
 use Rattle.normal_forms.specs.NormalForms.{IsBasis, normal_forms, forms_representation}
 use Rattle.normal_forms.specs.SharpMeans.{SharpMeans}

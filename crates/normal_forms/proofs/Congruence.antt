@@ -1,6 +1,5 @@
 -- Polynomials that differ by a sum of rows over the rules, with multipliers in the field.
-use Rattle.std.proofs.Common.{◌≡◌, ◌⊎◌, inl, inr, ℕ, ◌<◌, ◌*◌, refl, sym, ap, ap₂, subst, ◌∙◌, Bool, true, false, cond, List, [], ◌∷◌, ◌++◌, append_assoc, arith, ℤ, pos, ◌+ℤ◌, ◌*ℤ◌, neg_ℤ}
-use Rattle.std.proofs.lemmas.Int.{ints}
+use Rattle.std.proofs.Common.{◌≡◌, inl, inr, ℕ, ◌<◌, ◌*◌, refl, sym, ap, ap₂, subst, ◌∙◌, Bool, true, false, cond, List, [], ◌∷◌, ◌++◌, append_assoc, arith, ℤ, pos, ◌+ℤ◌, ◌*ℤ◌}
 use Rattle.std.proofs.Math.Nat.{mul-pos}
 use Rattle.normal_forms.proofs.Field.{Field}
 use Rattle.definitions.specs.Poly.{Word, Term, word_eq, coefficient_of, poly_between}
@@ -9,8 +8,7 @@ use Rattle.definitions.proofs.Linear.{word_eq-true}
 use Rattle.confluence.proofs.Spans.{Coefs, Span, nothing, more, part, span_scale}
 use Rattle.word_orders.specs.Orders.{Order}
 use Rattle.confluence.proofs.Meets.{Rules, Row, Resolved, poly}
-use Rattle.confluence.proofs.Confluence.{HasTopRow}
-use Rattle.confluence.proofs.Closed.{setting, zero_or_reducible}
+use Rattle.confluence.proofs.Closed.{zero_or_reducible}
 use Rattle.confluence.proofs.Resolve.{everything}
 use Rattle.normal_forms.proofs.FieldLaws.{int_same, part_cancel, minus_plus, none_plus, times_one, times_none, minus_times, times_swap, int_none}
 use Rattle.normal_forms.specs.Forms.{Form, with_words}

@@ -377,10 +377,10 @@ module _ {K : Type 0} (k : Field K) (s : Ground k) where
     unit_back y c [] hx m a = absurd (true≢false (sym m ∙ a.unit refl))
     unit_back {x} y c (b ∷ w) hx m a = let l = last_of x y w a.leads a.plays in
         cong_trans (cong_same
-            (ap (λ z. (k.times c k.one, z) ∷ []) (ap (λ z. z ++ (x ∷ [])) l.is ∙ append_assoc l.before (l.last ∷ []) (x ∷ []))))
-            (cong_trans (cong_before k s.order s.rules facts.join empty_range (facts.play_range l.before l.plays)
-            (cong_scaled c (facts.unit_right x l.last hx m l.letter l.play l.source)))
-            (cong_same (ap₂ (λ y z. (y, z) ∷ []) (times_one k c) (sym l.is))))
+        (ap (λ z. (k.times c k.one, z) ∷ []) (ap (λ z. z ++ (x ∷ [])) l.is ∙ append_assoc l.before (l.last ∷ []) (x ∷ []))))
+        (cong_trans (cong_before k s.order s.rules facts.join empty_range (facts.play_range l.before l.plays)
+        (cong_scaled c (facts.unit_right x l.last hx m l.letter l.play l.source)))
+        (cong_same (ap₂ (λ y z. (y, z) ∷ []) (times_one k c) (sym l.is))))
 
     unit_right_like : {x : ℕ} (y : ℕ) {p : Form K} → x < s.quiver.objects → Each (Good x y) p → Like (product k p ((k.one, unit_word x) ∷ [])) p
     unit_right_like {x} y {p} hx a = (elim (s.marked x) as (λ b. s.marked x ≡ b → Like (product k p ((k.one, cond b (x ∷ []) []) ∷ [])) p) [

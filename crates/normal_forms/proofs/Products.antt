@@ -6,7 +6,7 @@ use Rattle.word_orders.specs.Orders.{Order}
 use Rattle.confluence.proofs.Meets.{Rules}
 use Rattle.normal_forms.proofs.FieldLaws.{middle}
 use Rattle.normal_forms.specs.Forms.{Form, with_words, product_form}
-use Rattle.normal_forms.proofs.Forms.{words-append, words-words, words-same, Each, each-append, hit, look, scaled, sum-append, Alike, scaled-append, scaled-words}
+use Rattle.normal_forms.proofs.Forms.{words-append, words-words, words-same, Each, each-append, hit, look, scaled, Alike, scaled-append, scaled-words}
 use Rattle.normal_forms.proofs.Congruence.{look-append, alike_sym, Cong, alike, cong_refl, cong_same, cong_append, cong_trans, cong_left, cong_scaled, cong_between}
 
 module _ {K : Type 0} (k : Field K) where

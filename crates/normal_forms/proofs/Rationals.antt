@@ -10,7 +10,7 @@ use Rattle.std.proofs.Math.IntN.{*ℤ_comm, zero-*ℤ, +ℤ_idr, +ℤ_invr}
 use Prim.Native.Nat.{◌∣◌}
 use Rattle.normal_forms.proofs.Field.{Field, numbers_of}
 use Rattle.normal_forms.proofs.Homomorphisms.{IsHomomorphism}
-use Rattle.definitions.proofs.Integers.{+ℤ-*ℤ, *ℤ-+ℤ, *ℤ_assoc, *ℤ-neg_ℤ, *ℤ_zero}
+use Rattle.definitions.proofs.Integers.{+ℤ-*ℤ, *ℤ-+ℤ, *ℤ_assoc, *ℤ-neg_ℤ}
 use Rattle.coef_int.specs.Divisor.{gcd_of}
 use Rattle.coef_int.proofs.Divisors.{gcd_of-IsGcd, gcd_of-scaled}
 use Rattle.normal_forms.specs.Fractions.{Fraction, IsLowest, is_zero, quotient, over as fraction_over, fraction_sum, fraction_product, fraction_negative, whole, part_of, fractions}

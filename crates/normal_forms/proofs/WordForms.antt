@@ -23,9 +23,8 @@ use Rattle.ambiguities.specs.Resolved.{is_below}
 use Rattle.confluence.proofs.TermWords.{AllWords}
 use Rattle.confluence.proofs.Tests.{below_from_test, test_from_below}
 use Rattle.confluence.proofs.Led.{Led, HasLed, led_at, led_of, led_at-is}
-use Rattle.confluence.proofs.LedRules.{ordered}
+use Rattle.confluence.proofs.LedRules.{ordered, filtered, is_lower, parted}
 use Rattle.confluence.proofs.Meets.{Rules}
-use Rattle.confluence.proofs.Parts.{filtered, is_lower, parted}
 use Rattle.normal_forms.specs.Forms.{Form, with_words}
 use Rattle.normal_forms.specs.RationalForms.{IsGrounded, grounded, rule_or, first_rule, other_terms, form_where, lower_forms, form_by, word_form, rational_normal_form}
 use Rattle.normal_forms.proofs.Field.{Field, numbers_of}
