@@ -166,15 +166,14 @@ module _ {K : Type 0} (k : Field K) (o : Order) (g : Rules o) where
     pub is : (w : Word) → k.times (k.int (pos denominator)) (look k p w) ≡ k.plus (k.int (difference w)) (k.times (k.int (pos denominator)) (look k q w))
 
   pub cong_cleared : {p q : Form K} → Cong k o g p q → Cleared p q
-  cong_cleared (alike p q f) =
-      record {
-        denominator = 1;
-        difference = λ _. pos 0;
-        positive = omega arith;
-        span = nothing _ (λ w. refl);
-        is =
-            λ w. ap (k.times (k.int (pos 1))) (f.at w) ∙ sym (ap (λ z. k.plus z (k.times (k.int (pos 1)) (look k q w))) (int_none k) ∙ none_plus k _);
-      }
+  cong_cleared (alike p q f) = record {
+    denominator = 1;
+    difference = λ _. pos 0;
+    positive = omega arith;
+    span = nothing _ (λ w. refl);
+    is =
+        λ w. ap (k.times (k.int (pos 1))) (f.at w) ∙ sym (ap (λ z. k.plus z (k.times (k.int (pos 1)) (look k q w))) (int_none k) ∙ none_plus k _);
+  }
   cong_cleared (rows p s q c l i r h m e f) = by_parts (cong_cleared e) (k.split c)
     where
       b : Coefs

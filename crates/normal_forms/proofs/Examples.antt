@@ -208,18 +208,17 @@ is_one = record {
   second = square_rule;
   first_numbered = refl;
   second_numbered = refl;
-  meets =
-      record {
-        before = 2 ∷ [];
-        shared = 2 ∷ [];
-        after = 2 ∷ [];
-        left_splits = refl;
-        right_splits = refl;
-        at_place = refl;
-        before_letters = omega arith;
-        shared_letters = omega arith;
-        after_letters = omega arith;
-      };
+  meets = record {
+    before = 2 ∷ [];
+    shared = 2 ∷ [];
+    after = 2 ∷ [];
+    left_splits = refl;
+    right_splits = refl;
+    at_place = refl;
+    before_letters = omega arith;
+    shared_letters = omega arith;
+    after_letters = omega arith;
+  };
 }
 
 difference : s_polynomial_of rules itself ≡ Ok []

@@ -55,13 +55,12 @@ module _ {Object A B : Type 0} (s : Structure Object A) (c : Structure Object B)
       let below = i.arrow b h.arrow in
       record {
         arrow = down b;
-        is_arrow =
-            record {
-              arrow = below.0;
-              source = sym (i.source (down b)) ∙ ap c.source below.1 ∙ h.source;
-              target = sym (i.target (down b))
-                  ∙ ap c.target below.1 ∙ h.target;
-            };
+        is_arrow = record {
+          arrow = below.0;
+          source = sym (i.source (down b)) ∙ ap c.source below.1 ∙ h.source;
+          target = sym (i.target (down b))
+              ∙ ap c.target below.1 ∙ h.target;
+        };
         same = below.1;
       }
 
@@ -136,12 +135,11 @@ module _ {Object A B : Type 0} (s : Structure Object A) (c : Structure Object B)
   zero_image a = ap₂ c.zero (i.source a) (i.target a) ∙ i.zero (s.source a) (s.target a)
 
   pub image_cancels : {d : ℤ} → Cancels s d → Cancels c d
-  image_cancels {d} cancels =
-      record {
-        at = λ b h. on_arrow (λ b. multiple c d b ≡ c.zero (c.source b) (c.target b) → b ≡ c.zero (c.source b) (c.target b)) (record { arrow = h; source = refl; target = refl })
-            (λ a is e. ap up (cancels.at a is.arrow (same_under (multiple s d a) (s.zero (s.source a) (s.target a)) (sym (multiple_image d a) ∙ e ∙ zero_image a)))
-            ∙ sym (zero_image a));
-      }
+  image_cancels {d} cancels = record {
+    at = λ b h. on_arrow (λ b. multiple c d b ≡ c.zero (c.source b) (c.target b) → b ≡ c.zero (c.source b) (c.target b)) (record { arrow = h; source = refl; target = refl })
+        (λ a is e. ap up (cancels.at a is.arrow (same_under (multiple s d a) (s.zero (s.source a) (s.target a)) (sym (multiple_image d a) ∙ e ∙ zero_image a)))
+        ∙ sym (zero_image a));
+  }
 
   -- representations
   module _ (f : Representation Object A) (g : Representation Object B) (objects : (v : ℕ) → f.object v ≡ g.object v)

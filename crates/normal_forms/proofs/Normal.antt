@@ -64,13 +64,12 @@ module _ {K : Type 0} (k : Field K) (o : Order) (g : Rules o) where
   -- c w is a row and what it is replaced by
   replaced : (c : K) (w : Word) {i : ℕ} (l r : Word) → g.Has i → w ≡ l ++ ((g.rule i).lead ++ r)
       → Alike k ((c, w) ∷ []) (row k o g (k.times c (k.part (g.rule i).leading)) l i r ++ lower c i l r)
-  replaced c w {i} l r h e =
-      record {
-        at = λ v. sym (sum-append k (λ u. hit k u v) (row k o g d l i r) (lower c i l r)
-            ∙ ap₂ k.plus (ap₂ (λ x y. k.plus (k.times x (hit k (l ++ ((g.rule i).lead ++ r)) v)) y) back (look-lifted k at d (g.rule i).tail v))
-            (look-lifted k at (k.minus d) (g.rule i).tail v ∙ minus_times k d _) ∙ k.plus_assoc _ _ _
-            ∙ ap₂ k.plus (ap (λ x. k.times c (hit k x v)) (sym e)) (k.plus_minus _));
-      }
+  replaced c w {i} l r h e = record {
+    at = λ v. sym (sum-append k (λ u. hit k u v) (row k o g d l i r) (lower c i l r)
+        ∙ ap₂ k.plus (ap₂ (λ x y. k.plus (k.times x (hit k (l ++ ((g.rule i).lead ++ r)) v)) y) back (look-lifted k at d (g.rule i).tail v))
+        (look-lifted k at (k.minus d) (g.rule i).tail v ∙ minus_times k d _) ∙ k.plus_assoc _ _ _
+        ∙ ap₂ k.plus (ap (λ x. k.times c (hit k x v)) (sym e)) (k.plus_minus _));
+  }
     where
       d : K
       d = k.times c (k.part (g.rule i).leading)

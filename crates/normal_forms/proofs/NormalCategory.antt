@@ -183,19 +183,17 @@ module _ {K : Type 0} (k : Field K) (s : Ground k) where
 
     pub rebuild : {x y : ℕ} (a : NormalMap K) → a.source ≡ x → a.target ≡ y → x < s.quiver.objects → y < s.quiver.objects → IsForm k s.sorting a.form
         → Each Irr a.form → Each (Good x y) a.form → IsArrow normal_structure x y a
-    rebuild {x} a e f hx hy h i w =
-        record {
-          arrow =
-              record {
-                source_is_object = subst (λ z. z < s.quiver.objects) (sym e) hx;
-                target_is_object = subst (λ z. z < s.quiver.objects) (sym f) hy;
-                sorted = h;
-                irreducible = i;
-                words = subst (λ z. Each (Good z a.target) a.form) (sym e) (subst (λ z. Each (Good x z) a.form) (sym f) w);
-              };
-          source = e;
-          target = f;
-        }
+    rebuild {x} a e f hx hy h i w = record {
+      arrow = record {
+        source_is_object = subst (λ z. z < s.quiver.objects) (sym e) hx;
+        target_is_object = subst (λ z. z < s.quiver.objects) (sym f) hy;
+        sorted = h;
+        irreducible = i;
+        words = subst (λ z. Each (Good z a.target) a.form) (sym e) (subst (λ z. Each (Good x z) a.form) (sym f) w);
+      };
+      source = e;
+      target = f;
+    }
 
     source_object : {x y : ℕ} {a : NormalMap K} → IsArrow normal_structure x y a → x < s.quiver.objects
     source_object h = subst (λ z. z < s.quiver.objects) h.source h.arrow.source_is_object
@@ -346,31 +344,27 @@ module _ {K : Type 0} (k : Field K) (s : Ground k) where
       pub plays : AllPlay s.play before
 
     last_of : (x y : ℕ) {b : ℕ} (w : Word) → leads s.quiver x y (b ∷ w) ≡ true → AllPlay s.play (b ∷ w) → Last x (b ∷ w)
-    last_of x y {b} [] e a =
-        record {
-          before = [];
-          last = b;
-          is = refl;
-          letter = (step s.quiver x y b [] e).letter;
-          source =
-              sym (eqb-true x (source s.quiver b) (step s.quiver x y b [] e).rest);
-          play = a.0;
-          plays = tt;
-        }
+    last_of x y {b} [] e a = record {
+      before = [];
+      last = b;
+      is = refl;
+      letter = (step s.quiver x y b [] e).letter;
+      source = sym (eqb-true x (source s.quiver b) (step s.quiver x y b [] e).rest);
+      play = a.0;
+      plays = tt;
+    }
     last_of x y {b} (c ∷ w) e a = more (last_of x (source s.quiver b) w (step s.quiver x y b (c ∷ w) e).rest a.1)
       where
         more : Last x (c ∷ w) → Last x (b ∷ c ∷ w)
-        more l =
-            record {
-              before = b ∷ l.before;
-              last = l.last;
-              is = ap (λ z. b ∷ z) l.is;
-              letter = l.letter;
-              source = l.source;
-              play = l.play;
-              plays =
-                  (a.0, l.plays);
-            }
+        more l = record {
+          before = b ∷ l.before;
+          last = l.last;
+          is = ap (λ z. b ∷ z) l.is;
+          letter = l.letter;
+          source = l.source;
+          play = l.play;
+          plays = (a.0, l.plays);
+        }
 
     unit_back : {x : ℕ} (y : ℕ) (c : K) (w : Word) → x < s.quiver.objects → s.marked x ≡ true → Good x y w
         → Like ((k.times c k.one, w ++ (x ∷ [])) ∷ []) ((c, w) ∷ [])

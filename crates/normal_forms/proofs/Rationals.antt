@@ -72,14 +72,13 @@ factor_positive g zero e p = omega (arith, e)
 factor_positive g (suc m) e p = omega arith
 
 quotient_lowest : (a : ℤ) {b : ℕ} (g : ℕ) → 0 < b → IsGcd (unsigned_abs a) b g → IsLowest (quotient a g) (b / g)
-quotient_lowest a {b} g p h =
-    record {
-      positive = factor_positive g (b / g) (mul-div_cancel' g h.1) p;
-      apart =
-          λ d i j. eq-one_of_dvd-one (dvd_of_mul-dvd-mul_left d (divisor_positive g h.1 p) (subst (λ z. g * d ∣ z) (sym (omega arith))
-          (h.2 (g * d) (subst (λ z. g * d ∣ z) (mul-div_cancel' g h.0) (mul-dvd-mul_left d g (subst (λ z. d ∣ z) (unsigned_abs-quotient a g) i)))
-          (subst (λ z. g * d ∣ z) (mul-div_cancel' g h.1) (mul-dvd-mul_left d g j)))));
-    }
+quotient_lowest a {b} g p h = record {
+  positive = factor_positive g (b / g) (mul-div_cancel' g h.1) p;
+  apart =
+      λ d i j. eq-one_of_dvd-one (dvd_of_mul-dvd-mul_left d (divisor_positive g h.1 p) (subst (λ z. g * d ∣ z) (sym (omega arith))
+      (h.2 (g * d) (subst (λ z. g * d ∣ z) (mul-div_cancel' g h.0) (mul-dvd-mul_left d g (subst (λ z. d ∣ z) (unsigned_abs-quotient a g) i)))
+      (subst (λ z. g * d ∣ z) (mul-div_cancel' g h.1) (mul-dvd-mul_left d g j)))));
+}
 
 pub zero_in_lowest : IsLowest (pos 0) 1
 zero_in_lowest = record { positive = omega arith; apart = λ d i j. eq-one_of_dvd-one j }
@@ -153,12 +152,11 @@ value_change {x} {a} {d} e f v = subst (λ z. Value x z d) e (subst (λ z. Value
 
 -- enlarged
 pub value_times : {x : Rational} {a : ℤ} {b n : ℕ} → 0 < n → Value x a b → Value x (a *ℤ pos n) (b * n)
-value_times {x} {a} {b} {n} h v =
-    record {
-      positive = grind arith;
-      cross = sym (*ℤ_assoc x.top (pos b) (pos n)) ∙ ap (λ z. z *ℤ pos n) v.cross
-          ∙ *ℤ_assoc a (pos x.bottom) (pos n) ∙ ap (λ z. a *ℤ z) (*ℤ_comm (pos x.bottom) (pos n)) ∙ sym (*ℤ_assoc a (pos n) (pos x.bottom));
-    }
+value_times {x} {a} {b} {n} h v = record {
+  positive = grind arith;
+  cross = sym (*ℤ_assoc x.top (pos b) (pos n)) ∙ ap (λ z. z *ℤ pos n) v.cross
+      ∙ *ℤ_assoc a (pos x.bottom) (pos n) ∙ ap (λ z. a *ℤ z) (*ℤ_comm (pos x.bottom) (pos n)) ∙ sym (*ℤ_assoc a (pos n) (pos x.bottom));
+}
 
 pub rational_plus : Rational → Rational → Rational
 rational_plus x y = over (x.top *ℤ pos y.bottom +ℤ y.top *ℤ pos x.bottom) (x.bottom * y.bottom)
@@ -200,20 +198,18 @@ plus_value {x} {y} {a} {c} {b} {d} v w = through
             ∙ ap (λ z. (c *ℤ pos b) *ℤ z) (*ℤ_comm (pos y.bottom) (pos x.bottom))
 
     through : Value S (x.top *ℤ pos y.bottom +ℤ y.top *ℤ pos x.bottom) (x.bottom * y.bottom) → Value S (a *ℤ pos d +ℤ c *ℤ pos b) (b * d)
-    through u =
-        record {
-          positive = grind arith;
-          cross = carry (a *ℤ pos d +ℤ c *ℤ pos b) (b * d) u same;
-        }
+    through u = record {
+      positive = grind arith;
+      cross = carry (a *ℤ pos d +ℤ c *ℤ pos b) (b * d) u same;
+    }
 
 pub times_value : {x y : Rational} {a c : ℤ} {b d : ℕ} → Value x a b → Value y c d → Value (rational_times x y) (a *ℤ c) (b * d)
 unfolding rational_times
-times_value {x} {y} {a} {c} {b} {d} v w =
-    record {
-      positive = grind arith;
-      cross = carry (a *ℤ c) (b * d) (over_value (x.top *ℤ y.top) (x.bottom * y.bottom) (grind arith))
-          (swap4 x.top y.top (pos b) (pos d) ∙ ap₂ (λ p q. p *ℤ q) v.cross w.cross ∙ swap4 a (pos x.bottom) c (pos y.bottom));
-    }
+times_value {x} {y} {a} {c} {b} {d} v w = record {
+  positive = grind arith;
+  cross = carry (a *ℤ c) (b * d) (over_value (x.top *ℤ y.top) (x.bottom * y.bottom) (grind arith))
+      (swap4 x.top y.top (pos b) (pos d) ∙ ap₂ (λ p q. p *ℤ q) v.cross w.cross ∙ swap4 a (pos x.bottom) c (pos y.bottom));
+}
 
 pub minus_value : {x : Rational} {a : ℤ} {b : ℕ} → Value x a b → Value (rational_minus x) (neg_ℤ a) b
 unfolding rational_minus

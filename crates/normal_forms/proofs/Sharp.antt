@@ -153,11 +153,10 @@ module _ {K : Type 0} (k : Field K) (s : Ground k) where
     multiple_arrow {x} {y} (negsuc n) {a} h = negate_arrow k s facts x y (natural_multiple S (suc n) a) (natural_arrow (suc n) h)
 
     pub normal_cancels : {n : ℕ} → 0 < n → Cancels S (pos n)
-    normal_cancels {n} h =
-        record {
-          at = λ a m e. arrow_same a _ refl refl (form_unique k s.sorting a.form [] m.sorted tt
-              (record { at = λ w. int_cancel k (look k a.form w) h (sym (look-natural n a w) ∙ ap (λ z. look k z.form w) e) }));
-        }
+    normal_cancels {n} h = record {
+      at = λ a m e. arrow_same a _ refl refl (form_unique k s.sorting a.form [] m.sorted tt
+          (record { at = λ w. int_cancel k (look k a.form w) h (sym (look-natural n a w) ∙ ap (λ z. look k z.form w) e) }));
+    }
 
     path_arrow : {u : ℕ} (v : ℕ) {a : ℕ} (w : Word) → Good k s u v (a ∷ w) → path_value S normal_representation a w ≡ word_arrow u v (a ∷ w)
     path_arrow {u} v {a} [] h = ap (λ b. cond b (word_arrow (source s.quiver a) (target s.quiver a) (a ∷ []))

@@ -26,17 +26,15 @@ in_play count q starred marked a = nat_lt a count && (if nat_lt a q.objects then
 module _ {K : Type 0} (k : Field K) (o : Order) (g : Rules o) (normal : Form K → Form K) (sorting : Sorting) (count : ℕ) (q : Quiver) (starred : Bool)
     (marked : List ℕ) where
   abbrev pub ground : Ground k
-  ground =
-      record {
-        order = o;
-        rules = g;
-        normal = normal;
-        sorting = sorting;
-        quiver = q;
-        play = in_play count q starred marked;
-        marked =
-            λ v. list_any (nat_eq v) marked;
-      }
+  ground = record {
+    order = o;
+    rules = g;
+    normal = normal;
+    sorting = sorting;
+    quiver = q;
+    play = in_play count q starred marked;
+    marked = λ v. list_any (nat_eq v) marked;
+  }
 
   -- a positive multiple is a sum of rows over the rules
   abbrev pub IsGenerated : List Term → Type 0
