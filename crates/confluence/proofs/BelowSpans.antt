@@ -46,13 +46,17 @@ module _ (letters : ℕ) (compare : Compare) (rank : List ℕ → List ℕ) (law
 
   module _ (rules : List Rule) (are : All (IsRule letters compare) rules) where
     -- what comes below a word is a sum of rows below it
-    pub below_span : (bound : Word) (p : List Term) → ComesBelow letters compare (polynomials_of rules) bound p → Span (AnyRow order (ordered letters compare rank laws rules are) (below order bound)) (coefficient_of p)
+    pub below_span : (bound : Word) (p : List Term) → ComesBelow letters compare (polynomials_of rules) bound p
+        → Span (AnyRow order (ordered letters compare rank laws rules are) (below order bound)) (coefficient_of p)
     below_span bound p comes =
-        span_from_comes order rules (leds_are letters compare rank laws rules are) (below order bound) (λ w. order.Less w bound) (λ u less. (order.less_range u bound less, less)) p
+        span_from_comes order rules (leds_are letters compare rank laws rules are)
+        (below order bound) (λ w. order.Less w bound) (λ u less. (order.less_range u bound less, less)) p
         (comes_from_below (polynomials_of rules) bound p comes)
 
     -- and back
-    pub below_from_span : (bound : Word) (p : List Term) → Span (AnyRow order (ordered letters compare rank laws rules are) (below order bound)) (coefficient_of p) → ComesBelow letters compare (polynomials_of rules) bound p
+    pub below_from_span : (bound : Word) (p : List Term) → Span (AnyRow order (ordered letters compare rank laws rules are)
+        (below order bound)) (coefficient_of p) → ComesBelow letters compare (polynomials_of rules) bound p
     below_from_span bound p sp =
         below_from_comes (polynomials_of rules) bound p
-        (comes_from_span order rules (leds_are letters compare rank laws rules are) (below order bound) (λ w. order.Less w bound) (λ u range less. less) p sp)
+        (comes_from_span order rules
+        (leds_are letters compare rank laws rules are) (below order bound) (λ w. order.Less w bound) (λ u range less. less) p sp)

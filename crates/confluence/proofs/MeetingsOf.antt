@@ -32,10 +32,12 @@ pub record IsMeeting (rules : List Rule) (a : Ambiguity) (word after before behi
   pub behind_is : (second_row rules a).right ≡ behind
 
 module _ (rules : List Rule) where
-  meeting : (a : Ambiguity) (is : IsAmbiguity rules a) (word after before behind : Word) → overlap_word_of rules a ≡ word → word ≡ is.first.lead ++ after
+  meeting : (a : Ambiguity) (is : IsAmbiguity rules a) (word after before behind : Word)
+      → overlap_word_of rules a ≡ word → word ≡ is.first.lead ++ after
       → word ≡ before ++ (is.second.lead ++ behind) → length before ≡ a.place → IsMeeting rules a word after before behind
   meeting a is word after before behind same first second place =
-      let front : (second_row rules a).left ≡ before = ap (take a.place) (same ∙ second) ∙ take_at before (is.second.lead ++ behind) a.place place in
+      let front : (second_row rules a).left ≡ before = ap (take a.place) (same ∙ second)
+      ∙ take_at before (is.second.lead ++ behind) a.place place in
       record {
         ambiguity = is;
         word_is = same;
@@ -103,10 +105,13 @@ module _ (rules : List Rule) (a : Ambiguity) (is : IsAmbiguity rules a) where
   coefficient_of-s_sum w =
       let one = first_row rules a in
       let two = second_row rules a in
-      traced-cons [] (polynomials_of rules) one (two ∷ []) w ∙ ap₂ (λ p rest. one.coef *ℤ coefficient_of (poly_between one.left p one.right) w +ℤ rest)
+      traced-cons [] (polynomials_of rules) one (two ∷ []) w
+      ∙ ap₂ (λ p rest. one.coef *ℤ coefficient_of (poly_between one.left p one.right) w +ℤ rest)
       (rule_at-polynomial rules a.i is.first is.first_numbered)
-      (traced-cons [] (polynomials_of rules) two [] w ∙ +ℤ_idr (two.coef *ℤ coefficient_of (poly_between two.left (generator_at (polynomials_of rules) a.j) two.right) w)
-      ∙ ap (λ p. two.coef *ℤ coefficient_of (poly_between two.left p two.right) w) (rule_at-polynomial rules a.j is.second is.second_numbered))
+      (traced-cons [] (polynomials_of rules) two [] w
+      ∙ +ℤ_idr (two.coef *ℤ coefficient_of (poly_between two.left (generator_at (polynomials_of rules) a.j) two.right) w)
+      ∙ ap (λ p. two.coef *ℤ coefficient_of (poly_between two.left p two.right) w)
+      (rule_at-polynomial rules a.j is.second is.second_numbered))
 
   module _ (letters : ℕ) (compare : Compare) (are : All (IsRule letters compare) rules) where
     first_is : IsRule letters compare is.first
@@ -127,14 +132,19 @@ module _ (rules : List Rule) (a : Ambiguity) (is : IsAmbiguity rules a) where
     -- its words are below the overlap word
     pub s_words_below : (rank : List ℕ → List ℕ) → IsAdmissible letters compare rank → (w : Word) → coefficient_of (s_sum rules a) w ≢ pos 0
         → IsBelow letters compare w (overlap_word_of rules a)
-    s_words_below rank laws = cancelled (first_row rules a).coef (second_row rules a).coef first_poly second_poly (s_sum rules a) coefficient_of-s_sum
+    s_words_below rank laws =
+        cancelled (first_row rules a).coef (second_row rules a).coef first_poly second_poly (s_sum rules a) coefficient_of-s_sum
         (λ w. IsBelow letters compare w bound) bound
         (ap₂ (λ x y. (first_row rules a).coef *ℤ x +ℤ (second_row rules a).coef *ℤ y)
-        (coefficient_at_bound letters compare rank laws bound over is.first first_is (first_row rules a).left (first_row rules a).right (first_splits rules a is) ∙ sym (leading_at-is rules a.i is.first is.first_numbered))
-        (coefficient_at_bound letters compare rank laws bound over is.second second_is (second_row rules a).left (second_row rules a).right (second_splits rules a is) ∙ sym (leading_at-is rules a.j is.second is.second_numbered))
+        (coefficient_at_bound letters compare rank laws bound over is.first first_is (first_row rules a).left
+        (first_row rules a).right (first_splits rules a is) ∙ sym (leading_at-is rules a.i is.first is.first_numbered))
+        (coefficient_at_bound letters compare rank laws bound over is.second second_is (second_row rules a).left
+        (second_row rules a).right (second_splits rules a is) ∙ sym (leading_at-is rules a.j is.second is.second_numbered))
         ∙ factors_cancel (leading_at rules a.i) (leading_at rules a.j) first_positive second_positive)
-        (multiple_at_most letters compare rank laws bound over is.first first_is (first_row rules a).left (first_row rules a).right (first_splits rules a is))
-        (multiple_at_most letters compare rank laws bound over is.second second_is (second_row rules a).left (second_row rules a).right (second_splits rules a is))
+        (multiple_at_most letters compare rank laws bound over is.first first_is
+        (first_row rules a).left (first_row rules a).right (first_splits rules a is))
+        (multiple_at_most letters compare rank laws bound over is.second second_is
+        (second_row rules a).left (second_row rules a).right (second_splits rules a is))
       where
         bound : Word
         bound = overlap_word_of rules a

@@ -33,14 +33,16 @@ module _ (letters : ℕ) (compare : Compare) (rank : List ℕ → List ℕ) (law
   -- each ambiguity whose overlap word may be a top is resolved
   module _ (q : Allowed order) (each : (a : Ambiguity) → IsAmbiguity rules a → q.May (overlap_word_of rules a) → IsResolved letters compare rules a) where
     resolved_meets : (a : Ambiguity) → IsResolved letters compare rules a → q.May (overlap_word_of rules a)
-        → Meets order g q (overlap_word_of rules a) [] a.i (first_row rules a).right (second_row rules a).left a.j (second_row rules a).right
+        → Meets order g q
+        (overlap_word_of rules a) [] a.i (first_row rules a).right (second_row rules a).left a.j (second_row rules a).right
     resolved_meets a resolved may = record {
       one = f.one;
       other = f.other;
       one_positive = f.one_positive;
       other_positive = f.other_positive;
       difference = span_same (Under order g q O) (coefficient_of (s_sum rules a)) _
-          (span_bind (AnyRow order g (below order O)) (Under order g q O) lower _ (below_span letters compare rank laws rules are O (s_sum rules a) resolved.below)) value;
+          (span_bind (AnyRow order g (below order O))
+          (Under order g q O) lower _ (below_span letters compare rank laws rules are O (s_sum rules a) resolved.below)) value;
     }
       where
         O : Word
@@ -56,15 +58,21 @@ module _ (letters : ℕ) (compare : Compare) (rank : List ℕ → List ℕ) (law
         lower b (L, row) = single (Under order g q O) b (L, row.may, row_bound order g (below order O) q L b row (q.closed L O row.may may))
 
         value : (w : Word) → pos f.one *ℤ coefficient_of (poly_between [] (poly (g.rule a.i)) (first_row rules a).right) w
-            +ℤ neg_ℤ (pos f.other *ℤ coefficient_of (poly_between (second_row rules a).left (poly (g.rule a.j)) (second_row rules a).right) w) ≡ coefficient_of (s_sum rules a) w
+            +ℤ neg_ℤ (pos f.other *ℤ coefficient_of
+            (poly_between (second_row rules a).left (poly (g.rule a.j)) (second_row rules a).right) w) ≡ coefficient_of (s_sum rules a) w
         value w = sym (coefficient_of-s_sum rules a is w
-            ∙ ap₂ ◌+ℤ◌ (ap₂ ◌*ℤ◌ f.one_is (sym (row_poly letters compare rank laws rules are a.i is.first is.first_numbered [] (first_row rules a).right w)))
-            (ap₂ (λ c x. neg_ℤ c *ℤ x) f.other_is (sym (row_poly letters compare rank laws rules are a.j is.second is.second_numbered (second_row rules a).left (second_row rules a).right w)) ∙ neg_ℤ-*ℤ (pos f.other) (coefficient_of (poly_between (second_row rules a).left (poly (g.rule a.j)) (second_row rules a).right) w)))
+            ∙ ap₂ ◌+ℤ◌ (ap₂ ◌*ℤ◌ f.one_is
+            (sym (row_poly letters compare rank laws rules are a.i is.first is.first_numbered [] (first_row rules a).right w)))
+            (ap₂ (λ c x. neg_ℤ c *ℤ x) f.other_is (sym (row_poly letters compare rank laws rules are a.j is.second is.second_numbered
+            (second_row rules a).left (second_row rules a).right w)) ∙ neg_ℤ-*ℤ
+            (pos f.other) (coefficient_of (poly_between (second_row rules a).left (poly (g.rule a.j)) (second_row rules a).right) w)))
 
-    from_meeting : (a : Ambiguity) (word after before behind : Word) → IsMeeting rules a word after before behind → q.May word → Meets order g q word [] a.i after before a.j behind
+    from_meeting : (a : Ambiguity) (word after before behind : Word)
+        → IsMeeting rules a word after before behind → q.May word → Meets order g q word [] a.i after before a.j behind
     from_meeting a word after before behind m may =
         let here = subst q.May (sym m.word_is) may in
-        meets_at order g q word _ [] [] after _ before _ behind _ a.i a.j m.word_is refl m.after_is m.before_is m.behind_is (resolved_meets a (each a m.ambiguity here) here)
+        meets_at order g q word _ [] [] after _ before _ behind _ a.i a.j m.word_is refl m.after_is m.before_is m.behind_is
+        (resolved_meets a (each a m.ambiguity here) here)
 
     lead_is : (n : ℕ) (f : Rule) → rule_at rules n ≡ Some f → (g.rule n).lead ≡ f.lead
     lead_is n f numbered = ap (λ r. r.lead) (led_at-is rules n f numbered)
@@ -75,12 +83,14 @@ module _ (letters : ℕ) (compare : Compare) (rank : List ℕ → List ℕ) (law
           let (f, f_at) = hi in
           let (h, h_at) = hj in
           subst (λ w. Meets order g q (s ++ w) [] i t s j []) (sym (lead_is j h h_at))
-          (from_meeting _ (s ++ h.lead) t s [] (overlap_meeting rules i j f h f_at h_at s u t ns nu nt (sym (lead_is i f f_at) ∙ e1) (sym (lead_is j h h_at) ∙ e2))
+          (from_meeting _ (s ++ h.lead) t s []
+          (overlap_meeting rules i j f h f_at h_at s u t ns nu nt (sym (lead_is i f f_at) ∙ e1) (sym (lead_is j h h_at) ∙ e2))
           (subst (λ w. q.May (s ++ w)) (lead_is j h h_at) m));
       inclusions = λ i j s t hi hj differ e r m.
           let (f, f_at) = hi in
           let (h, h_at) = hj in
           subst (λ w. Meets order g q w [] i [] s j t) (sym (lead_is i f f_at))
-          (from_meeting _ f.lead [] s t (inclusion_meeting rules i j f h f_at h_at s t differ (sym (lead_is i f f_at) ∙ e ∙ ap (λ w. s ++ (w ++ t)) (lead_is j h h_at)))
+          (from_meeting _ f.lead [] s t
+          (inclusion_meeting rules i j f h f_at h_at s t differ (sym (lead_is i f f_at) ∙ e ∙ ap (λ w. s ++ (w ++ t)) (lead_is j h h_at)))
           (subst q.May (lead_is i f f_at) m));
     }

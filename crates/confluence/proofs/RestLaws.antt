@@ -1,4 +1,4 @@
--- What reductions by resolved rules leave, and what is reduced to zero: it is in the rational ideal of the rules, and its ambiguity is resolved.
+-- What reductions by resolved rules leave; what is reduced to zero is in the rational ideal, and its ambiguity is resolved.
 use Rattle.std.proofs.Common.{◌≡◌, ◌≢◌, ◌⊎◌, inl, inr, ℕ, pos, negsuc, List, sym, subst, arith, ◌∙◌}
 use Rattle.std.specs.List.{All}
 use Rattle.std.proofs.lemmas.Int.{ints}

@@ -1,4 +1,4 @@
--- Sums, multiples, moves and reductions that go well keep polynomials sorted and in range, and what does not go well is a fault that isn't want of memory.
+-- What goes well keeps polynomials sorted and in range, and what does not go well is a fault that isn't want of memory.
 use Rattle.std.proofs.Common.{◌≡◌, ◌≢◌, ℕ, zero, suc, ℤ, pos, List, [], ◌∷◌, ◌++◌, Option, Some, None, Result, Ok, Err, refl, sym, ap, ◌∙◌, subst, ◌⊎◌, inl, inr, Bool, true, false, cond, length, nat_lt}
 use Rattle.std.specs.List.{All}
 use Rattle.coef_int.specs.declared.Overflow.{Overflow}

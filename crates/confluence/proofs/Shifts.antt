@@ -18,17 +18,20 @@ pub record IsLinear (T : Coefs → Coefs) : Type 0 where
 
 module _ (T : Coefs → Coefs) (linear : IsLinear T) where
   pub linear-zero : (f : Coefs) → ((w : Word) → f w ≡ pos 0) → (w : Word) → T f w ≡ pos 0
-  linear-zero f h w = linear.same f (λ v. negsuc 0 *ℤ f v +ℤ f v) (λ v. omega (arith, ints, h v)) w ∙ linear.sum (negsuc 0) f f w ∙ omega (arith, ints)
+  linear-zero f h w = linear.same f (λ v. negsuc 0 *ℤ f v +ℤ f v) (λ v. omega (arith, ints, h v)) w
+      ∙ linear.sum (negsuc 0) f f w ∙ omega (arith, ints)
 
   pub linear-scale : (c : ℤ) (f : Coefs) (w : Word) → T (λ v. c *ℤ f v) w ≡ c *ℤ T f w
-  linear-scale c f w = linear.same _ _ (λ v. sym (+ℤ_idr (c *ℤ f v))) w ∙ linear.sum c f (λ _. pos 0) w ∙ ap (λ z. c *ℤ T f w +ℤ z) (linear-zero (λ _. pos 0) (λ _. refl) w) ∙ +ℤ_idr _
+  linear-scale c f w = linear.same _ _ (λ v. sym (+ℤ_idr (c *ℤ f v))) w
+      ∙ linear.sum c f (λ _. pos 0) w ∙ ap (λ z. c *ℤ T f w +ℤ z) (linear-zero (λ _. pos 0) (λ _. refl) w) ∙ +ℤ_idr _
 
   pub span_map : (Base Other : Coefs → Type 0) → ((b : Coefs) → Base b → Span Other (T b)) → (f : Coefs) → Span Base f → Span Other (T f)
   span_map Base Other each _ (nothing f h) = nothing _ (linear-zero f h)
   span_map Base Other each _ (more f g b c hb hg h) =
       span_same Other (λ w. c *ℤ T b w +ℤ T g w) _ (span_add Other _ _ (span_scale Other c _ (each b hb)) (span_map Base Other each g hg))
       (λ w. linear.same f _ h w ∙ linear.sum c b g w)
-  span_map Base Other each _ (part f g e pe hg h) = part _ (T g) e pe (span_map Base Other each g hg) (λ w. linear.same g _ h w ∙ linear-scale (pos e) f w)
+  span_map Base Other each _ (part f g e pe hg h) =
+      part _ (T g) e pe (span_map Base Other each g hg) (λ w. linear.same g _ h w ∙ linear-scale (pos e) f w)
 
 -- where each of the one kind is in the span of the other
 pub span_bind : (Base Other : Coefs → Type 0) → ((b : Coefs) → Base b → Span Other b) → (f : Coefs) → Span Base f → Span Other f
@@ -78,7 +81,8 @@ coefficient_of-between l r p w = go (is_between l r w) refl
         (λ h. true≢false (sym (subst (λ x. is_between l r x ≡ true) (word_eq-true _ w h) (is_between-true l v r)) ∙ e)))
 
 -- A word of l p r is l v r for a word v of p.
-pub between_word : (l r : Word) (p : List Term) (w : Word) → (coefficient_of (poly_between l p r) w ≡ pos 0) ⊎ ((v : Word) × (w ≡ l ++ (v ++ r)) × (coefficient_of p v ≢ pos 0))
+pub between_word : (l r : Word) (p : List Term) (w : Word)
+    → (coefficient_of (poly_between l p r) w ≡ pos 0) ⊎ ((v : Word) × (w ≡ l ++ (v ++ r)) × (coefficient_of p v ≢ pos 0))
 unfolding shift is_between
 between_word l r p w = go (is_between l r w) refl (nonzero_or (coefficient_of p (middle l r w)))
   where

@@ -151,7 +151,8 @@ module _ (p : Parts) (rules : List Rule) (b : IsBasis p rules) where
         count_is = sym (letters-quiver_of p.quiver);
         normal_is = normal_form_is rationals (letter_count p.quiver) (asked_cmp p.order) order_rank
             (asked_cmp-admissible (letter_count p.quiver) p.order) rules b.are_rules (all_grounded (letter_count p.quiver) p.order);
-        resolved = all_resolved (letter_count p.quiver) (asked_cmp p.order) order_rank (asked_cmp-admissible (letter_count p.quiver) p.order) rules b.are_rules
+        resolved = all_resolved
+            (letter_count p.quiver) (asked_cmp p.order) order_rank (asked_cmp-admissible (letter_count p.quiver) p.order) rules b.are_rules
             (everything (word_order p rules b.are_rules)) (λ a is any. b.resolved.each a is);
         join = λ u v one other. in_range (u ++ v) (IsOver-append (letter_count p.quiver) u v (over_from u one) (over_from v other));
         is_quiver = quiver;

@@ -55,12 +55,14 @@ module _ {K : Type 0} (k : Field K) where
   pub look-lifted : (h : Word → Word) (c : K) (p : List Term) (w : Word)
       → look k (with_words h (lifted c p)) w ≡ k.times c (k.int (coefficient_of (map_words h p) w))
   look-lifted h c [] w = sym (ap (k.times c) (int_none k) ∙ times_none k c)
-  look-lifted h c (t ∷ p) w = ap₂ k.plus (k.times_assoc c (k.int t.0) (hit k (h t.1) w) ∙ ap (k.times c) (int_hit t.0 (word_eq (h t.1) w))) (look-lifted h c p w)
+  look-lifted h c (t ∷ p) w =
+      ap₂ k.plus (k.times_assoc c (k.int t.0) (hit k (h t.1) w) ∙ ap (k.times c) (int_hit t.0 (word_eq (h t.1) w))) (look-lifted h c p w)
       ∙ sym (k.times_plus c _ _) ∙ ap (k.times c) (sym (k.int_plus (cond (word_eq (h t.1) w) t.0 (pos 0)) (coefficient_of (map_words h p) w)))
 
   pub look-lifted_one : (p : List Term) (w : Word) → look k (lifted k.one p) w ≡ k.int (coefficient_of p w)
   look-lifted_one [] w = sym (int_none k)
-  look-lifted_one (t ∷ p) w = ap₂ k.plus (ap (λ z. k.times z (hit k t.1 w)) (k.one_times (k.int t.0)) ∙ int_hit t.0 (word_eq t.1 w)) (look-lifted_one p w)
+  look-lifted_one (t ∷ p) w =
+      ap₂ k.plus (ap (λ z. k.times z (hit k t.1 w)) (k.one_times (k.int t.0)) ∙ int_hit t.0 (word_eq t.1 w)) (look-lifted_one p w)
       ∙ sym (k.int_plus (cond (word_eq t.1 w) t.0 (pos 0)) (coefficient_of p w))
 
   pub scaled-lifted : (d c : K) (p : List Term) → scaled k d (lifted c p) ≡ lifted (k.times d c) p
@@ -87,7 +89,8 @@ module _ {K : Type 0} (k : Field K) where
     abbrev pub row : K → Word → ℕ → Word → Form K
     row c l i r = with_words (λ u. l ++ (u ++ r)) (lifted c (poly (g.rule i)))
 
-    pub look-row : (c : K) (l : Word) (i : ℕ) (r w : Word) → look k (row c l i r) w ≡ k.times c (k.int (coefficient_of (poly_between l (poly (g.rule i)) r) w))
+    pub look-row : (c : K) (l : Word) (i : ℕ) (r w : Word)
+        → look k (row c l i r) w ≡ k.times c (k.int (coefficient_of (poly_between l (poly (g.rule i)) r) w))
     look-row c l i r w = look-lifted (λ u. l ++ (u ++ r)) c (poly (g.rule i)) w
 
     pub data Cong : Form K → Form K → Type 0 where
@@ -96,7 +99,8 @@ module _ {K : Type 0} (k : Field K) where
           → Alike k p (row c l i r ++ s) → Cong p q
 
     -- a row is removed again
-    pub off : {p : Form K} (s : Form K) (c : K) (l : Word) (i : ℕ) (r : Word) → Alike k p (row c l i r ++ s) → Alike k s (row (k.minus c) l i r ++ p)
+    pub off : {p : Form K} (s : Form K) (c : K) (l : Word) (i : ℕ) (r : Word)
+        → Alike k p (row c l i r ++ s) → Alike k s (row (k.minus c) l i r ++ p)
     off {p} s c l i r f = record {
       at = λ w. sym (look-append (row (k.minus c) l i r) p w
           ∙ ap₂ k.plus (look-row (k.minus c) l i r w ∙ minus_times k c (k.int (coefficient_of (poly_between l (poly (g.rule i)) r) w)))
@@ -131,19 +135,22 @@ module _ {K : Type 0} {k : Field K} {o : Order} {g : Rules o} where
   cong_scaled d (alike p q f) = alike _ _ (alike-scaled k d f)
   cong_scaled d (rows p s q c l i r h m e f) = rows (scaled k d p) (scaled k d s) (scaled k d q) (k.times d c) l i r h m (cong_scaled d e)
       (alike_trans (alike-scaled k d f) (alike_same (scaled-append k d (row k o g c l i r) s ∙ ap (λ z. z ++ scaled k d s)
-      (scaled-words k d (λ u. l ++ (u ++ r)) (lifted k c (poly (g.rule i))) ∙ ap (with_words (λ u. l ++ (u ++ r))) (scaled-lifted k d c (poly (g.rule i)))))))
+      (scaled-words k d (λ u. l ++ (u ++ r)) (lifted k c (poly (g.rule i)))
+      ∙ ap (with_words (λ u. l ++ (u ++ r))) (scaled-lifted k d c (poly (g.rule i)))))))
 
   pub cong_sym : {p q : Form K} → Cong k o g p q → Cong k o g q p
   cong_sym (alike p q f) = alike q p (alike_sym f)
   cong_sym (rows p s q c l i r h m e f) = cong_trans (cong_sym e) (rows s p p (k.minus c) l i r h m (cong_refl p) (off k o g s c l i r f))
 
   -- between two with_words
-  pub cong_between : ((u v : Word) → o.Range u → o.Range v → o.Range (u ++ v)) → (x y : Word) → o.Range x → o.Range y → {p q : Form K} → Cong k o g p q
+  pub cong_between : ((u v : Word) → o.Range u → o.Range v → o.Range (u ++ v))
+      → (x y : Word) → o.Range x → o.Range y → {p q : Form K} → Cong k o g p q
       → Cong k o g (with_words (λ u. x ++ (u ++ y)) p) (with_words (λ u. x ++ (u ++ y)) q)
   cong_between join x y rx ry (alike p q f) = alike _ _ (alike-words k (λ u. x ++ (u ++ y)) p q f)
   cong_between join x y rx ry (rows p s q c l i r h m e f) =
       rows (with_words at p) (with_words at s) (with_words at q) c (x ++ l) i (r ++ y) h range (cong_between join x y rx ry e)
-      (alike_trans (alike-words k at p (row k o g c l i r ++ s) f) (alike_same (words-append at (row k o g c l i r) s ∙ ap (λ z. z ++ with_words at s)
+      (alike_trans
+      (alike-words k at p (row k o g c l i r ++ s) f) (alike_same (words-append at (row k o g c l i r) s ∙ ap (λ z. z ++ with_words at s)
       (words-words at (λ u. l ++ (u ++ r)) (lifted k c (poly (g.rule i)))
       ∙ words-same _ (λ u. (x ++ l) ++ (u ++ (r ++ y))) (lifted k c (poly (g.rule i))) moved))))
     where
@@ -223,7 +230,8 @@ module _ {K : Type 0} (k : Field K) (o : Order) (g : Rules o) where
       go false j ih = ap₂ k.plus (times_none k t.0) ih ∙ k.plus_none k.none
 
   -- what is irreducible is determined by its class
-  pub irreducible_unique : Resolved o g (everything o) → {p q : Form K} → Each Irreducible p → Each Irreducible q → Cong k o g p q → Alike k p q
+  pub irreducible_unique : Resolved o g (everything o)
+      → {p q : Form K} → Each Irreducible p → Each Irreducible q → Cong k o g p q → Alike k p q
   irreducible_unique res {p} {q} ip iq e = record { at = equal }
     where
       d : Cleared p q

@@ -87,7 +87,8 @@ module _ (p : Parts) (rules : List Rule) where
     target_is_object = target;
     nonzero = is.fractions;
     ascending = is.ascending;
-    words = each-weaker (IsNormalWord p rules m.source m.target) (Leads p rules m.source m.target) (word_leads p rules m.source m.target) m.form is.words;
+    words = each-weaker
+        (IsNormalWord p rules m.source m.target) (Leads p rules m.source m.target) (word_leads p rules m.source m.target) m.form is.words;
     irreducible = each-weaker (IsNormalWord p rules m.source m.target) (HasNone p rules m.source m.target)
         (word_irreducible p rules m.source m.target (empty_is_irreducible p rules basis.are_rules)) m.form is.words;
   }

@@ -125,7 +125,12 @@ module _ {K : Type 0} (k : Field K) (s : Ground k) where
 
     pub good_join : (u m v : ℕ) (x y : Word) → Good m v x → Good u m y → Good u v (x ++ y)
     good_join u m v x y a b =
-        record { leads = leads-append s.quiver u m v x y a.leads b.leads; plays = all-append Played x y a.plays b.plays; unit = λ e. b.unit (back_empty x y e) }
+        record {
+          leads = leads-append s.quiver u m v x y a.leads b.leads;
+          plays =
+              all-append Played x y a.plays b.plays;
+          unit = λ e. b.unit (back_empty x y e);
+        }
 
     pub path_leads : (u v : ℕ) (w : Word) → is_path s.quiver u v w ≡ true → leads s.quiver u v w ≡ true
     path_leads u v [] e = absurd (cc)
@@ -181,7 +186,8 @@ module _ {K : Type 0} (k : Field K) (s : Ground k) where
     pub words_at : (x y : ℕ) (a : NormalMap K) → IsArrow normal_structure x y a → Each (Good x y) a.form
     words_at x y a h = subst (λ z. Each (Good z y) a.form) h.source (subst (λ z. Each (Good a.source z) a.form) h.target h.arrow.words)
 
-    pub rebuild : {x y : ℕ} (a : NormalMap K) → a.source ≡ x → a.target ≡ y → x < s.quiver.objects → y < s.quiver.objects → IsForm k s.sorting a.form
+    pub rebuild : {x y : ℕ} (a : NormalMap K)
+        → a.source ≡ x → a.target ≡ y → x < s.quiver.objects → y < s.quiver.objects → IsForm k s.sorting a.form
         → Each Irr a.form → Each (Good x y) a.form → IsArrow normal_structure x y a
     rebuild {x} a e f hx hy h i w = record {
       arrow = record {

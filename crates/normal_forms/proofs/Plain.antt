@@ -138,7 +138,8 @@ module _ (p : Parts) (rules : List Rule) (are : All (IsRule (letter_count p.quiv
     nonzero = nonzero_raw a.form is.sorted;
     ascending = ascending_raw a.form is.sorted;
     words = each_raw (LeadsInPlay (quiver_of p.quiver) (is_in_play p.quiver p.starred (numbers p.marked)) (is_marked_in p) a.source a.target) a.form is.words;
-    irreducible = each-weaker (Irreducible rationals word_order word_rules) (λ w. All (λ g. OccursNowhere w g.lead) rules) nowhere (mapped raw a.form)
+    irreducible =
+        each-weaker (Irreducible rationals word_order word_rules) (λ w. All (λ g. OccursNowhere w g.lead) rules) nowhere (mapped raw a.form)
         (each_raw (Irreducible rationals word_order word_rules) a.form is.irreducible);
   }
 

@@ -56,9 +56,11 @@ module _ {K : Type 0} (k : Field K) where
       go : (p : Form K) (w : Word) → look k (product p (s ∷ q)) w ≡ look k (behind s p ++ product p q) w
       go [] w = refl
       go (t ∷ p) w = ap₂ k.plus (ap (λ z. k.times z (hit k (t.1 ++ s.1) w)) (k.times_comm t.0 s.0))
-          (look-append k (front t q) (product p (s ∷ q)) w ∙ ap (λ z. k.plus (look k (front t q) w) z) (go p w ∙ look-append k (behind s p) (product p q) w))
+          (look-append k (front t q) (product p (s ∷ q)) w
+          ∙ ap (λ z. k.plus (look k (front t q) w) z) (go p w ∙ look-append k (behind s p) (product p q) w))
           ∙ sym (k.plus_assoc X F (k.plus B P)) ∙ middle k X F B P
-          ∙ sym (look-append k (behind s (t ∷ p)) (front t q ++ product p q) w ∙ ap (λ z. k.plus (k.plus X B) z) (look-append k (front t q) (product p q) w))
+          ∙ sym (look-append k (behind s (t ∷ p)) (front t q ++ product p q) w
+          ∙ ap (λ z. k.plus (k.plus X B) z) (look-append k (front t q) (product p q) w))
         where
           X : K
           X = k.times (k.times s.0 t.0) (hit k (t.1 ++ s.1) w)

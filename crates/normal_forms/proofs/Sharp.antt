@@ -94,8 +94,10 @@ module _ {K : Type 0} (k : Field K) (s : Ground k) where
         record { leads = one_letter s.quiver h refl refl; plays = (e, tt); unit = λ q. absurd (cc) }
 
     word_is_arrow : {u v : ℕ} {w : Word} → u < s.quiver.objects → v < s.quiver.objects → Good k s u v w → IsArrow S u v (word_arrow u v w)
-    word_is_arrow {u} {v} {w} hu hv a = rebuild k s facts (word_arrow u v w) refl refl hu hv (form-collect k s.sorting (Nf k s ((k.one, w) ∷ [])))
-        (reduced_irreducible k s facts ((k.one, w) ∷ []) (good_range k s facts u v w a, tt)) (reduced_good k s facts u v ((k.one, w) ∷ []) (a, tt))
+    word_is_arrow {u} {v} {w} hu hv a =
+        rebuild k s facts (word_arrow u v w) refl refl hu hv (form-collect k s.sorting (Nf k s ((k.one, w) ∷ [])))
+        (reduced_irreducible k s facts ((k.one, w) ∷ []) (good_range k s facts u v w a, tt))
+        (reduced_good k s facts u v ((k.one, w) ∷ []) (a, tt))
 
     letter_is_arrow : (a : ℕ) → a < letters s.quiver → IsArrow S (source s.quiver a) (target s.quiver a) (letter_arrow a)
     letter_is_arrow a h = go (s.play a) refl (ltb a s.quiver.objects) refl
@@ -130,7 +132,8 @@ module _ {K : Type 0} (k : Field K) (s : Ground k) where
 
     look-natural : (n : ℕ) (a : NormalMap K) (w : Word) → look k (natural_multiple S n a).form w ≡ k.times (k.int (pos n)) (look k a.form w)
     look-natural zero a w = sym (ap (λ z. k.times z (look k a.form w)) (int_none k) ∙ none_times k (look k a.form w))
-    look-natural (suc n) a w = look-collect k s.sorting (a.form ++ (natural_multiple S n a).form) w ∙ look-append k a.form (natural_multiple S n a).form w
+    look-natural (suc n) a w = look-collect k s.sorting (a.form ++ (natural_multiple S n a).form) w
+        ∙ look-append k a.form (natural_multiple S n a).form w
         ∙ ap₂ k.plus (sym (k.one_times (look k a.form w))) (look-natural n a w) ∙ sym (plus_times k k.one (k.int (pos n)) (look k a.form w))
         ∙ ap (λ z. k.times z (look k a.form w))
         (ap (λ z. k.plus z (k.int (pos n))) (sym k.int_one) ∙ sym (k.int_plus (pos 1) (pos n)) ∙ ap k.int (omega (arith, ints)))
@@ -145,7 +148,12 @@ module _ {K : Type 0} (k : Field K) (s : Ground k) where
 
     natural_arrow : {x y : ℕ} (n : ℕ) {a : NormalMap K} → IsArrow S x y a → IsArrow S x y (natural_multiple S n a)
     natural_arrow zero {a} h =
-        record { arrow = (zero_arrow k s facts a.source a.target h.arrow.source_is_object h.arrow.target_is_object).arrow; source = h.source; target = h.target }
+        record {
+          arrow = (zero_arrow k s facts a.source a.target h.arrow.source_is_object h.arrow.target_is_object).arrow;
+          source =
+              h.source;
+          target = h.target;
+        }
     natural_arrow {x} {y} (suc n) {a} h = add_arrow k s facts x y a (natural_multiple S n a) h (natural_arrow n h)
 
     multiple_arrow : {x y : ℕ} (c : ℤ) {a : NormalMap K} → IsArrow S x y a → IsArrow S x y (multiple S c a)
@@ -199,7 +207,8 @@ module _ {K : Type 0} (k : Field K) (s : Ground k) where
     kept u v = filtered (is_path s.quiver u v)
 
     kept_typed : {u v : ℕ} {p : List (ℤ × List ℕ)} → IsTyped s.quiver u v p → (w : List ℕ) → coefficient_of (kept u v p) w ≡ coefficient_of p w
-    kept_typed {u} {v} {p} typed w = coefficient_of-filtered (is_path s.quiver u v) p w ∙ go (is_path s.quiver u v w) refl (ℤ_discrete (coefficient_of p w) (pos 0))
+    kept_typed {u} {v} {p} typed w = coefficient_of-filtered (is_path s.quiver u v) p w
+        ∙ go (is_path s.quiver u v w) refl (ℤ_discrete (coefficient_of p w) (pos 0))
       where
         go : (b : Bool) → is_path s.quiver u v w ≡ b → Dec (coefficient_of p w ≡ pos 0) → cond b (coefficient_of p w) (pos 0) ≡ coefficient_of p w
         go true e d = refl

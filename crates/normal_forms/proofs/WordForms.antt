@@ -75,7 +75,8 @@ other_terms-parted {g} is = same_kept g.poly.terms (λ w. not (word_eq g.lead w)
     distinct = distinct-descending g.poly.terms (recursion_from_IsDescending g.poly.terms g.poly.canonical.shaped.descending)
 
     each : (w : Word) → coefficient_of g.poly.terms w ≢ pos 0 → Same w
-    each w some = (elim (not (word_eq g.lead w)) as (λ b. b ≡ (b && true)) [ true ↦ refl | false ↦ refl ]) ∙ ap (λ b. not (word_eq g.lead w) && not b)
+    each w some = (elim (not (word_eq g.lead w)) as (λ b. b ≡ (b && true)) [ true ↦ refl | false ↦ refl ])
+        ∙ ap (λ b. not (word_eq g.lead w) && not b)
         (sym (false_from_ne_true (int_eq (coefficient_of g.poly.terms w) (pos 0)) (λ e. some ((Decides-int_eq (coefficient_of g.poly.terms w) (pos 0)).0 e))))
 
 module _ {K : Type 0} (k : Field K) (letters : ℕ) (compare : Compare) (rank : List ℕ → List ℕ) (laws : IsAdmissible letters compare rank) (rules : List Rule)
