@@ -81,10 +81,10 @@ module _ (letters : ℕ) (compare : Compare) (rank : List ℕ → List ℕ) (law
         (comes_reached p reached)
 
     pub reached_from_span : (p : List Term) → Span (AnyRow order (ordered letters compare rank laws rules are) (at_most_of order p)) (coefficient_of p) → IsReached letters compare rules p
-    reached_from_span p sp = go (comes_from_span order rules (leds_are letters compare rank laws rules are) (at_most_of order p) (IsAtMostIn order p) (λ u range most. most) p sp)
-      where
-        go : Comes (polynomials_of rules) (IsAtMostIn order p) p → IsReached letters compare rules p
-        go c = record {
+    reached_from_span p sp =
+        let c = comes_from_span order rules (leds_are letters compare rank laws rules are) (at_most_of order p) (IsAtMostIn order p)
+        (λ u range most. most) p sp in
+        record {
           denominator = c.multiplier;
           rows = c.rows;
           combination = c.combination;

@@ -79,16 +79,12 @@ module _ (letters : ℕ) (compare : Compare) (rank : List ℕ → List ℕ) (law
 
     pub all_resolved : Resolved order g q
     all_resolved = record {
-      overlaps = λ i j s u t hi hj ns nu nt e1 e2 r m.
-          let (f, f_at) = hi in
-          let (h, h_at) = hj in
+      overlaps = λ i j s u t (f, f_at) (h, h_at) ns nu nt e1 e2 r m.
           subst (λ w. Meets order g q (s ++ w) [] i t s j []) (sym (lead_is j h h_at))
           (from_meeting _ (s ++ h.lead) t s []
           (overlap_meeting rules i j f h f_at h_at s u t ns nu nt (sym (lead_is i f f_at) ∙ e1) (sym (lead_is j h h_at) ∙ e2))
           (subst (λ w. q.May (s ++ w)) (lead_is j h h_at) m));
-      inclusions = λ i j s t hi hj differ e r m.
-          let (f, f_at) = hi in
-          let (h, h_at) = hj in
+      inclusions = λ i j s t (f, f_at) (h, h_at) differ e r m.
           subst (λ w. Meets order g q w [] i [] s j t) (sym (lead_is i f f_at))
           (from_meeting _ f.lead [] s t
           (inclusion_meeting rules i j f h f_at h_at s t differ (sym (lead_is i f f_at) ∙ e ∙ ap (λ w. s ++ (w ++ t)) (lead_is j h h_at)))

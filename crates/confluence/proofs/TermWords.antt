@@ -7,6 +7,7 @@ use Rattle.definitions.specs.Poly.{Word, Term}
 abbrev pub map_words : (Word → Word) → List Term → List Term
 map_words h p = map (λ t. (t.0, h t.1)) p
 
+-- what holds of each item of a list
 pub each_weaker : {X : Type 0} (P Q : X → Type 0) → ((x : X) → P x → Q x) → (xs : List X) → AllByRecursion P xs → AllByRecursion Q xs
 each_weaker P Q up [] e = tt
 each_weaker P Q up (x ∷ xs) e = (up x e.0, each_weaker P Q up xs e.1)
