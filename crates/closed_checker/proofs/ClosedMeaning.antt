@@ -28,8 +28,7 @@ use Rattle.ambiguities.proofs.Balance.{s_polynomials_balance}
 use Rattle.ambiguities.proofs.Bounds.{over_terms}
 use Rattle.confluence.specs.Reductions.{IsZero, IsReduced, HasLettersBelow}
 use Rattle.confluence.proofs.Ideals.{all_from_numbers, ideals_stay_inside}
-use Rattle.confluence.proofs.RestLaws.{normal_forms_are_reduced, rests_of_ideal_are_zero}
-use Rattle.confluence.proofs.ZeroRestLaws.{zero_rests_are_inside, zero_rests_are_resolved}
+use Rattle.confluence.proofs.RestLaws.{normal_forms_are_reduced, rests_of_ideal_are_zero, zero_rests_are_inside, zero_rests_are_resolved}
 use Rattle.confluence.proofs.ShapeLaws.{s_polynomials_are_shaped}
 use Rattle.adjoint_rules.specs.declared.problem.Problem.{Problem}
 use Rattle.adjoint_rules.specs.Problem.{polynomials}

@@ -32,7 +32,7 @@ use Rattle.closed_checker.specs.Rests.{order_of, rules_of, rest_of, MayBeRule}
 use Rattle.closed_checker.specs.Closed.{NamesClaim, HasRules, LeavesZero, IsClosedBasis, ComesBefore, Reaches, LacksRule, IsCauseOf, Refuses, IsMemory}
 use Rattle.closed_checker.specs.Working.{GeneratorsPass, AmbiguitiesPass}
 use Rattle.closed_checker.specs.Laws.{EachBasisIsJudged, BasisRefusalIsUnique, ClosedBasisIsNotRefused}
-use Rattle.confluence.proofs.Ends.{Gives}
+use Rattle.confluence.proofs.ShapeLaws.{Gives}
 use Rattle.closed_checker.proofs.PartOrder.{order_laws}
 use Rattle.closed_checker.proofs.PartRests.{rest_gives}
 use Rattle.closed_checker.proofs.Passing.{generator_reached, ambiguity_reached, claim_reached}

@@ -17,7 +17,7 @@ use Rattle.closed_checker.specs.declared.part.Part.{Part}
 use Rattle.closed_checker.specs.declared.part.Part.TheVariants as part
 use Rattle.closed_checker.specs.Limits.{step_limit}
 use Rattle.closed_checker.specs.Rests.{rest_in, rest_by, polynomial_of, rest_of, rules_of, order_of}
-use Rattle.confluence.proofs.Ends.{Makes, Gives, s_polynomial_makes, normal_form_gives}
+use Rattle.confluence.proofs.ShapeLaws.{Makes, Gives, s_polynomial_makes, normal_form_gives}
 use Rattle.closed_checker.proofs.ByNumber.{canonical_at}
 
 -- what is reduced

@@ -6,7 +6,8 @@ use Rattle.definitions.specs.Poly.{Poly, coefficient_of, poly_between, SamePolyn
 use Rattle.definitions.specs.Combination.{InRationalIdeal, generator_at}
 use Rattle.definitions.specs.Generators.{generators_of}
 use Rattle.quiver.specs.Declarations.{Declaration, quiver_of}
-use Rattle.confluence.proofs.FreeRows.{Free, single, in_ideal}
+use Rattle.confluence.proofs.FreeRows.{Free, in_ideal}
+use Rattle.confluence.proofs.Spans.{single}
 use Rattle.confluence.proofs.Ideals.{all_from_numbers, ideals_stay_inside}
 use Rattle.confluence.proofs.SumRows.{Numbered}
 use Rattle.statement_syntax.specs.declared.tree.Statement.{Statement}

@@ -1,13 +1,13 @@
 -- A sum of rows over resolved rules is zero, or a row ends at its greatest word.
 use Rattle.std.proofs.Common.{◌≡◌, ◌≢◌, ℕ, ◌<◌, ◌⊎◌, inl, inr, refl, arith, sym, ap, ◌∙◌, ◌++◌, Bool, true, false, ℤ, pos, ◌+ℤ◌, ◌*ℤ◌, neg_ℤ}
-use Rattle.std.proofs.lemmas.Int.{ints}
 use Rattle.std.proofs.lemmas.List.{append_cancel_left}
 use Rattle.std.proofs.Math.IntN.{+ℤ_invr}
 use Rattle.definitions.specs.Poly.{Word, word_eq, coefficient_of, poly_between}
 use Rattle.definitions.proofs.Linear.{word_eq-true, word_eq-same}
-use Rattle.confluence.proofs.Spans.{Coefs, Span, nothing, more, span_same, span_bind}
-use Rattle.confluence.proofs.Places.{EitherWay, first, second, two_places}
-use Rattle.confluence.proofs.Confluence.{Setting, AtMost, SomeRow, topped, HasTopRow, zero_or_top_row}
+use Rattle.confluence.proofs.Spans.{Coefs, Span, nothing, single, span_same}
+use Rattle.confluence.proofs.Shifts.{span_bind}
+use Rattle.confluence.proofs.Places.{first, second, two_places}
+use Rattle.confluence.proofs.Confluence.{Setting, topped, HasTopRow, zero_or_top_row}
 use Rattle.word_orders.specs.Orders.{Order}
 use Rattle.confluence.proofs.Meets.{Rules, Allowed, Row, Under, poly, row_lead, row_above, Meets, meets_swap, Resolved, meets}
 
@@ -28,11 +28,10 @@ module _ (o : Order) (g : Rules o) (q : Allowed o) (res : Resolved o g q) where
       from_meets m = (m.one, pos m.other, m.one_positive, span_same (Under o g q M) (λ w. pos m.one *ℤ fa w +ℤ neg_ℤ (pos m.other *ℤ fb w)) _ m.difference (λ w. ap (λ z. pos m.one *ℤ z +ℤ neg_ℤ (pos m.other *ℤ b w)) (x.is w) ∙ ap (λ z. pos m.one *ℤ fa w +ℤ neg_ℤ (pos m.other *ℤ z)) (y.is w)))
 
       by_place : (x.number ≡ y.number → x.left ≢ y.left) → Meet M a b
-      by_place n = from_meets (by_side (two_places (g.rule x.number).lead (g.rule y.number).lead x.left x.right y.left y.right (sym x.top ∙ y.top)))
-        where
-          by_side : EitherWay (g.rule x.number).lead (g.rule y.number).lead x.left x.right y.left y.right → Meets o g q M x.left x.number x.right y.left y.number y.right
-          by_side (first p) = meets o g q res M x.left x.number x.right y.left y.number y.right x.has y.has x.range x.may x.top y.top n p
-          by_side (second p) = meets_swap o g q _ _ _ _ _ _ _ (meets o g q res M y.left y.number y.right x.left x.number x.right y.has x.has x.range x.may y.top x.top (λ e l. n (sym e) (sym l)) p)
+      by_place n = from_meets (elim (two_places (g.rule x.number).lead (g.rule y.number).lead x.left x.right y.left y.right (sym x.top ∙ y.top)) [
+        | first p ↦ meets o g q res M x.left x.number x.right y.left y.number y.right x.has y.has x.range x.may x.top y.top n p
+        | second p ↦ meets_swap o g q _ _ _ _ _ _ _ (meets o g q res M y.left y.number y.right x.left x.number x.right y.has x.has x.range x.may y.top x.top (λ e l. n (sym e) (sym l)) p)
+      ])
 
       by_number : (x.number ≡ y.number) ⊎ (x.number ≢ y.number) → Meet M a b
       by_number (inr n) = by_place (λ e. absurd (n e))
@@ -62,11 +61,10 @@ module _ (o : Order) (g : Rules o) (q : Allowed o) (res : Resolved o g q) where
 
   -- what is a combination of resolved rules is zero, or a row ends at its greatest word
   pub zero_or_reducible : (f : Coefs) → Span (λ b. (M : Word) × Row o g q M b) f → ((w : Word) → f w ≡ pos 0) ⊎ HasTopRow setting f
-  zero_or_reducible f sp = finish (topped setting (λ _. Unit {0}) f (span_bind _ _ each f sp))
+  zero_or_reducible f sp = elim (topped setting (λ _. Unit {0}) f (span_bind _ _ each f sp)) [
+    | inl z ↦ inl z
+    | inr (N, u, sp', at) ↦ zero_or_top_row setting N f sp'
+  ]
     where
       each : (b : Coefs) → ((M : Word) × Row o g q M b) → Span (λ d. (L : Word) × Unit {0} × Row o g q L d) b
-      each b (M, row) = more b (λ _. pos 0) b (pos 1) (M, tt, row) (nothing _ (λ _. refl)) (λ w. (omega (arith, ints)))
-
-      finish : (((w : Word) → f w ≡ pos 0) ⊎ ((N : Word) × Unit {0} × Span (AtMost setting N) f × SomeRow setting N)) → ((w : Word) → f w ≡ pos 0) ⊎ HasTopRow setting f
-      finish (inl z) = inl z
-      finish (inr (N, u, sp', at)) = zero_or_top_row setting N f sp'
+      each b (M, row) = single _ b (M, tt, row)

@@ -1,5 +1,5 @@
 -- The generator x x - x, with the letter x = 0 in the canonical order: closed after one ambiguity, and x is outside.
-use Rattle.std.proofs.Common.{◌≡◌, ◌<◌, ◌≤◌, ◌+◌, ℕ, zero, suc, pos, negsuc, List, [], ◌∷◌, length, Some, Ok, Option, false, refl, sym, ap, ◌∙◌, subst, arith}
+use Rattle.std.proofs.Common.{◌≡◌, ◌<◌, ◌+◌, ℕ, zero, suc, pos, negsuc, List, [], ◌∷◌, length, Ok, false, refl, sym, ap, ◌∙◌, subst, arith}
 use Rattle.std.proofs.lemmas.Int.{ints}
 use Rattle.std.specs.List.{All}
 use Rattle.std.proofs.lemmas.List.{length-append}
@@ -16,7 +16,7 @@ use Rattle.traced_rows.specs.declared.Made.{Made}
 use Rattle.traced_rows.specs.declared.Origin.TheVariants as origin
 use Rattle.rule_reduce.specs.declared.rule.Rule.{Rule}
 use Rattle.rule_reduce.specs.declared.state.State.{State}
-use Rattle.rule_reduce.specs.RuleLists.{IsRule, rule_at, polynomials_of}
+use Rattle.rule_reduce.specs.RuleLists.{IsRule, polynomials_of}
 use Rattle.rule_reduce.specs.NormalForms.{start_of}
 use Rattle.rule_reduce.proofs.WordsKept.{words_with_coefficients}
 use Rattle.ambiguities.specs.declared.ambiguity.Kind.{Kind}
@@ -27,15 +27,15 @@ use Rattle.ambiguities.specs.SPolynomials.{s_polynomial_of}
 use Rattle.ambiguities.specs.Resolved.{IsResolved, Resolved}
 use Rattle.ambiguities.proofs.Balance.{s_polynomials_balance}
 use Rattle.confluence.specs.Reductions.{IsZero, IsReduced}
+use Rattle.confluence.proofs.Examples.{only_rule}
 use Rattle.confluence.proofs.Ideals.{ideals_stay_inside}
-use Rattle.confluence.proofs.RestLaws.{normal_forms_are_reduced, rests_of_ideal_are_zero}
+use Rattle.confluence.proofs.RestLaws.{normal_forms_are_reduced, rests_of_ideal_are_zero, zero_rests_are_inside, zero_rests_are_resolved}
 use Rattle.confluence.proofs.WrittenTerms.{shaped_as_written, canonical_as_written}
-use Rattle.confluence.proofs.ZeroRestLaws.{zero_rests_are_inside, zero_rests_are_resolved}
 use Rattle.confluence.specs.Rests.{generator_rows, IsAppended, rule_made}
 use Rattle.confluence.specs.Kept.{HaveLettersBelow, Kept}
 use Rattle.confluence.specs.Conclusions.{AreAllDone, NothingPending}
-use Rattle.confluence.proofs.Steps.{start_is_kept, generators_are_kept}
-use Rattle.confluence.proofs.Treating.{resolved_at_once_is_kept}
+use Rattle.confluence.proofs.ShapeLaws.{zero_is_shaped}
+use Rattle.confluence.proofs.Steps.{start_is_kept, generators_are_kept, resolved_at_once_is_kept}
 use Rattle.confluence.proofs.OutsideIdeals.{nonzero_is_outside}
 use Rattle.traced_rows.proofs.Lists.{all_one, all_two}
 
@@ -117,25 +117,17 @@ word = refl
 difference : s_polynomial_of (rule ∷ []) itself ≡ Ok []
 difference = refl
 
-zero_shaped : IsShaped []
-zero_shaped = shaped_as_written [] tt tt tt
-
 rules_are : All (IsRule 1 word_cmp) (rule ∷ [])
 rules_are = all_one (IsRule 1 word_cmp) rule is_rule
 
 zero_reduced : IsReduced 1 word_cmp (rule ∷ []) [] (start_of [])
-zero_reduced = normal_forms_are_reduced 1 word_cmp (rank_of 1) (rule ∷ []) [] 0 (start_of []) laws rules_are zero_shaped (All-nil (λ (t : Term). IsOver 1 t.1)) refl
+zero_reduced = normal_forms_are_reduced 1 word_cmp (rank_of 1) (rule ∷ []) [] 0 (start_of []) laws rules_are zero_is_shaped (All-nil (λ (t : Term). IsOver 1 t.1)) refl
 
 closed : Kept 1 word_cmp generators (rule ∷ []) (made ∷ []) (1 ∷ []) (itself ∷ [])
 closed = resolved_at_once_is_kept 1 word_cmp (rank_of 1) generators (rule ∷ []) [] (made ∷ []) (1 ∷ []) [] itself [] (start_of []) laws after_round_zero is_one
     (s_polynomials_balance (rule ∷ []) itself [] difference) zero_reduced (record { at = λ w. refl })
 
 -- there is no other ambiguity
-only_rule : (n : ℕ) (g : Rule) → rule_at (rule ∷ []) n ≡ Some g → (n ≡ 1) × (g ≡ rule)
-only_rule zero g is = absurd (cc)
-only_rule (suc zero) g is = (refl, (cc))
-only_rule (suc (suc n)) g is = absurd (cc)
-
 only_itself : (a : Ambiguity) → IsAmbiguity (rule ∷ []) a → a ≡ itself
 only_itself a is = by_kind a.kind refl is.meets
   where

@@ -1,11 +1,13 @@
 -- Where two rows of one top word differ by lower rows, a sum of rows has a top word of a row.
 use Rattle.std.proofs.Common.{◌≡◌, ◌≢◌, ℕ, ◌*◌, ◌<◌, ◌⊎◌, inl, inr, refl, arith, subst, sym, ap, ◌∙◌, ℤ, pos, ◌+ℤ◌, ◌*ℤ◌, neg_ℤ}
 use Rattle.std.proofs.lemmas.Int.{ints}
+use Rattle.std.proofs.Math.Nat.{mul-pos}
 use Rattle.std.proofs.Math.IntN.{*ℤ_comm, +ℤ_assoc, zero-*ℤ, *ℤ-zero, +ℤ_idl, +ℤ_idr}
 use Rattle.definitions.proofs.Integers.{+ℤ-*ℤ, *ℤ-+ℤ, *ℤ_assoc, *ℤ-neg_ℤ}
 use Rattle.confluence.proofs.Integers.{*ℤ_cancel, nonzero_or}
 use Rattle.definitions.specs.Poly.{Word}
-use Rattle.confluence.proofs.Spans.{Coefs, Span, nothing, more, part, span_same, span_scale, span_add, span_bind, mul_swap}
+use Rattle.confluence.proofs.Spans.{Coefs, Span, nothing, more, part, single, span_same, span_scale, span_add, mul_swap}
+use Rattle.confluence.proofs.Shifts.{span_bind}
 
 -- an order of words and rows with a top word each. `Row M b`: b are the coefficients of a row whose greatest word is M
 pub record Setting : Type 1 where
@@ -19,9 +21,6 @@ pub record Setting : Type 1 where
   pub above : (M w : Word) (b : Coefs) → Row M b → Less M w → b w ≡ pos 0
   -- two rows of one top differ, with multipliers, by lower rows
   pub meet : (M : Word) (a b : Coefs) → Row M a → Row M b → (e : ℕ) × (c : ℤ) × (0 < e) × Span (λ d. (L : Word) × Less L M × Row L d) (λ w. pos e *ℤ a w +ℤ neg_ℤ (c *ℤ b w))
-
-pos_mul : (x y : ℕ) → 0 < x → 0 < y → 0 < x * y
-pos_mul x y p q = grind arith
 
 left_over : (x y : ℤ) → pos 1 *ℤ (x +ℤ y) +ℤ neg_ℤ x ≡ y
 left_over x y = ap (λ z. z +ℤ neg_ℤ x) (*ℤ-+ℤ (pos 1) x y) ∙ omega (arith, ints)
@@ -58,20 +57,12 @@ module _ (s : Setting) where
       after (low l) (inl e) = one_row 1 c b (omega arith) (subst (λ X. s.Row X b) e row) (span_same (Lower M) g _ l (λ w. ap (λ x. pos 1 *ℤ x +ℤ neg_ℤ (c *ℤ b w)) (h w) ∙ left_over (c *ℤ b w) (g w)))
       after (low l) (inr lt) = low (more f g b c (L, lt, row) l h)
       after (one_row d k a pd ha l) (inr lt) = one_row d k a pd ha (more _ (λ w. pos d *ℤ g w +ℤ neg_ℤ (k *ℤ a w)) b (pos d *ℤ c) (L, lt, row) l (λ w. ap (λ x. pos d *ℤ x +ℤ neg_ℤ (k *ℤ a w)) (h w) ∙ filtered (pos d) c (b w) (g w) (neg_ℤ (k *ℤ a w))))
-      after (one_row d k a pd ha l) (inl e) = met (s.meet M b a (subst (λ X. s.Row X b) e row) ha)
-        where
-          met : ((x : ℕ) × (y : ℤ) × (0 < x) × Span (Lower M) (λ w. pos x *ℤ b w +ℤ neg_ℤ (y *ℤ a w))) → Collapsed M f
-          met (x, y, px, sp) = one_row (x * d) ((pos d *ℤ c) *ℤ y +ℤ pos x *ℤ k) a (pos_mul x d px pd) ha (span_same (Lower M) (λ w. (pos d *ℤ c) *ℤ (pos x *ℤ b w +ℤ neg_ℤ (y *ℤ a w)) +ℤ pos x *ℤ (pos d *ℤ g w +ℤ neg_ℤ (k *ℤ a w))) _ (span_add (Lower M) _ _ (span_scale (Lower M) (pos d *ℤ c) _ sp) (span_scale (Lower M) (pos x) _ l)) (λ w. ap (λ z. pos (x * d) *ℤ z +ℤ neg_ℤ (((pos d *ℤ c) *ℤ y +ℤ pos x *ℤ k) *ℤ a w)) (h w) ∙ joined (pos x) (pos d) c y k (a w) (b w) (g w)))
-  collapse M _ (part f g e pe hg h) = after (collapse M g hg)
-    where
-      after : Collapsed M g → Collapsed M f
-      after (low l) = low (part f g e pe l h)
-      after (one_row d c b pd hb l) = one_row (d * e) c b (pos_mul d e pd pe) hb (span_same (Lower M) (λ w. pos d *ℤ g w +ℤ neg_ℤ (c *ℤ b w)) _ l (λ w. ap (λ x. x +ℤ neg_ℤ (c *ℤ b w)) (*ℤ_assoc (pos d) (pos e) (f w) ∙ ap (λ x. pos d *ℤ x) (sym (h w)))))
-
-  -- what is spanned has a greatest row, or is zero
-  pub data Topped (f : Coefs) : Type 0 where
-    zero_all : ((w : Word) → f w ≡ pos 0) → Topped f
-    top_at : (N : Word) (b : Coefs) → s.Row N b → Span (AtMost N) f → Topped f
+      after (one_row d k a pd ha l) (inl e) = let (x, y, px, sp) = s.meet M b a (subst (λ X. s.Row X b) e row) ha in
+          one_row (x * d) ((pos d *ℤ c) *ℤ y +ℤ pos x *ℤ k) a (mul-pos px pd) ha (span_same (Lower M) (λ w. (pos d *ℤ c) *ℤ (pos x *ℤ b w +ℤ neg_ℤ (y *ℤ a w)) +ℤ pos x *ℤ (pos d *ℤ g w +ℤ neg_ℤ (k *ℤ a w))) _ (span_add (Lower M) _ _ (span_scale (Lower M) (pos d *ℤ c) _ sp) (span_scale (Lower M) (pos x) _ l)) (λ w. ap (λ z. pos (x * d) *ℤ z +ℤ neg_ℤ (((pos d *ℤ c) *ℤ y +ℤ pos x *ℤ k) *ℤ a w)) (h w) ∙ joined (pos x) (pos d) c y k (a w) (b w) (g w)))
+  collapse M _ (part f g e pe hg h) = elim (collapse M g hg) [
+    | low l ↦ low (part f g e pe l h)
+    | one_row d c b pd hb l ↦ one_row (d * e) c b (mul-pos pd pe) hb (span_same (Lower M) (λ w. pos d *ℤ g w +ℤ neg_ℤ (c *ℤ b w)) _ l (λ w. ap (λ x. x +ℤ neg_ℤ (c *ℤ b w)) (*ℤ_assoc (pos d) (pos e) (f w) ∙ ap (λ x. pos d *ℤ x) (sym (h w)))))
+  ]
 
   at_most_weaker : (M N : Word) → ((M ≡ N) ⊎ s.Less M N) → (f : Coefs) → Span (AtMost M) f → Span (AtMost N) f
   at_most_weaker M N r = span_bind (AtMost M) (AtMost N) each
@@ -83,7 +74,7 @@ module _ (s : Setting) where
       joined_below L (inr e) (inr h) = inr (s.less_trans L M N e h)
 
       each : (b : Coefs) → AtMost M b → Span (AtMost N) b
-      each b (L, w, row) = more b (λ _. pos 0) b (pos 1) (L, joined_below L w r, row) (nothing _ (λ _. refl)) (λ w. (omega (arith, ints)))
+      each b (L, w, row) = single (AtMost N) b (L, joined_below L w r, row)
 
   abbrev pub SomeRow : Word → Type 0
   SomeRow N = (d : Coefs) × s.Row N d
@@ -91,24 +82,21 @@ module _ (s : Setting) where
   -- the greatest of the rows, for rows of any kind that have tops
   pub topped : (P : Word → Type 0) (f : Coefs) → Span (λ d. (L : Word) × P L × s.Row L d) f → ((w : Word) → f w ≡ pos 0) ⊎ ((N : Word) × P N × Span (AtMost N) f × SomeRow N)
   topped P _ (nothing f h) = inl h
-  topped P _ (more f g b c (L, p, row) hg h) = after (topped P g hg)
+  topped P _ (more f g b c (L, p, row) hg h) = elim (topped P g hg) [
+    | inl z ↦ inr (L, p, more f g b c (L, inl refl, row) (nothing g z) h, (b, row))
+    | inr (N, pn, sp, (d, at)) ↦ elim (s.compare L N b d row at) [
+      | inl e ↦ inr (N, pn, more f g b c (L, inl e, row) sp h, (d, at))
+      | inr (inl e) ↦ inr (N, pn, more f g b c (L, inr e, row) sp h, (d, at))
+      | inr (inr e) ↦ inr (L, p, more f g b c (L, inl refl, row) (at_most_weaker N L (inr e) g sp) h, (b, row))
+    ]
+  ]
     where
       Goal : Type 0
       Goal = ((w : Word) → f w ≡ pos 0) ⊎ ((N : Word) × P N × Span (AtMost N) f × SomeRow N)
-
-      after : (((w : Word) → g w ≡ pos 0) ⊎ ((N : Word) × P N × Span (AtMost N) g × SomeRow N)) → Goal
-      after (inl z) = inr (L, p, more f g b c (L, inl refl, row) (nothing g z) h, (b, row))
-      after (inr (N, pn, sp, (d, at))) = pick (s.compare L N b d row at)
-        where
-          pick : (L ≡ N) ⊎ (s.Less L N ⊎ s.Less N L) → Goal
-          pick (inl e) = inr (N, pn, more f g b c (L, inl e, row) sp h, (d, at))
-          pick (inr (inl e)) = inr (N, pn, more f g b c (L, inr e, row) sp h, (d, at))
-          pick (inr (inr e)) = inr (L, p, more f g b c (L, inl refl, row) (at_most_weaker N L (inr e) g sp) h, (b, row))
-  topped P _ (part f g e pe hg h) = after (topped P g hg)
-    where
-      after : (((w : Word) → g w ≡ pos 0) ⊎ ((N : Word) × P N × Span (AtMost N) g × SomeRow N)) → ((w : Word) → f w ≡ pos 0) ⊎ ((N : Word) × P N × Span (AtMost N) f × SomeRow N)
-      after (inl z) = inl (λ w. *ℤ_cancel e (f w) pe (sym (h w) ∙ z w))
-      after (inr (N, pn, sp, at)) = inr (N, pn, part f g e pe sp h, at)
+  topped P _ (part f g e pe hg h) = elim (topped P g hg) [
+    | inl z ↦ inl (λ w. *ℤ_cancel e (f w) pe (sym (h w) ∙ z w))
+    | inr (N, pn, sp, at) ↦ inr (N, pn, part f g e pe sp h, at)
+  ]
 
   at_most_zero : (M w : Word) (f : Coefs) → s.Less M w → Span (AtMost M) f → f w ≡ pos 0
   at_most_zero M w _ above (nothing f h) = h w
@@ -133,12 +121,8 @@ module _ (s : Setting) where
       step : (M : Word) → ((L : Word) → s.Less L M → Span (AtMost L) f → ((w : Word) → f w ≡ pos 0) ⊎ HasTopRow f) → Span (AtMost M) f → ((w : Word) → f w ≡ pos 0) ⊎ HasTopRow f
       step M ih sp = from_collapsed (collapse M f sp)
         where
-          finish : (((w : Word) → f w ≡ pos 0) ⊎ ((N : Word) × s.Less N M × Span (AtMost N) f × SomeRow N)) → ((w : Word) → f w ≡ pos 0) ⊎ HasTopRow f
-          finish (inl z) = inl z
-          finish (inr (N, lt, sp', at)) = ih N lt sp'
-
           lowered : Span (Lower M) f → ((w : Word) → f w ≡ pos 0) ⊎ HasTopRow f
-          lowered l = finish (topped (λ L. s.Less L M) f l)
+          lowered l = elim (topped (λ L. s.Less L M) f l) [ inl z ↦ inl z | inr (N, lt, sp', at) ↦ ih N lt sp' ]
 
           from_collapsed : Collapsed M f → ((w : Word) → f w ≡ pos 0) ⊎ HasTopRow f
           from_collapsed (low l) = lowered l
@@ -151,10 +135,8 @@ module _ (s : Setting) where
                   (pos e *ℤ f w)))) (λ w. refl))
                 where
                   c_zero : c ≡ pos 0
-                  c_zero = from_lead (s.lead M b hb)
+                  c_zero = let (k, pk, at) = s.lead M b hb in
+                      *ℤ_cancel k c pk (*ℤ_comm (pos k) c ∙ ap (λ z. c *ℤ z) (sym at) ∙ alone (pos e *ℤ f M) (c *ℤ b M) (ap (λ z. pos e *ℤ z) z ∙ *ℤ-zero (pos e)) (lower_zero M _ l))
                     where
                       alone : (x y : ℤ) → x ≡ pos 0 → x +ℤ neg_ℤ y ≡ pos 0 → y ≡ pos 0
                       alone x y p q = omega (arith, ints)
-
-                      from_lead : ((k : ℕ) × (0 < k) × (b M ≡ pos k)) → c ≡ pos 0
-                      from_lead (k, pk, at) = *ℤ_cancel k c pk (*ℤ_comm (pos k) c ∙ ap (λ z. c *ℤ z) (sym at) ∙ alone (pos e *ℤ f M) (c *ℤ b M) (ap (λ z. pos e *ℤ z) z ∙ *ℤ-zero (pos e)) (lower_zero M _ l))

@@ -36,10 +36,7 @@ content_with t p g content =
 
 pub has_content : (p : List Term) → HasContent p
 has_content [] = record { content = pos 0; is = zero_content }
-has_content (t ∷ p) = go (has_content p)
-  where
-    go : HasContent p → HasContent (t ∷ p)
-    go rest = record { content = gcd_of rest.content t.0; is = content_with t p rest.content rest.is }
+has_content (t ∷ p) = let rest = has_content p in record { content = gcd_of rest.content t.0; is = content_with t p rest.content rest.is }
 
 -- that of a polynomial other than zero is positive
 pub positive_content : (p : List Term) (g : ℤ) → 0 < length p → All (λ t. t.0 ≢ pos 0) p → IsContent p g → pos 0 <ℤ g

@@ -1,5 +1,5 @@
 -- The rule b a b - a b a, with the letters a = 0 and b = 1 in the canonical order, has one ambiguity.
-use Rattle.std.proofs.Common.{◌≡◌, ◌<◌, ℕ, zero, suc, pos, negsuc, List, [], ◌∷◌, ◌++◌, length, Some, Ok, Option, refl, sym, ap, ◌∙◌, arith}
+use Rattle.std.proofs.Common.{◌≡◌, ◌<◌, ℕ, zero, suc, pos, negsuc, List, [], ◌∷◌, ◌++◌, length, Some, Ok, refl, sym, ap, ◌∙◌, arith}
 use Rattle.std.proofs.lemmas.List.{length-append}
 use Rattle.definitions.specs.Poly.{Term}
 use Rattle.nc_polynomial.specs.Shape.{IsCanonical}
@@ -45,7 +45,7 @@ difference : s_polynomial_of (rule ∷ []) itself ≡ Ok ((pos 1, 1 ∷ 0 ∷ 0 
 difference = refl
 
 -- there is no other
-only_rule : (n : ℕ) (g : Rule) → rule_at (rule ∷ []) n ≡ Some g → (n ≡ 1) × (g ≡ rule)
+pub only_rule : {f : Rule} (n : ℕ) (g : Rule) → rule_at (f ∷ []) n ≡ Some g → (n ≡ 1) × (g ≡ f)
 only_rule zero g is = absurd (cc)
 only_rule (suc zero) g is = (refl, (cc))
 only_rule (suc (suc n)) g is = absurd (cc)

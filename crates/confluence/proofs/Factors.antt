@@ -1,11 +1,10 @@
 -- The factors of the two rows of an S-polynomial.
-use Rattle.std.proofs.Common.{◌≡◌, ℕ, suc, ◌<◌, ◌≤◌, ◌*◌, ◌/◌, ℤ, pos, negsuc, ◌<ℤ◌, int_div, refl, sym, ap, ◌∙◌, arith}
+use Rattle.std.proofs.Common.{◌≡◌, ℕ, suc, ◌<◌, ◌≤◌, ◌*◌, ◌/◌, ℤ, pos, negsuc, ◌<ℤ◌, int_div, refl, arith}
 use Rattle.std.proofs.lemmas.Int.{ints}
 use Rattle.std.proofs.lemmas.Nat.{le-div}
 use Rattle.std.proofs.lemmas.Nat.Gcd.{le_of_dvd}
-use Rattle.std.proofs.Math.Nat.{div-mul_cancel, mul_comm, mul_assoc, pos_of_dvd_of_pos}
+use Rattle.std.proofs.Math.Nat.{pos_of_dvd_of_pos}
 use Rattle.std.specs.Int.{◌∣◌}
-use Rattle.std.specs.Int.RustNames.{unsigned_abs}
 use Rattle.coef_int.specs.Divisor.{gcd_within, gcd_of}
 use Rattle.coef_int.proofs.Divisors.{gcd_within-IsGcd}
 
@@ -16,12 +15,6 @@ pub record Factors (k l : ℤ) : Type 0 where
   pub other_is : int_div k (gcd_of k l) ≡ pos other
   pub one_positive : 0 < one
   pub other_positive : 0 < other
-  pub balanced : one * unsigned_abs k ≡ other * unsigned_abs l
-
-crossed : (a b g : ℕ) → g ∣ a → g ∣ b → (b / g) * a ≡ (a / g) * b
-crossed a b g of_a of_b =
-    ap (λ n. (b / g) * n) (sym (div-mul_cancel g of_a) ∙ mul_comm (a / g) g)
-    ∙ sym (mul_assoc (b / g) g (a / g)) ∙ ap (λ n. n * (a / g)) (div-mul_cancel g of_b) ∙ mul_comm b (a / g)
 
 quotient_positive : (a g : ℕ) → 0 < a → g ∣ a → 0 < a / g
 quotient_positive a g above divides = le-div 1 a g (pos_of_dvd_of_pos divides above) (once a g (le_of_dvd above divides))
@@ -42,7 +35,6 @@ factors (pos a) (pos b) k_above l_above =
       other_is = refl;
       one_positive = quotient_positive b g b_above is_gcd.1;
       other_positive = quotient_positive a g a_above is_gcd.0;
-      balanced = crossed a b g is_gcd.0 is_gcd.1;
     }
 factors (pos a) (negsuc b) k_above l_above = absurd (omega (arith, ints, l_above))
 factors (negsuc a) l k_above l_above = absurd (omega (arith, ints, k_above))

@@ -1,38 +1,24 @@
 -- Rows with any words, and the rows over rules among them whose words are in range.
-use Rattle.std.proofs.Common.{◌≡◌, ◌≢◌, ℕ, ◌⊎◌, inl, inr, refl, arith, subst, sym, ap, ◌∙◌, List, [], ◌∷◌, ◌++◌, ℤ, pos, ◌+ℤ◌, ◌*ℤ◌}
-use Rattle.std.proofs.lemmas.Int.{ints}
-use Rattle.std.proofs.Math.IntN.{*ℤ-zero, +ℤ_idr}
+use Rattle.std.proofs.Common.{◌≡◌, ◌≢◌, ℕ, ◌⊎◌, inl, inr, refl, subst, sym, ap, ◌∙◌, List, ◌++◌, ℤ, pos, ◌+ℤ◌, ◌*ℤ◌}
+use Rattle.std.proofs.Math.IntN.{*ℤ-zero}
 use Rattle.definitions.specs.Poly.{coefficient_of, poly_between, Word, Term}
 use Rattle.definitions.specs.Combination.{generator_at, InRationalIdeal}
 use Rattle.word_orders.specs.Orders.{Order}
-use Rattle.confluence.proofs.Led.{polys_of, no_led, Led, led_at, HasLed, IsLed, Comes}
+use Rattle.rule_reduce.specs.RuleLists.{polynomials_of}
+use Rattle.rule_reduce.specs.declared.rule.Rule.{Rule}
+use Rattle.confluence.proofs.Led.{led_at, HasLed, IsLed, has_decided, poly_at}
 use Rattle.confluence.proofs.Integers.{nonzero_or}
-use Rattle.confluence.proofs.TermWords.{AllWords}
-use Rattle.confluence.proofs.Spans.{Coefs, Span, span_same, span_add, span_scale, nothing, more, part}
-use Rattle.confluence.proofs.Shifts.{shift, shift-same, coefficient_of-between, between-between}
-use Rattle.confluence.proofs.Outside.{AnyRow, coefficient_word, coefficient_of-between_at}
-use Rattle.confluence.proofs.Parts.{rules_of}
+use Rattle.confluence.proofs.Spans.{Coefs, Span, single, span_same, nothing}
+use Rattle.traced_rows.proofs.Between.{between-between}
+use Rattle.confluence.proofs.Shifts.{IsLinear, span_map, shift, shift_linear, coefficient_of-between, between_word}
+use Rattle.confluence.proofs.Outside.{AnyRow}
+use Rattle.confluence.proofs.LedRules.{rules_of}
 use Rattle.confluence.proofs.SumRows.{Numbered, listed, combination_span, combination_from, span_from_numbered}
-use Rattle.confluence.proofs.LedLists.{has_decided, poly_at}
 use Rattle.confluence.proofs.Resolve.{everything, InRange}
-
--- a word of l p r is l v r
-pub between_word : (l r : Word) (p : List Term) (w : Word) → (coefficient_of (poly_between l p r) w ≡ pos 0) ⊎ ((v : Word) × (w ≡ l ++ (v ++ r)))
-between_word l r p w = coefficient_word (λ u. (v : Word) × (u ≡ l ++ (v ++ r))) (poly_between l p r) w (each p)
-  where
-    each : (p : List Term) → AllWords (λ u. (v : Word) × (u ≡ l ++ (v ++ r))) (poly_between l p r)
-    each [] = tt
-    each (t ∷ p) = ((t.1, refl), each p)
 
 -- any words
 abbrev pub Free : Word → Type 0
 Free _ = Unit {0}
-
-pub one_times : (x : ℤ) → x ≡ pos 1 *ℤ x +ℤ pos 0
-one_times x = omega (arith, ints)
-
-pub single : (Base : Coefs → Type 0) (b : Coefs) → Base b → Span Base b
-single Base b h = more b (λ _. pos 0) b (pos 1) h (nothing _ (λ _. refl)) (λ w. one_times (b w))
 
 pub numbered_shift : (gs : List (List Term)) (x y : Word) (b : Coefs) → Numbered gs Free b → Numbered gs Free (shift x y b)
 numbered_shift gs x y b h = record {
@@ -40,14 +26,12 @@ numbered_shift gs x y b h = record {
   left = x ++ h.left;
   right = h.right ++ y;
   asked = λ w n. tt;
-  is = λ w. shift-same x y b (coefficient_of (poly_between h.left (generator_at gs h.number) h.right)) h.is w ∙ sym (coefficient_of-between x y (poly_between h.left (generator_at gs h.number) h.right) w) ∙ ap (λ p. coefficient_of p w) (between-between x h.left h.right y (generator_at gs h.number));
+  is = λ w. (shift_linear x y).same b (coefficient_of (poly_between h.left (generator_at gs h.number) h.right)) h.is w ∙ sym (coefficient_of-between x y (poly_between h.left (generator_at gs h.number) h.right) w) ∙ ap (λ p. coefficient_of p w) (between-between x h.left h.right y (generator_at gs h.number));
 }
 
 pub in_ideal : (gs : List (List Term)) (p : List Term) → Span (Numbered gs Free) (coefficient_of p) → InRationalIdeal gs p
-in_ideal gs p sp = go (combination_from gs Free p (listed gs Free (coefficient_of p) sp))
-  where
-    go : Comes gs Free p → InRationalIdeal gs p
-    go c = record { denominator = c.multiplier; rows = c.rows; combination = c.combination }
+in_ideal gs p sp = let c = combination_from gs Free p (listed gs Free (coefficient_of p) sp) in
+    record { denominator = c.multiplier; rows = c.rows; combination = c.combination }
 
 pub ideal_span : (gs : List (List Term)) (p : List Term) → InRationalIdeal gs p → Span (Numbered gs Free) (coefficient_of p)
 ideal_span gs p inside = combination_span gs Free inside.rows inside.denominator p inside.combination (λ i r below w some. tt)
@@ -61,46 +45,30 @@ module _ (o : Order) where
   abbrev cut : Coefs → Coefs
   cut f w = keep_if (o.range_decided w) (f w)
 
-  cut-sum : (f b g : Coefs) (c : ℤ) → ((w : Word) → f w ≡ c *ℤ b w +ℤ g w) → (w : Word) → cut f w ≡ c *ℤ cut b w +ℤ cut g w
-  cut-sum f b g c h w = go (o.range_decided w)
-    where
-      go : (d : o.Range w ⊎ (o.Range w → ⊥)) → keep_if d (f w) ≡ c *ℤ keep_if d (b w) +ℤ keep_if d (g w)
-      go (inl r) = h w
-      go (inr n) = sym (ap (λ z. z +ℤ pos 0) (*ℤ-zero c))
-
-  cut-zero : (f : Coefs) (w : Word) → f w ≡ pos 0 → cut f w ≡ pos 0
-  cut-zero f w h = go (o.range_decided w)
-    where
-      go : (d : o.Range w ⊎ (o.Range w → ⊥)) → keep_if d (f w) ≡ pos 0
-      go (inl r) = h
-      go (inr n) = refl
+  cut_linear : IsLinear cut
+  cut_linear = record {
+    same = λ f g h w. ap (keep_if (o.range_decided w)) (h w);
+    sum = λ c f g w. elim (o.range_decided w) as (λ d. keep_if d (c *ℤ f w +ℤ g w) ≡ c *ℤ keep_if d (f w) +ℤ keep_if d (g w)) [
+      | inl r ↦ refl
+      | inr n ↦ sym (ap (λ z. z +ℤ pos 0) (*ℤ-zero c))
+    ];
+  }
 
   cut-outside : (f : Coefs) (w : Word) → (o.Range w → f w ≡ pos 0) → cut f w ≡ pos 0
-  cut-outside f w h = go (o.range_decided w)
-    where
-      go : (d : o.Range w ⊎ (o.Range w → ⊥)) → keep_if d (f w) ≡ pos 0
-      go (inl r) = h r
-      go (inr n) = refl
+  cut-outside f w h = elim (o.range_decided w) as (λ d. keep_if d (f w) ≡ pos 0) [ inl r ↦ h r | inr n ↦ refl ]
 
   cut-inside : (f : Coefs) (w : Word) → (f w ≡ pos 0) ⊎ o.Range w → cut f w ≡ f w
-  cut-inside f w h = go (o.range_decided w)
-    where
-      none : (f w ≡ pos 0) ⊎ o.Range w → (o.Range w → ⊥) → pos 0 ≡ f w
-      none (inl z) n = sym z
-      none (inr r) n = absurd (n r)
+  cut-inside f w h = elim (o.range_decided w) as (λ d. keep_if d (f w) ≡ f w) [
+    | inl r ↦ refl
+    | inr n ↦ elim h [ inl z ↦ sym z | inr r ↦ absurd (n r) ]
+  ]
 
-      go : (d : o.Range w ⊎ (o.Range w → ⊥)) → keep_if d (f w) ≡ f w
-      go (inl r) = refl
-      go (inr n) = none h n
-
-  span_cut : (Base Other : Coefs → Type 0) → ((b : Coefs) → Base b → Span Other (cut b)) → (f : Coefs) → Span Base f → Span Other (cut f)
-  span_cut Base Other each _ (nothing f h) = nothing _ (λ w. cut-zero f w (h w))
-  span_cut Base Other each _ (more f g b c hb hg h) = span_same Other (λ w. c *ℤ cut b w +ℤ cut g w) (cut f) (span_add Other (λ w. c *ℤ cut b w) (cut g) (span_scale Other c (cut b) (each b hb)) (span_cut Base Other each g hg)) (λ w. cut-sum f b g c h w)
-  span_cut Base Other each _ (part f g e pe hg h) = part (cut f) (cut g) e pe (span_cut Base Other each g hg) (λ w. cut-sum g f (λ _. pos 0) (pos e) (λ v. h v ∙ sym (+ℤ_idr _)) w ∙ ap (λ z. pos e *ℤ cut f w +ℤ z) (cut-zero (λ _. pos 0) w refl) ∙ +ℤ_idr _)
-
-  module _ (rules : List Led) (ok : (n : ℕ) → HasLed rules n → IsLed o (led_at rules n)) where
-    pub rules_in_range : (n : ℕ) → InRange o (generator_at (polys_of rules) n)
-    rules_in_range n w k = go (has_decided rules n)
+  module _ (rules : List Rule) (ok : (n : ℕ) → HasLed rules n → IsLed o (led_at rules n)) where
+    pub rules_in_range : (n : ℕ) → InRange o (generator_at (polynomials_of rules) n)
+    rules_in_range n w k = elim (has_decided rules n) [
+      | inl h ↦ range h ((ok n h).words w k')
+      | inr e ↦ absurd (k' (ap (λ r. coefficient_of r.poly w) e))
+    ]
       where
         k' : coefficient_of (led_at rules n).poly w ≢ pos 0
         k' z = k (ap (λ p. coefficient_of p w) (poly_at rules n) ∙ z)
@@ -109,43 +77,33 @@ module _ (o : Order) where
         range h (inl e) = subst o.Range (sym e) (ok n h).range
         range h (inr l) = o.less_range w (led_at rules n).lead l
 
-        go : HasLed rules n ⊎ (led_at rules n ≡ no_led) → o.Range w
-        go (inl h) = range h ((ok n h).words w k')
-        go (inr e) = absurd (k' (ap (λ r. coefficient_of r.poly w) e))
-
     -- rows over the rules with any words, for a polynomial in range
-    pub free_span : (p : List Term) → InRange o p → Span (Numbered (polys_of rules) Free) (coefficient_of p) → Span (AnyRow o (rules_of o rules ok) (everything o)) (coefficient_of p)
-    free_span p r sp = span_same (AnyRow o (rules_of o rules ok) (everything o)) (cut (coefficient_of p)) (coefficient_of p) (span_cut (Numbered (polys_of rules) Free) (AnyRow o (rules_of o rules ok) (everything o)) each (coefficient_of p) sp) (λ w. sym (cut-inside (coefficient_of p) w (of_word w (nonzero_or (coefficient_of p w)))))
+    pub free_span : (p : List Term) → InRange o p → Span (Numbered (polynomials_of rules) Free) (coefficient_of p) → Span (AnyRow o (rules_of o rules ok) (everything o)) (coefficient_of p)
+    free_span p r sp = span_same (AnyRow o (rules_of o rules ok) (everything o)) (cut (coefficient_of p)) (coefficient_of p) (span_map cut cut_linear (Numbered (polynomials_of rules) Free) (AnyRow o (rules_of o rules ok) (everything o)) each (coefficient_of p) sp) (λ w. sym (cut-inside (coefficient_of p) w (of_word w (nonzero_or (coefficient_of p w)))))
       where
         of_word : (w : Word) → (coefficient_of p w ≡ pos 0) ⊎ (coefficient_of p w ≢ pos 0) → (coefficient_of p w ≡ pos 0) ⊎ o.Range w
         of_word w (inl z) = inl z
         of_word w (inr n) = inr (r w n)
 
-        each : (b : Coefs) → Numbered (polys_of rules) Free b → Span (AnyRow o (rules_of o rules ok) (everything o)) (cut b)
+        each : (b : Coefs) → Numbered (polynomials_of rules) Free b → Span (AnyRow o (rules_of o rules ok) (everything o)) (cut b)
         each b x = by_ends (o.range_decided x.left) (o.range_decided x.right)
           where
             gone : ((w : Word) → o.Range w → b w ≡ pos 0) → Span (AnyRow o (rules_of o rules ok) (everything o)) (cut b)
             gone h = nothing (cut b) (λ w. cut-outside b w (h w))
 
             outside : ((v : Word) → o.Range (x.left ++ (v ++ x.right)) → ⊥) → (w : Word) → o.Range w → b w ≡ pos 0
-            outside n w rw = pick (between_word x.left x.right (generator_at (polys_of rules) x.number) w)
-              where
-                pick : (coefficient_of (poly_between x.left (generator_at (polys_of rules) x.number) x.right) w ≡ pos 0) ⊎ ((v : Word) × (w ≡ x.left ++ (v ++ x.right))) → b w ≡ pos 0
-                pick (inl z) = x.is w ∙ z
-                pick (inr (v, e)) = absurd (n v (subst o.Range e rw))
+            outside n w rw = elim (between_word x.left x.right (generator_at (polynomials_of rules) x.number) w) [
+              | inl z ↦ x.is w ∙ z
+              | inr (v, e, some) ↦ absurd (n v (subst o.Range e rw))
+            ]
 
             by_ends : o.Range x.left ⊎ (o.Range x.left → ⊥) → o.Range x.right ⊎ (o.Range x.right → ⊥) → Span (AnyRow o (rules_of o rules ok) (everything o)) (cut b)
             by_ends (inr n) _ = gone (outside (λ v rv. n (o.range_left x.left v x.right rv)))
             by_ends (inl a) (inr n) = gone (outside (λ v rv. n (o.range_right x.left v x.right rv)))
-            by_ends (inl a) (inl c) = span_same (AnyRow o (rules_of o rules ok) (everything o)) b (cut b) (span_from_numbered o rules ok (everything o) o.Range (λ u ru. (ru, tt)) b (single (Numbered (polys_of rules) o.Range) b (record { number = x.number; left = x.left; right = x.right; is = x.is; asked = λ v n. o.range_join x.left v x.right a (rules_in_range x.number v n) c }))) (λ w. cut-inside b w (b_range w))
+            by_ends (inl a) (inl c) = span_same (AnyRow o (rules_of o rules ok) (everything o)) b (cut b) (span_from_numbered o rules ok (everything o) o.Range (λ u ru. (ru, tt)) b (single (Numbered (polynomials_of rules) o.Range) b (record { number = x.number; left = x.left; right = x.right; is = x.is; asked = λ v n. o.range_join x.left v x.right a (rules_in_range x.number v n) c }))) (λ w. cut-inside b w (b_range w))
               where
                 b_range : (w : Word) → (b w ≡ pos 0) ⊎ o.Range w
-                b_range w = by_place (between_word x.left x.right (generator_at (polys_of rules) x.number) w)
-                  where
-                    by_zero : (v : Word) → w ≡ x.left ++ (v ++ x.right) → (coefficient_of (generator_at (polys_of rules) x.number) v ≡ pos 0) ⊎ (coefficient_of (generator_at (polys_of rules) x.number) v ≢ pos 0) → (b w ≡ pos 0) ⊎ o.Range w
-                    by_zero v e (inl z) = inl (x.is w ∙ ap (coefficient_of (poly_between x.left (generator_at (polys_of rules) x.number) x.right)) e ∙ coefficient_of-between_at x.left x.right (generator_at (polys_of rules) x.number) v ∙ z)
-                    by_zero v e (inr n) = inr (subst o.Range (sym e) (o.range_join x.left v x.right a (rules_in_range x.number v n) c))
-
-                    by_place : (coefficient_of (poly_between x.left (generator_at (polys_of rules) x.number) x.right) w ≡ pos 0) ⊎ ((v : Word) × (w ≡ x.left ++ (v ++ x.right))) → (b w ≡ pos 0) ⊎ o.Range w
-                    by_place (inl z) = inl (x.is w ∙ z)
-                    by_place (inr (v, e)) = by_zero v e (nonzero_or (coefficient_of (generator_at (polys_of rules) x.number) v))
+                b_range w = elim (between_word x.left x.right (generator_at (polynomials_of rules) x.number) w) [
+                  | inl z ↦ inl (x.is w ∙ z)
+                  | inr (v, e, some) ↦ inr (subst o.Range (sym e) (o.range_join x.left v x.right a (rules_in_range x.number v some) c))
+                ]

@@ -1,12 +1,14 @@
 -- What is in the rational ideal of polynomials that are in a rational ideal themselves.
-use Rattle.std.proofs.Common.{◌≡◌, ◌⊎◌, inl, inr, ◌≤◌, ℕ, zero, suc, List, [], ◌∷◌, length, get_or, refl, ap, ◌∙◌, arith}
+use Rattle.std.proofs.Common.{◌≡◌, ◌⊎◌, inl, inr, ◌≤◌, ℕ, zero, suc, List, [], length, refl, ap, ◌∙◌, arith}
 use Rattle.std.specs.List.{All}
+use Rattle.std.proofs.lemmas.Bool.{cases_lt}
+use Rattle.std.proofs.lemmas.List.{get_or_past}
 use Rattle.std.proofs.lemmas.List.Elements.{All-get_or, All-from_get_or}
 use Rattle.definitions.specs.Poly.{Word, Term, coefficient_of, poly_between}
 use Rattle.definitions.specs.Combination.{generator_at, InRationalIdeal}
 use Rattle.confluence.specs.ZeroRests.{IdealsStayInside}
-use Rattle.confluence.proofs.Spans.{Coefs, Span, nothing, span_same, span_bind}
-use Rattle.confluence.proofs.Shifts.{shift, span_shift, coefficient_of-between}
+use Rattle.confluence.proofs.Spans.{Coefs, Span, nothing, span_same}
+use Rattle.confluence.proofs.Shifts.{shift, span_bind, span_shift, coefficient_of-between}
 use Rattle.confluence.proofs.SumRows.{Numbered}
 use Rattle.confluence.proofs.FreeRows.{Free, numbered_shift, in_ideal, ideal_span}
 
@@ -19,17 +21,10 @@ between_span polys l r p sp =
 -- a number is that of a generator, or names the polynomial zero
 pub generator_decided : (generators : List (List Term)) (n : ℕ) → ((1 ≤ n) × (n ≤ length generators)) ⊎ (generator_at generators n ≡ [])
 generator_decided gs zero = inr refl
-generator_decided [] (suc n) = inr (past n)
-  where
-    past : (n : ℕ) → get_or {A = List Term} [] n [] ≡ []
-    past zero = refl
-    past (suc n) = refl
-generator_decided (g ∷ gs) (suc zero) = inl (omega arith, omega arith)
-generator_decided (g ∷ gs) (suc (suc n)) = up (generator_decided gs (suc n))
-  where
-    up : ((1 ≤ suc n) × (suc n ≤ length gs)) ⊎ (generator_at gs (suc n) ≡ []) → ((1 ≤ suc (suc n)) × (suc (suc n) ≤ suc (length gs))) ⊎ (generator_at (g ∷ gs) (suc (suc n)) ≡ [])
-    up (inl named) = inl (omega arith, omega (arith, named.1))
-    up (inr none) = inr none
+generator_decided gs (suc n) = elim (cases_lt n (length gs)) [
+  | inl inside ↦ inl (omega arith, omega (arith, inside))
+  | inr past ↦ inr (get_or_past gs n [] past)
+]
 
 -- what holds of each generator, by number
 module _ (P : List Term → Type 0) (generators : List (List Term)) where

@@ -1,6 +1,7 @@
 -- What is in the rational ideal of the generators.
-use Rattle.std.proofs.Common.{◌≡◌, ◌≤◌, ◌<◌, ℕ, zero, suc, pos, ◌+ℤ◌, ◌*ℤ◌, List, [], ◌∷◌, length, slice_get, Some, refl, ap, ◌∙◌, subst, arith}
+use Rattle.std.proofs.Common.{◌≡◌, inl, inr, ◌≤◌, ◌<◌, ℕ, zero, suc, ◌+ℤ◌, ◌*ℤ◌, List, [], ◌∷◌, length, slice_get, Some, refl, ap, ◌∙◌, subst, arith}
 use Rattle.std.specs.List.{All}
+use Rattle.std.proofs.lemmas.Option.{slice_get_cases}
 use Rattle.std.proofs.lemmas.List.Elements.{All-contains, All-tail}
 use Rattle.definitions.specs.Poly.{Term, coefficient_of, poly_between}
 use Rattle.definitions.specs.Combination.{generator_at, InRationalIdeal}
@@ -18,10 +19,10 @@ use Rattle.rule_reduce.proofs.Numbers.{rule_at-polynomial}
 use Rattle.ambiguities.proofs.Numbers.{rule_at-first, rule_at-last}
 use Rattle.confluence.specs.Reductions.{IsZero, IsReduced}
 use Rattle.confluence.proofs.Integers.{positive_nat}
-use Rattle.confluence.proofs.Spans.{Span, nothing, part, span_same, span_add, span_scale}
+use Rattle.confluence.proofs.Spans.{Span, nothing, part, single, span_same, span_add, span_scale}
 use Rattle.confluence.proofs.SumRows.{Numbered}
-use Rattle.confluence.proofs.ZeroRestLaws.{zero_rests_are_inside}
-use Rattle.confluence.proofs.FreeRows.{Free, single, in_ideal}
+use Rattle.confluence.proofs.RestLaws.{zero_rests_are_inside}
+use Rattle.confluence.proofs.FreeRows.{Free, in_ideal}
 use Rattle.confluence.proofs.Ideals.{between_span, all_from_numbers, ideals_stay_inside}
 use Rattle.confluence.specs.Rests.{IsEarlier}
 use Rattle.confluence.specs.Kept.{AreRecorded, IsReached}
@@ -29,7 +30,7 @@ use Rattle.confluence.specs.Conclusions.{AreAllDone, RulesAreInside, ZeroIsInsid
 use Rattle.confluence.proofs.RowSums.{length-polynomials}
 
 -- strong induction
-strong : (P : ℕ → Type 0) → ((n : ℕ) → ((m : ℕ) → m < n → P m) → P n) → (n : ℕ) → P n
+pub strong : (P : ℕ → Type 0) → ((n : ℕ) → ((m : ℕ) → m < n → P m) → P n) → (n : ℕ) → P n
 strong P step n = step n (below n)
   where
     below : (n m : ℕ) → m < n → P m
@@ -37,9 +38,7 @@ strong P step n = step n (below n)
     below (suc n) m less = step m (λ k lower. below n k (omega arith))
 
 slice_some : (made : List Made) (n : ℕ) → n < length made → (m : Made) × (slice_get made n ≡ Some m)
-slice_some [] n inside = absurd (omega arith)
-slice_some (m ∷ made) zero inside = (m, refl)
-slice_some (m ∷ made) (suc n) inside = slice_some made n (omega arith)
+slice_some made n inside = elim (slice_get_cases made n).1 [ inl (m, within, is, _) ↦ (m, is) | inr past ↦ absurd (omega (arith, inside, past.0)) ]
 
 module _ (generators : List (List Term)) where
   abbrev FromGenerators : List Term → Type 0
@@ -68,14 +67,12 @@ module _ (generators : List (List Term)) where
         step (suc place) before first last = of_record (slice_some made place (omega (arith, last, recorded.one_each)))
           where
             of_record : ((m : Made) × (slice_get made place ≡ Some m)) → FromGenerators (generator_at (polynomials_of rules) (suc place))
-            of_record (m, found) = go (positive_nat m.scale (recorded.each place m found).positive)
+            of_record (m, found) = let (k, above, scale) = positive_nat m.scale (recorded.each place m found).positive in
+                part (coefficient_of (generator_at (polynomials_of rules) (suc place))) (coefficient_of (traced_sum generators (polynomials_of rules) m.rows)) k above rows
+                (λ w. (recorded.traces.at place m found).at w ∙ coefficient_of-multiple m.scale (generator_at (polynomials_of rules) (suc place)) w ∙ ap (λ z. z *ℤ coefficient_of (generator_at (polynomials_of rules) (suc place)) w) scale)
               where
                 rows : FromGenerators (traced_sum generators (polynomials_of rules) m.rows)
                 rows = from_rows (polynomials_of rules) place (λ j above within. before j (omega (arith, within)) above (omega (arith, within, last))) m.rows (recorded.each place m found).earlier
-
-                go : ((k : ℕ) × (0 < k) × (m.scale ≡ pos k)) → FromGenerators (generator_at (polynomials_of rules) (suc place))
-                go (k, above, scale) = part (coefficient_of (generator_at (polynomials_of rules) (suc place))) (coefficient_of (traced_sum generators (polynomials_of rules) m.rows)) k above rows
-                    (λ w. (recorded.traces.at place m found).at w ∙ coefficient_of-multiple m.scale (generator_at (polynomials_of rules) (suc place)) w ∙ ap (λ z. z *ℤ coefficient_of (generator_at (polynomials_of rules) (suc place)) w) scale)
 
     pub rule_inside : (n : ℕ) (g : Rule) → rule_at rules n ≡ Some g → InRationalIdeal generators g.poly.terms
     rule_inside n g numbered = in_ideal generators g.poly.terms (subst FromGenerators (rule_at-polynomial rules n g numbered) (rule_from_generators n (rule_at-first rules n g numbered) (rule_at-last rules n g numbered)))

@@ -1,5 +1,5 @@
 -- Integers whose sign or product is known.
-use Rattle.std.proofs.Common.{◌≡◌, ◌≢◌, ◌⊎◌, inl, inr, ℕ, ◌<◌, refl, ap, sym, ◌∙◌, Bool, true, false, ℤ, pos, negsuc, ◌*ℤ◌, ◌<ℤ◌, neg_ℤ, zero, suc, arith}
+use Rattle.std.proofs.Common.{◌≡◌, ◌≢◌, ◌⊎◌, inl, inr, ℕ, ◌<◌, refl, ap, sym, ◌∙◌, true, false, ℤ, pos, negsuc, ◌+ℤ◌, ◌*ℤ◌, ◌<ℤ◌, neg_ℤ, zero, suc, arith}
 use Rattle.std.proofs.Math.IntN.{*ℤ_comm}
 use Rattle.std.proofs.lemmas.Bool.Decides.{Decides-int_eq}
 use Rattle.std.proofs.lemmas.Int.{ints}
@@ -17,9 +17,15 @@ pub positive_nat : (m : ℤ) → pos 0 <ℤ m → (n : ℕ) × (0 < n) × (m ≡
 positive_nat (pos n) h = (n, omega (arith, ints, h), refl)
 positive_nat (negsuc n) h = absurd (omega (arith, ints, h))
 
+-- the summands of a sum
+pub first_part : (x a t : ℤ) → x ≡ a +ℤ t → x +ℤ neg_ℤ t ≡ a
+first_part x a t e = omega (arith, ints, e)
+
+pub second_part : (x a t : ℤ) → x ≡ a +ℤ t → x +ℤ neg_ℤ a ≡ t
+second_part x a t e = omega (arith, ints, e)
+
 pub nonzero_or : (x : ℤ) → (x ≡ pos 0) ⊎ (x ≢ pos 0)
-nonzero_or x = go (int_eq x (pos 0)) refl
-  where
-    go : (b : Bool) → int_eq x (pos 0) ≡ b → (x ≡ pos 0) ⊎ (x ≢ pos 0)
-    go true e = inl ((Decides-int_eq x (pos 0)).0 e)
-    go false e = inr (λ z. (cc (sym ((Decides-int_eq x (pos 0)).1 z) ∙ e)))
+nonzero_or x = (elim (int_eq x (pos 0)) as (λ b. int_eq x (pos 0) ≡ b → (x ≡ pos 0) ⊎ (x ≢ pos 0)) [
+  | true ↦ λ e. inl ((Decides-int_eq x (pos 0)).0 e)
+  | false ↦ λ e. inr (λ z. (cc (sym ((Decides-int_eq x (pos 0)).1 z) ∙ e)))
+]) refl

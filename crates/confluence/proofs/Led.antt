@@ -1,9 +1,12 @@
 -- Rules as the proofs about an order take them, and sums of rows over them.
-use Rattle.std.specs.Prelude.{◌≡◌, ◌≢◌, ◌⊎◌, ◌<◌, ◌≤◌, ℕ, zero, suc, ℤ, pos, List, [], ◌++◌, map, length, get_or}
+use Rattle.std.proofs.Common.{◌≡◌, ◌≢◌, ◌⊎◌, inl, inr, ◌<◌, ℕ, zero, suc, ℤ, pos, List, [], ◌∷◌, ◌++◌, Option, Some, None, refl, ap}
+use Rattle.std.specs.Int.RustNames.{unsigned_abs}
 use Rattle.std.specs.List.{All}
 use Rattle.definitions.specs.Poly.{coefficient_of}
 use Rattle.definitions.specs.Combination.{Row, generator_at, IsCombination}
 use Rattle.word_orders.specs.Orders.{Order}
+use Rattle.rule_reduce.specs.declared.rule.Rule.{Rule}
+use Rattle.rule_reduce.specs.RuleLists.{rule_at, polynomials_of}
 
 -- a polynomial, with its leading word and the coefficient there
 pub record Led : Type 0 where
@@ -18,19 +21,38 @@ pub record IsLed (o : Order) (r : Led) : Type 0 where
   pub words : (w : List ℕ) → coefficient_of r.poly w ≢ pos 0 → (w ≡ r.lead) ⊎ o.Less w r.lead
   pub range : o.Range r.lead
 
+abbrev pub led_of : Rule → Led
+led_of g = record { leading = unsigned_abs g.leading; lead = g.lead; poly = g.poly.terms }
+
 abbrev pub no_led : Led
 no_led = record { leading = 0; lead = []; poly = [] }
 
--- the one with this number, counted from 1
-abbrev pub led_at : List Led → ℕ → Led
-led_at rules zero = no_led
-led_at rules (suc n) = get_or rules n no_led
+abbrev pub led_or : Option Rule → Led
+led_or None = no_led
+led_or (Some g) = led_of g
 
-abbrev pub HasLed : List Led → ℕ → Type 0
-HasLed rules n = (0 < n) × (n ≤ length rules)
+-- the rule with this number
+abbrev pub led_at : List Rule → ℕ → Led
+led_at rules n = led_or (rule_at rules n)
 
-abbrev pub polys_of : List Led → List (List (ℤ × List ℕ))
-polys_of rules = map (λ r. r.poly) rules
+abbrev pub HasLed : List Rule → ℕ → Type 0
+HasLed rules n = (g : Rule) × (rule_at rules n ≡ Some g)
+
+pub led_at-is : (rules : List Rule) (n : ℕ) (g : Rule) → rule_at rules n ≡ Some g → led_at rules n ≡ led_of g
+led_at-is rules n g is = ap led_or is
+
+pub has_decided : (rules : List Rule) (n : ℕ) → HasLed rules n ⊎ (led_at rules n ≡ no_led)
+has_decided rules n = (elim (rule_at rules n) as (λ o. rule_at rules n ≡ o → HasLed rules n ⊎ (led_at rules n ≡ no_led)) [
+  | None ↦ λ e. inr (ap led_or e)
+  | Some g ↦ λ e. inl (g, e)
+]) refl
+
+pub poly_at : (rules : List Rule) (n : ℕ) → generator_at (polynomials_of rules) n ≡ (led_at rules n).poly
+poly_at rules zero = refl
+poly_at [] (suc zero) = refl
+poly_at [] (suc (suc n)) = refl
+poly_at (g ∷ rules) (suc zero) = refl
+poly_at (g ∷ rules) (suc (suc n)) = poly_at rules (suc n)
 
 -- the word is at most a word of the polynomial
 pub record IsAtMostOf (o : Order) (p : List (ℤ × List ℕ)) (w : List ℕ) : Type 0 where

@@ -8,10 +8,6 @@ pub mod Meets
 pub mod Closed
 pub mod Outside
 pub mod Led
-pub mod LedLists
-pub mod Meetings
-pub mod Parts
-pub mod RuleRows
 pub mod SumRows
 pub mod Resolve
 pub mod FreeRows
@@ -20,28 +16,22 @@ pub mod Tests
 pub mod LedRules
 pub mod Factors
 pub mod MeetingsOf
-pub mod ResolvedOf
+pub mod BelowSpans
 pub mod ReducibleLaws
-pub mod TracedRows
 pub mod ReducedSpans
 pub mod RestLaws
 pub mod Ideals
-pub mod ZeroRestLaws
 pub mod PlaceLaws
 pub mod WrittenTerms
 mod Examples
 pub mod MoreRules
-pub mod MadeSpans
 pub mod MoreAmbiguities
 pub mod RowSums
-pub mod Appending
 pub mod Steps
-pub mod Treating
 pub mod Inside
 pub mod OutsideIdeals
 pub mod TypedLaws
 pub mod ShapeLaws
 pub mod MakingLaws
-pub mod Ends
 pub mod Contents
 mod CompletionExample

@@ -1,118 +1,153 @@
--- Ambiguities of rules with the words of their places.
-use Rattle.std.proofs.Common.{◌≡◌, ◌*◌, ℕ, pos, neg_ℤ, ◌<ℤ◌, List, [], ◌++◌, take, Some, refl, sym, ap, ap₂, ◌∙◌, subst, append_assoc, append-nil}
+-- Ambiguities of rules with the words around their leading words, and the two rows of their S-polynomials.
+use Rattle.std.proofs.Common.{◌≡◌, ◌≢◌, ℕ, pos, ◌+ℤ◌, ◌*ℤ◌, ◌<ℤ◌, List, [], ◌∷◌, ◌++◌, length, take, Some, refl, sym, ap, ap₂, ◌∙◌, subst, append_assoc, append-nil}
 use Rattle.std.specs.List.{All}
-use Rattle.std.specs.Int.RustNames.{unsigned_abs}
+use Rattle.std.proofs.Math.IntN.{+ℤ_idr}
 use Rattle.std.proofs.lemmas.List.{take_at, append_cancel_left}
-use Rattle.definitions.specs.Poly.{Word, coefficient_of, poly_sum, poly_multiple, poly_between}
+use Rattle.definitions.specs.Poly.{Word, Term, coefficient_of, poly_between}
 use Rattle.definitions.specs.Combination.{generator_at}
-use Rattle.word_orders.specs.Admissible.{Compare}
+use Rattle.word_core.specs.Letters.{IsOver}
+use Rattle.word_orders.specs.Admissible.{Compare, IsAdmissible}
+use Rattle.word_orders.specs.Orders.{IsBelow}
 use Rattle.rule_reduce.specs.declared.rule.Rule.{Rule}
 use Rattle.rule_reduce.specs.RuleLists.{IsRule, rule_at, polynomials_of}
 use Rattle.rule_reduce.proofs.Numbers.{rule_at-all, rule_at-polynomial}
-use Rattle.ambiguities.specs.declared.ambiguity.Kind.{Kind}
 use Rattle.ambiguities.specs.declared.ambiguity.Kind.TheVariants.{Overlap, Inclusion}
 use Rattle.ambiguities.specs.declared.ambiguity.Ambiguity.{Ambiguity}
-use Rattle.ambiguities.specs.Ambiguities.{MeetsAs, IsAmbiguity, joined_word, overlap_word_of}
+use Rattle.ambiguities.specs.Ambiguities.{IsAmbiguity, overlap_word_of}
 use Rattle.ambiguities.specs.SPolynomials.{leading_at, first_row, second_row}
 use Rattle.ambiguities.specs.Resolved.{s_sum}
+use Rattle.ambiguities.proofs.Bounds.{over_overlap_word, multiple_at_most, coefficient_at_bound, cancelled}
+use Rattle.ambiguities.proofs.Cancelling.{factors_cancel}
 use Rattle.ambiguities.proofs.Joined.{overlap_word-is, first_splits, second_splits, leading_at-is}
-use Rattle.confluence.proofs.Led.{led_at}
-use Rattle.confluence.proofs.Meetings.{IsMeeting, overlap, inclusion, IsDifference}
-use Rattle.confluence.proofs.LedRules.{leds_of, led_at-is, has_led, rule_of_number}
 use Rattle.confluence.proofs.Factors.{Factors, factors}
+use Rattle.confluence.proofs.Places.{SomeLetters, some_length}
+use Rattle.confluence.proofs.RowSums.{traced-cons}
 
+-- an ambiguity, its overlap word, what follows the first leading word there, and the letters before and after the second
+pub record IsMeeting (rules : List Rule) (a : Ambiguity) (word after before behind : Word) : Type 0 where
+  pub ambiguity : IsAmbiguity rules a
+  pub word_is : overlap_word_of rules a ≡ word
+  pub after_is : (first_row rules a).right ≡ after
+  pub before_is : (second_row rules a).left ≡ before
+  pub behind_is : (second_row rules a).right ≡ behind
+
+module _ (rules : List Rule) where
+  meeting : (a : Ambiguity) (is : IsAmbiguity rules a) (word after before behind : Word)
+      → overlap_word_of rules a ≡ word → word ≡ is.first.lead ++ after
+      → word ≡ before ++ (is.second.lead ++ behind) → length before ≡ a.place → IsMeeting rules a word after before behind
+  meeting a is word after before behind same first second place =
+      let front : (second_row rules a).left ≡ before = ap (take a.place) (same ∙ second)
+      ∙ take_at before (is.second.lead ++ behind) a.place place in
+      record {
+        ambiguity = is;
+        word_is = same;
+        after_is = append_cancel_left is.first.lead (first_row rules a).right after (sym (first_splits rules a is) ∙ same ∙ first);
+        before_is = front;
+        behind_is = append_cancel_left is.second.lead (second_row rules a).right behind (append_cancel_left before _ _
+            (ap (λ w. w ++ (is.second.lead ++ (second_row rules a).right)) (sym front) ∙ sym (second_splits rules a is) ∙ same ∙ second));
+      }
+
+  module _ (i j : ℕ) (g h : Rule) (g_numbered : rule_at rules i ≡ Some g) (h_numbered : rule_at rules j ≡ Some h) where
+    pub overlap_meeting : (s o t : Word) → SomeLetters s → SomeLetters o → SomeLetters t → g.lead ≡ s ++ o → h.lead ≡ o ++ t
+        → IsMeeting rules (record { i = i; j = j; kind = Overlap; place = length s }) (s ++ h.lead) t s []
+    overlap_meeting s o t some_s some_o some_t left right = meeting a is (s ++ h.lead) t s []
+        (overlap_word-is rules a is ∙ ap (λ w. take (length s) w ++ h.lead) left ∙ ap (λ w. w ++ h.lead) (take_at s o (length s) refl))
+        (ap (λ w. s ++ w) right ∙ sym (append_assoc s o t) ∙ ap (λ w. w ++ t) (sym left)) (ap (λ w. s ++ w) (sym (append-nil h.lead))) refl
+      where
+        a : Ambiguity
+        a = record { i = i; j = j; kind = Overlap; place = length s }
+
+        is : IsAmbiguity rules a
+        is = record {
+          first = g;
+          second = h;
+          first_numbered = g_numbered;
+          second_numbered = h_numbered;
+          meets = record {
+            before = s;
+            shared = o;
+            after = t;
+            left_splits = left;
+            right_splits = right;
+            at_place = refl;
+            before_letters = some_length s some_s;
+            shared_letters = some_length o some_o;
+            after_letters = some_length t some_t;
+          };
+        }
+
+    pub inclusion_meeting : (s t : Word) → i ≢ j → g.lead ≡ s ++ (h.lead ++ t)
+        → IsMeeting rules (record { i = i; j = j; kind = Inclusion; place = length s }) g.lead [] s t
+    inclusion_meeting s t differ splits = meeting a is g.lead [] s t (overlap_word-is rules a is) (sym (append-nil g.lead)) splits refl
+      where
+        a : Ambiguity
+        a = record { i = i; j = j; kind = Inclusion; place = length s }
+
+        is : IsAmbiguity rules a
+        is = record {
+          first = g;
+          second = h;
+          first_numbered = g_numbered;
+          second_numbered = h_numbered;
+          meets = (differ, record { before = s; after = t; splits = splits; at_place = refl });
+        }
+
+-- the S-polynomial
 module _ (rules : List Rule) (a : Ambiguity) (is : IsAmbiguity rules a) where
-  first_lead : (led_at (leds_of rules) a.i).lead ≡ is.first.lead
-  first_lead = ap (λ r. r.lead) (led_at-is rules a.i is.first is.first_numbered)
+  abbrev first_poly : List Term
+  first_poly = poly_between (first_row rules a).left is.first.poly.terms (first_row rules a).right
 
-  second_lead : (led_at (leds_of rules) a.j).lead ≡ is.second.lead
-  second_lead = ap (λ r. r.lead) (led_at-is rules a.j is.second is.second_numbered)
+  abbrev second_poly : List Term
+  second_poly = poly_between (second_row rules a).left is.second.poly.terms (second_row rules a).right
 
-  -- the ambiguity in its word, after the first leading word, and around the second
-  pub meeting_of : IsMeeting (leds_of rules) a (overlap_word_of rules a) (first_row rules a).right (second_row rules a).left (second_row rules a).right
-  meeting_of = by_kind a.kind refl is.meets
-    where
-      by_kind : (k : Kind) → a.kind ≡ k → MeetsAs k a.i a.j is.first.lead is.second.lead a.place → IsMeeting (leds_of rules) a (overlap_word_of rules a) (first_row rules a).right (second_row rules a).left (second_row rules a).right
-      by_kind Overlap kind at =
-          let word : overlap_word_of rules a ≡ at.before ++ is.second.lead = overlap_word-is rules a is ∙ ap (λ k. joined_word k is.first.lead is.second.lead a.place) kind ∙ ap (λ w. take a.place w ++ is.second.lead) at.left_splits ∙ ap (λ w. w ++ is.second.lead) (take_at at.before at.shared a.place at.at_place) in
-          let front : (second_row rules a).left ≡ at.before = ap (take a.place) word ∙ take_at at.before is.second.lead a.place at.at_place in
-          let after : (first_row rules a).right ≡ at.after = append_cancel_left is.first.lead (first_row rules a).right at.after (sym (first_splits rules a is) ∙ word ∙ ap (λ w. at.before ++ w) at.right_splits ∙ sym (append_assoc at.before at.shared at.after) ∙ ap (λ w. w ++ at.after) (sym at.left_splits)) in
-          let behind : (second_row rules a).right ≡ [] = append_cancel_left is.second.lead (second_row rules a).right [] (append_cancel_left at.before (is.second.lead ++ (second_row rules a).right) (is.second.lead ++ []) (ap (λ w. w ++ (is.second.lead ++ (second_row rules a).right)) (sym front) ∙ sym (second_splits rules a is) ∙ word ∙ ap (λ w. at.before ++ w) (sym (append-nil is.second.lead)))) in
-          overlap at.before at.shared at.after kind (has_led rules a.i is.first is.first_numbered) (has_led rules a.j is.second is.second_numbered) at.before_letters at.shared_letters at.after_letters
-          (first_lead ∙ at.left_splits) (second_lead ∙ at.right_splits) at.at_place (word ∙ ap (λ w. at.before ++ w) (sym second_lead)) after front behind
-      by_kind Inclusion kind (differ, at) =
-          let word : overlap_word_of rules a ≡ is.first.lead = overlap_word-is rules a is ∙ ap (λ k. joined_word k is.first.lead is.second.lead a.place) kind in
-          let front : (second_row rules a).left ≡ at.before = ap (take a.place) (word ∙ at.splits) ∙ take_at at.before (is.second.lead ++ at.after) a.place at.at_place in
-          let after : (first_row rules a).right ≡ [] = append_cancel_left is.first.lead (first_row rules a).right [] (sym (first_splits rules a is) ∙ word ∙ sym (append-nil is.first.lead)) in
-          let behind : (second_row rules a).right ≡ at.after = append_cancel_left is.second.lead (second_row rules a).right at.after (append_cancel_left at.before (is.second.lead ++ (second_row rules a).right) (is.second.lead ++ at.after) (ap (λ w. w ++ (is.second.lead ++ (second_row rules a).right)) (sym front) ∙ sym (second_splits rules a is) ∙ word ∙ at.splits)) in
-          inclusion at.before at.after kind (has_led rules a.i is.first is.first_numbered) (has_led rules a.j is.second is.second_numbered) differ
-          (first_lead ∙ at.splits ∙ ap (λ w. at.before ++ (w ++ at.after)) (sym second_lead)) at.at_place (word ∙ sym first_lead) after front behind
+  pub coefficient_of-s_sum : (w : Word) → coefficient_of (s_sum rules a) w
+      ≡ (first_row rules a).coef *ℤ coefficient_of first_poly w +ℤ (second_row rules a).coef *ℤ coefficient_of second_poly w
+  coefficient_of-s_sum w =
+      let one = first_row rules a in
+      let two = second_row rules a in
+      traced-cons [] (polynomials_of rules) one (two ∷ []) w
+      ∙ ap₂ (λ p rest. one.coef *ℤ coefficient_of (poly_between one.left p one.right) w +ℤ rest)
+      (rule_at-polynomial rules a.i is.first is.first_numbered)
+      (traced-cons [] (polynomials_of rules) two [] w
+      ∙ +ℤ_idr (two.coef *ℤ coefficient_of (poly_between two.left (generator_at (polynomials_of rules) a.j) two.right) w)
+      ∙ ap (λ p. two.coef *ℤ coefficient_of (poly_between two.left p two.right) w)
+      (rule_at-polynomial rules a.j is.second is.second_numbered))
 
   module _ (letters : ℕ) (compare : Compare) (are : All (IsRule letters compare) rules) where
+    first_is : IsRule letters compare is.first
+    first_is = rule_at-all (IsRule letters compare) rules a.i is.first is.first_numbered are
+
+    second_is : IsRule letters compare is.second
+    second_is = rule_at-all (IsRule letters compare) rules a.j is.second is.second_numbered are
+
+    first_positive : pos 0 <ℤ leading_at rules a.i
+    first_positive = subst (λ k. pos 0 <ℤ k) (sym (leading_at-is rules a.i is.first is.first_numbered)) first_is.positive
+
+    second_positive : pos 0 <ℤ leading_at rules a.j
+    second_positive = subst (λ k. pos 0 <ℤ k) (sym (leading_at-is rules a.j is.second is.second_numbered)) second_is.positive
+
     pub factors_of : Factors (leading_at rules a.i) (leading_at rules a.j)
-    factors_of = factors (leading_at rules a.i) (leading_at rules a.j)
-        (subst (λ k. pos 0 <ℤ k) (sym (leading_at-is rules a.i is.first is.first_numbered)) (rule_at-all (IsRule letters compare) rules a.i is.first is.first_numbered are).positive)
-        (subst (λ k. pos 0 <ℤ k) (sym (leading_at-is rules a.j is.second is.second_numbered)) (rule_at-all (IsRule letters compare) rules a.j is.second is.second_numbered are).positive)
+    factors_of = factors (leading_at rules a.i) (leading_at rules a.j) first_positive second_positive
 
-    -- the rows of its S-polynomial
-    pub difference_of : IsDifference (leds_of rules) a (first_row rules a).right (second_row rules a).left (second_row rules a).right factors_of.one factors_of.other (s_sum rules a)
-    difference_of = record {
-      one_positive = factors_of.one_positive;
-      other_positive = factors_of.other_positive;
-      balanced = ap (λ n. factors_of.one * n) (leading_same a.i is.first is.first_numbered) ∙ factors_of.balanced ∙ ap (λ n. factors_of.other * n) (sym (leading_same a.j is.second is.second_numbered));
-      is = record { at = λ w. ap (λ p. coefficient_of p w) same };
-    }
+    -- its words are below the overlap word
+    pub s_words_below : (rank : List ℕ → List ℕ) → IsAdmissible letters compare rank → (w : Word) → coefficient_of (s_sum rules a) w ≢ pos 0
+        → IsBelow letters compare w (overlap_word_of rules a)
+    s_words_below rank laws =
+        cancelled (first_row rules a).coef (second_row rules a).coef first_poly second_poly (s_sum rules a) coefficient_of-s_sum
+        (λ w. IsBelow letters compare w bound) bound
+        (ap₂ (λ x y. (first_row rules a).coef *ℤ x +ℤ (second_row rules a).coef *ℤ y)
+        (coefficient_at_bound letters compare rank laws bound over is.first first_is (first_row rules a).left
+        (first_row rules a).right (first_splits rules a is) ∙ sym (leading_at-is rules a.i is.first is.first_numbered))
+        (coefficient_at_bound letters compare rank laws bound over is.second second_is (second_row rules a).left
+        (second_row rules a).right (second_splits rules a is) ∙ sym (leading_at-is rules a.j is.second is.second_numbered))
+        ∙ factors_cancel (leading_at rules a.i) (leading_at rules a.j) first_positive second_positive)
+        (multiple_at_most letters compare rank laws bound over is.first first_is
+        (first_row rules a).left (first_row rules a).right (first_splits rules a is))
+        (multiple_at_most letters compare rank laws bound over is.second second_is
+        (second_row rules a).left (second_row rules a).right (second_splits rules a is))
       where
-        leading_same : (n : ℕ) (g : Rule) → rule_at rules n ≡ Some g → (led_at (leds_of rules) n).leading ≡ unsigned_abs (leading_at rules n)
-        leading_same n g numbered = ap (λ r. r.leading) (led_at-is rules n g numbered) ∙ ap unsigned_abs (sym (leading_at-is rules n g numbered))
+        bound : Word
+        bound = overlap_word_of rules a
 
-        poly_same : (n : ℕ) (g : Rule) → rule_at rules n ≡ Some g → generator_at (polynomials_of rules) n ≡ (led_at (leds_of rules) n).poly
-        poly_same n g numbered = rule_at-polynomial rules n g numbered ∙ ap (λ r. r.poly) (sym (led_at-is rules n g numbered))
-
-        same : s_sum rules a ≡ poly_sum (poly_multiple (pos factors_of.one) (poly_between [] (led_at (leds_of rules) a.i).poly (first_row rules a).right)) (poly_multiple (neg_ℤ (pos factors_of.other)) (poly_between (second_row rules a).left (led_at (leds_of rules) a.j).poly (second_row rules a).right))
-        same =
-            ap₂ (λ x y. x ++ (y ++ []))
-            (ap₂ (λ c p. poly_multiple c (poly_between [] p (first_row rules a).right)) factors_of.one_is (poly_same a.i is.first is.first_numbered))
-            (ap₂ (λ c p. poly_multiple (neg_ℤ c) (poly_between (second_row rules a).left p (second_row rules a).right)) factors_of.other_is (poly_same a.j is.second is.second_numbered))
-            ∙ ap (λ q. poly_multiple (pos factors_of.one) (poly_between [] (led_at (leds_of rules) a.i).poly (first_row rules a).right) ++ q) (append-nil (poly_multiple (neg_ℤ (pos factors_of.other)) (poly_between (second_row rules a).left (led_at (leds_of rules) a.j).poly (second_row rules a).right)))
-
--- and back
-pub ambiguity_of : (rules : List Rule) (a : Ambiguity) (word after before behind : Word) → IsMeeting (leds_of rules) a word after before behind → IsAmbiguity rules a
-ambiguity_of rules a word after before behind (overlap s o t kind h1 h2 ns nu nt e1 e2 at ew ea eb ec) = go (rule_of_number rules a.i h1) (rule_of_number rules a.j h2)
-  where
-    go : ((g : Rule) × (rule_at rules a.i ≡ Some g)) → ((h : Rule) × (rule_at rules a.j ≡ Some h)) → IsAmbiguity rules a
-    go (g, g_numbered) (h, h_numbered) = record {
-      first = g;
-      second = h;
-      first_numbered = g_numbered;
-      second_numbered = h_numbered;
-      meets = subst (λ k. MeetsAs k a.i a.j g.lead h.lead a.place) (sym kind) (record {
-        before = s;
-        shared = o;
-        after = t;
-        left_splits = ap (λ r. r.lead) (sym (led_at-is rules a.i g g_numbered)) ∙ e1;
-        right_splits = ap (λ r. r.lead) (sym (led_at-is rules a.j h h_numbered)) ∙ e2;
-        at_place = at;
-        before_letters = ns;
-        shared_letters = nu;
-        after_letters = nt;
-      });
-    }
-ambiguity_of rules a word after before behind (inclusion s t kind h1 h2 differ e at ew ea eb ec) = go (rule_of_number rules a.i h1) (rule_of_number rules a.j h2)
-  where
-    go : ((g : Rule) × (rule_at rules a.i ≡ Some g)) → ((h : Rule) × (rule_at rules a.j ≡ Some h)) → IsAmbiguity rules a
-    go (g, g_numbered) (h, h_numbered) = record {
-      first = g;
-      second = h;
-      first_numbered = g_numbered;
-      second_numbered = h_numbered;
-      meets = subst (λ k. MeetsAs k a.i a.j g.lead h.lead a.place) (sym kind) (
-        differ,
-        record {
-          before = s;
-          after = t;
-          splits = ap (λ r. r.lead) (sym (led_at-is rules a.i g g_numbered)) ∙ e ∙ ap (λ r. s ++ (r.lead ++ t)) (led_at-is rules a.j h h_numbered);
-          at_place = at;
-        },
-      );
-    }
+        over : IsOver letters (overlap_word_of rules a)
+        over = over_overlap_word letters compare rules a are is

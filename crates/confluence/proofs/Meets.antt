@@ -10,7 +10,8 @@ use Rattle.definitions.specs.Poly.{Word, Term, word_eq, coefficient_of, poly_bet
 use Rattle.confluence.proofs.TermWords.{map_words, AllWords, all_words_map}
 use Rattle.definitions.proofs.Linear.{word_eq-true, word_eq-same}
 use Rattle.confluence.proofs.Spans.{Coefs, Span, nothing, more, span_same, span_scale, span_add, mul_swap}
-use Rattle.confluence.proofs.Shifts.{shift, shift-same, shift-sum, shift-scale, span_shift, coefficient_of-between, between-between}
+use Rattle.traced_rows.proofs.Between.{between-between}
+use Rattle.confluence.proofs.Shifts.{shift, shift_linear, linear-scale, span_shift, coefficient_of-between}
 use Rattle.confluence.proofs.Places.{SomeLetters, Placed, apart, overlap, inside, outside}
 
 -- the sum of what stands for each term's word, each times the term's coefficient_of
@@ -28,8 +29,7 @@ total-sum (t ∷ p) c F G w = ap (λ z. t.0 *ℤ (c *ℤ F t.1 w +ℤ G t.1 w) +
     ∙ (simp *ℤ-+ℤ (let e : t.0 *ℤ (c *ℤ (F t.1 w)) ≡ c *ℤ (t.0 *ℤ (F t.1 w)) = mul_swap t.0 c (F t.1 w) in omega (arith, ints, e)))
 
 total-zero : (p : List Term) (w : Word) → total p (λ u v. pos 0) w ≡ pos 0
-total-zero [] w = refl
-total-zero (t ∷ p) w = ap (λ z. t.0 *ℤ pos 0 +ℤ z) (total-zero p w) ∙ ap (λ z. z +ℤ pos 0) (*ℤ-zero t.0)
+total-zero p w = let e = total-sum p (negsuc 0) (λ u v. pos 0) (λ u v. pos 0) w in omega (arith, ints, e)
 
 total-same : (p : List Term) (F G : Word → Coefs) (w : Word) → ((u : Word) → F u w ≡ G u w) → total p F w ≡ total p G w
 total-same [] F G w e = refl
@@ -78,12 +78,15 @@ pub record Allowed (o : Order) : Type 1 where
   pub May : Word → Type 0
   pub closed : (u v : Word) → o.Less u v → May v → May u
 
+-- what is between two words may be a top where the whole may
+pub may_factor : (o : Order) (q : Allowed o) (x O y : Word) → o.Range (x ++ (O ++ y)) → q.May (x ++ (O ++ y)) → q.May O
+may_factor o q x O y rm am = elim (o.factor_le x O y rm) [ inl e ↦ subst q.May (sym e) am | inr h ↦ q.closed O _ h am ]
+
 less_apart : (o : Order) (u w : Word) → o.Less u w → word_eq u w ≡ false
-less_apart o u w h = by_test (word_eq u w) refl
-  where
-    by_test : (b : Bool) → word_eq u w ≡ b → word_eq u w ≡ false
-    by_test true e = absurd (o.irreflexive w (subst (λ z. o.Less z w) (word_eq-true u w e) h))
-    by_test false e = e
+less_apart o u w h = (elim (word_eq u w) as (λ b. word_eq u w ≡ b → word_eq u w ≡ false) [
+  | true ↦ λ e. absurd (o.irreflexive w (subst (λ z. o.Less z w) (word_eq-true u w e) h))
+  | false ↦ λ e. e
+]) refl
 
 coefficient_apart : (p : List Term) (w : Word) → AllWords (λ u. word_eq u w ≡ false) p → coefficient_of p w ≡ pos 0
 coefficient_apart [] w e = refl
@@ -133,7 +136,7 @@ module _ (o : Order) (g : Rules o) (q : Allowed o) where
     top = ap (λ z. x ++ (z ++ y)) t.top ∙ ap (λ z. x ++ z) (append_assoc t.left ((g.rule t.number).lead ++ t.right) y ∙ ap (λ z. t.left ++ z) (append_assoc (g.rule t.number).lead t.right y)) ∙ sym (append_assoc x t.left ((g.rule t.number).lead ++ (t.right ++ y)));
     range = m;
     may = a;
-    is = λ w. shift-same x y b (coefficient_of (poly_between t.left (poly (g.rule t.number)) t.right)) t.is w ∙ sym (coefficient_of-between x y (poly_between t.left (poly (g.rule t.number)) t.right) w) ∙ ap (λ p. coefficient_of p w) (between-between x t.left t.right y (poly (g.rule t.number)));
+    is = λ w. (shift_linear x y).same b (coefficient_of (poly_between t.left (poly (g.rule t.number)) t.right)) t.is w ∙ sym (coefficient_of-between x y (poly_between t.left (poly (g.rule t.number)) t.right) w) ∙ ap (λ p. coefficient_of p w) (between-between x t.left t.right y (poly (g.rule t.number)));
   }
 
   -- two rows whose difference, with positive multipliers, is a span of rows below O
@@ -203,6 +206,9 @@ module _ (o : Order) (g : Rules o) (q : Allowed o) where
     difference = apart_span i j x m y M hi hj e rm am;
   }
 
+  pub meets_at : (M N l1 k1 r1 s1 l2 k2 r2 s2 : Word) (i j : ℕ) → N ≡ M → k1 ≡ l1 → s1 ≡ r1 → k2 ≡ l2 → s2 ≡ r2 → Meets N k1 i s1 k2 j s2 → Meets M l1 i r1 l2 j r2
+  meets_at M N l1 k1 r1 s1 l2 k2 r2 s2 i j a b c d e m = subst (λ z. Meets z l1 i r1 l2 j r2) a (subst (λ z. Meets N z i r1 l2 j r2) b (subst (λ z. Meets N k1 i z l2 j r2) c (subst (λ z. Meets N k1 i s1 z j r2) d (subst (λ z. Meets N k1 i s1 k2 j z) e m))))
+
   meets_shift : (x y O l1 : Word) (i : ℕ) (r1 l2 : Word) (j : ℕ) (r2 : Word) → o.Range (x ++ (O ++ y)) → q.May (x ++ (O ++ y)) → Meets O l1 i r1 l2 j r2 → Meets (x ++ (O ++ y)) (x ++ l1) i (r1 ++ y) (x ++ l2) j (r2 ++ y)
   meets_shift x y O l1 i r1 l2 j r2 rm am m = record {
     one = m.one;
@@ -228,7 +234,7 @@ module _ (o : Order) (g : Rules o) (q : Allowed o) where
       moved l k r w = ap (λ z. coefficient_of z w) (sym (between-between x l r y (poly (g.rule k)))) ∙ coefficient_of-between x y (poly_between l (poly (g.rule k)) r) w
 
       same : (w : Word) → pos m.one *ℤ coefficient_of (poly_between (x ++ l1) (poly (g.rule i)) (r1 ++ y)) w +ℤ neg_ℤ (pos m.other *ℤ coefficient_of (poly_between (x ++ l2) (poly (g.rule j)) (r2 ++ y)) w) ≡ shift x y (λ v. pos m.one *ℤ f1 v +ℤ neg_ℤ (pos m.other *ℤ f2 v)) w
-      same w = ap (λ z. pos m.one *ℤ z +ℤ neg_ℤ (pos m.other *ℤ coefficient_of (poly_between (x ++ l2) (poly (g.rule j)) (r2 ++ y)) w)) (moved l1 i r1 w) ∙ ap (λ z. pos m.one *ℤ shift x y f1 w +ℤ neg_ℤ (pos m.other *ℤ z)) (moved l2 j r2 w) ∙ sym (shift-same x y _ (λ v. pos m.one *ℤ f1 v +ℤ neg_ℤ (pos m.other) *ℤ f2 v) (λ v. ap (λ z. pos m.one *ℤ f1 v +ℤ z) (sym (neg_ℤ-*ℤ (pos m.other) (f2 v)))) w ∙ shift-sum x y (pos m.one) f1 (λ v. neg_ℤ (pos m.other) *ℤ f2 v) w ∙ ap (λ z. pos m.one *ℤ shift x y f1 w +ℤ z) (shift-scale x y (neg_ℤ (pos m.other)) f2 w ∙ neg_ℤ-*ℤ (pos m.other) (shift x y f2 w)))
+      same w = ap (λ z. pos m.one *ℤ z +ℤ neg_ℤ (pos m.other *ℤ coefficient_of (poly_between (x ++ l2) (poly (g.rule j)) (r2 ++ y)) w)) (moved l1 i r1 w) ∙ ap (λ z. pos m.one *ℤ shift x y f1 w +ℤ neg_ℤ (pos m.other *ℤ z)) (moved l2 j r2 w) ∙ sym ((shift_linear x y).same _ (λ v. pos m.one *ℤ f1 v +ℤ neg_ℤ (pos m.other) *ℤ f2 v) (λ v. ap (λ z. pos m.one *ℤ f1 v +ℤ z) (sym (neg_ℤ-*ℤ (pos m.other) (f2 v)))) w ∙ (shift_linear x y).sum (pos m.one) f1 (λ v. neg_ℤ (pos m.other) *ℤ f2 v) w ∙ ap (λ z. pos m.one *ℤ shift x y f1 w +ℤ z) (linear-scale (shift x y) (shift_linear x y) (neg_ℤ (pos m.other)) f2 w ∙ neg_ℤ-*ℤ (pos m.other) (shift x y f2 w)))
 
   -- each overlap and each inclusion whose overlap word may be a top comes from lower rows
   pub record Resolved : Type 0 where
@@ -236,43 +242,25 @@ module _ (o : Order) (g : Rules o) (q : Allowed o) where
     pub inclusions : (i j : ℕ) (s t : Word) → g.Has i → g.Has j → i ≢ j → (g.rule i).lead ≡ s ++ ((g.rule j).lead ++ t) → o.Range (g.rule i).lead → q.May (g.rule i).lead → Meets (g.rule i).lead [] i [] s j t
 
   module _ (res : Resolved) where
-    may_factor : (x O y : Word) → o.Range (x ++ (O ++ y)) → q.May (x ++ (O ++ y)) → q.May O
-    may_factor x O y rm am = by_le (o.factor_le x O y rm)
-      where
-        by_le : (O ≡ x ++ (O ++ y)) ⊎ o.Less O (x ++ (O ++ y)) → q.May O
-        by_le (inl e) = subst q.May (sym e) am
-        by_le (inr h) = q.closed O _ h am
-
-    meets_at : (M N l1 k1 r1 s1 l2 k2 r2 s2 : Word) (i j : ℕ) → N ≡ M → k1 ≡ l1 → s1 ≡ r1 → k2 ≡ l2 → s2 ≡ r2 → Meets N k1 i s1 k2 j s2 → Meets M l1 i r1 l2 j r2
-    meets_at M N l1 k1 r1 s1 l2 k2 r2 s2 i j a b c d e m = subst (λ z. Meets z l1 i r1 l2 j r2) a (subst (λ z. Meets N z i r1 l2 j r2) b (subst (λ z. Meets N k1 i z l2 j r2) c (subst (λ z. Meets N k1 i s1 z j r2) d (subst (λ z. Meets N k1 i s1 k2 j z) e m))))
-
     pub meets : (M l1 : Word) (i : ℕ) (r1 l2 : Word) (j : ℕ) (r2 : Word) → g.Has i → g.Has j → o.Range M → q.May M → M ≡ l1 ++ ((g.rule i).lead ++ r1) → M ≡ l2 ++ ((g.rule j).lead ++ r2) → (i ≡ j → l1 ≢ l2) → Placed (g.rule i).lead (g.rule j).lead l1 r1 l2 r2 → Meets M l1 i r1 l2 j r2
     meets M l1 i r1 l2 j r2 hi hj rm am e1 e2 differ (apart m a b) = subst (λ z. Meets M l1 i z l2 j r2) (sym b) (subst (λ z. Meets M l1 i (m ++ ((g.rule j).lead ++ r2)) z j r2) (sym a) (meets_apart i j l1 m r2 M hi hj (e1 ∙ ap (λ z. l1 ++ ((g.rule i).lead ++ z)) b) rm am))
-    meets M l1 i r1 l2 j r2 hi hj rm am e1 e2 differ (overlap s u t ns nu nt pe qe a b) = meets_at M (l1 ++ ((s ++ (g.rule j).lead) ++ r2)) l1 (l1 ++ []) r1 (t ++ r2) l2 (l1 ++ s) r2 r2 i j (sym at) (append-nil l1) (sym b) (sym a) refl (meets_shift l1 r2 (s ++ (g.rule j).lead) [] i t s j [] (subst o.Range at rm) (subst q.May at am) (res.overlaps i j s u t hi hj ns nu nt pe qe (o.factor l1 (s ++ (g.rule j).lead) r2 (subst o.Range at rm)) (may_factor l1 (s ++ (g.rule j).lead) r2 (subst o.Range at rm) (subst q.May at am))))
+    meets M l1 i r1 l2 j r2 hi hj rm am e1 e2 differ (overlap s u t ns nu nt pe qe a b) = meets_at M (l1 ++ ((s ++ (g.rule j).lead) ++ r2)) l1 (l1 ++ []) r1 (t ++ r2) l2 (l1 ++ s) r2 r2 i j (sym at) (append-nil l1) (sym b) (sym a) refl (meets_shift l1 r2 (s ++ (g.rule j).lead) [] i t s j [] (subst o.Range at rm) (subst q.May at am) (res.overlaps i j s u t hi hj ns nu nt pe qe (o.factor l1 (s ++ (g.rule j).lead) r2 (subst o.Range at rm)) (may_factor o q l1 (s ++ (g.rule j).lead) r2 (subst o.Range at rm) (subst q.May at am))))
       where
         at : M ≡ l1 ++ ((s ++ (g.rule j).lead) ++ r2)
         at = e2 ∙ ap (λ z. z ++ ((g.rule j).lead ++ r2)) a ∙ append_assoc l1 s ((g.rule j).lead ++ r2) ∙ ap (λ z. l1 ++ z) (sym (append_assoc s (g.rule j).lead r2))
-    meets M l1 i r1 l2 j r2 hi hj rm am e1 e2 differ (inside s t pe a b) = by_number (g.same_number i j)
-      where
-        by_number : (i ≡ j) ⊎ (i ≢ j) → Meets M l1 i r1 l2 j r2
-        by_number (inl e) = absurd (differ e (sym (a ∙ ap (λ z. l1 ++ z)
-            (nil_from_length s (omega (
-              arith,
-              ap length (pe ∙ ap (λ z. s ++ ((g.rule z).lead ++ t)) (sym e)),
-              length-append s
-                  ((g.rule i).lead ++ t),
-              length-append (g.rule i).lead t,
-            ))) ∙ append-nil l1)))
-        by_number (inr n) = meets_at M (l1 ++ ((g.rule i).lead ++ r1)) l1 (l1 ++ []) r1 r1 l2 (l1 ++ s) r2 (t ++ r1) i j (sym e1) (append-nil l1) refl (sym a) (sym b) (meets_shift l1 r1 (g.rule i).lead [] i [] s j t (subst o.Range e1 rm) (subst q.May e1 am) (res.inclusions i j s t hi hj n pe (o.factor l1 (g.rule i).lead r1 (subst o.Range e1 rm)) (may_factor l1 (g.rule i).lead r1 (subst o.Range e1 rm) (subst q.May e1 am))))
-    meets M l1 i r1 l2 j r2 hi hj rm am e1 e2 differ (outside t nt qe a b) = by_number (g.same_number i j)
+    meets M l1 i r1 l2 j r2 hi hj rm am e1 e2 differ (inside s t pe a b) = elim (g.same_number i j) [
+      | inl e ↦ absurd (differ e (sym (a ∙ ap (λ z. l1 ++ z) (nil_from_length s (omega (arith, ap length (pe ∙ ap (λ z. s ++ ((g.rule z).lead ++ t)) (sym e)), length-append s ((g.rule i).lead ++ t), length-append (g.rule i).lead t))) ∙ append-nil l1)))
+      | inr n ↦ meets_at M (l1 ++ ((g.rule i).lead ++ r1)) l1 (l1 ++ []) r1 r1 l2 (l1 ++ s) r2 (t ++ r1) i j (sym e1) (append-nil l1) refl (sym a) (sym b) (meets_shift l1 r1 (g.rule i).lead [] i [] s j t (subst o.Range e1 rm) (subst q.May e1 am) (res.inclusions i j s t hi hj n pe (o.factor l1 (g.rule i).lead r1 (subst o.Range e1 rm)) (may_factor o q l1 (g.rule i).lead r1 (subst o.Range e1 rm) (subst q.May e1 am))))
+    ]
+    meets M l1 i r1 l2 j r2 hi hj rm am e1 e2 differ (outside t nt qe a b) = elim (g.same_number i j) [
+      | inl e ↦ absurd (longer_than_itself (g.rule i).lead t nt (ap (λ z. (g.rule z).lead) e ∙ qe))
+      | inr n ↦ meets_at M (l2 ++ ((g.rule j).lead ++ r2)) l1 (l2 ++ []) r1 (t ++ r2) l2 (l2 ++ []) r2 r2 i j (sym e2) (append-nil l2 ∙ a) (sym b) (append-nil l2) refl (meets_swap _ _ _ _ _ _ _ (meets_shift l2 r2 (g.rule j).lead [] j [] [] i t (subst o.Range e2 rm) (subst q.May e2 am) (res.inclusions j i [] t hj hi (λ k. n (sym k)) qe (o.factor l2 (g.rule j).lead r2 (subst o.Range e2 rm)) (may_factor o q l2 (g.rule j).lead r2 (subst o.Range e2 rm) (subst q.May e2 am)))))
+    ]
       where
         longer_than_itself : (p t : Word) → SomeLetters t → p ≡ p ++ t → ⊥
-        longer_than_itself p [] n e = no_letters n
-          where
-            no_letters : SomeLetters [] → ⊥
-            no_letters k = elim k [ ]
+        longer_than_itself p [] n e = let k = n in elim k [ ]
         longer_than_itself p (x ∷ t) n e = omega (arith, ap length e, length-append p (x ∷ t))
 
-        by_number : (i ≡ j) ⊎ (i ≢ j) → Meets M l1 i r1 l2 j r2
-        by_number (inl e) = absurd (longer_than_itself (g.rule i).lead t nt (ap (λ z. (g.rule z).lead) e ∙ qe))
-        by_number (inr n) = meets_at M (l2 ++ ((g.rule j).lead ++ r2)) l1 (l2 ++ []) r1 (t ++ r2) l2 (l2 ++ []) r2 r2 i j (sym e2) (append-nil l2 ∙ a) (sym b) (append-nil l2) refl (meets_swap _ _ _ _ _ _ _ (meets_shift l2 r2 (g.rule j).lead [] j [] [] i t (subst o.Range e2 rm) (subst q.May e2 am) (res.inclusions j i [] t hj hi (λ k. n (sym k)) qe (o.factor l2 (g.rule j).lead r2 (subst o.Range e2 rm)) (may_factor l2 (g.rule j).lead r2 (subst o.Range e2 rm) (subst q.May e2 am)))))
+-- another bound
+pub row_bound : (o : Order) (g : Rules o) (q p : Allowed o) (M : Word) (b : Coefs) → Row o g q M b → p.May M → Row o g p M b
+row_bound o g q p M b r m = record { number = r.number; has = r.has; left = r.left; right = r.right; top = r.top; range = r.range; may = m; is = r.is }

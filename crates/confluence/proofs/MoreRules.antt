@@ -1,7 +1,7 @@
--- What comes from rules comes from more rules.
-use Rattle.std.proofs.Common.{◌≡◌, ◌⊎◌, inl, inr, ℕ, zero, suc, ℤ, List, [], ◌∷◌, ◌++◌, slice_get, Some, sym, ap, ◌∙◌, subst, get_or}
+-- What comes from rules comes from more rules, and so does what was reduced, with a rule that is made of its rest.
+use Rattle.std.proofs.Common.{◌≡◌, ◌⊎◌, inl, inr, ℕ, zero, suc, ℤ, List, [], ◌∷◌, ◌++◌, slice_get, Some, sym, ap, ◌∙◌, get_or, ◌≢◌, pos, ◌*ℤ◌, refl, subst, append-nil}
 use Rattle.std.specs.List.{All}
-use Rattle.definitions.specs.Poly.{Word, Term, coefficient_of}
+use Rattle.definitions.specs.Poly.{Word, Term, coefficient_of, SamePolynomial, poly_multiple, poly_between}
 use Rattle.word_orders.specs.Admissible.{Compare, IsAdmissible}
 use Rattle.word_orders.specs.Orders.{Order, IsBelow}
 use Rattle.word_orders.proofs.Orders.{order_from_laws, over_range, less_below}
@@ -9,29 +9,45 @@ use Rattle.rule_reduce.specs.declared.rule.Rule.{Rule}
 use Rattle.rule_reduce.specs.RuleLists.{IsRule, rule_at, polynomials_of}
 use Rattle.rule_reduce.specs.KeptWords.{IsAtMostOf}
 use Rattle.ambiguities.specs.Resolved.{ComesBelow}
-use Rattle.confluence.specs.Reductions.{HasLettersBelow}
-use Rattle.confluence.proofs.Led.{Comes, led_at, HasLed, IsAtMostOf as IsAtMostIn}
-use Rattle.confluence.proofs.LedRules.{leds_of, led_at-is, has_led, rule_of_number, polys_of-leds, leds_are}
+use Rattle.confluence.specs.Reductions.{HasLettersBelow, IsReduced}
+use Rattle.confluence.proofs.Led.{Comes, IsAtMostOf as IsAtMostIn, led_at-is, led_at}
+use Rattle.confluence.proofs.LedRules.{leds_are, ordered, parted, Extends, any_more, at_most_bounded, Bounded, row_at, coefficient_of-bare, leading_nonzero, from_rest}
 use Rattle.confluence.proofs.Meets.{Allowed}
 use Rattle.confluence.proofs.Outside.{AnyRow, at_most_of}
-use Rattle.confluence.proofs.Parts.{parted, Extends, any_more}
 use Rattle.confluence.proofs.Resolve.{below, bounded_self, InRange}
-use Rattle.confluence.proofs.ReducedSpans.{at_most_in}
-use Rattle.confluence.proofs.ReducibleLaws.{ordered, below_span, below_from_span}
-use Rattle.confluence.proofs.RuleRows.{at_most_bounded}
-use Rattle.confluence.proofs.Spans.{Span}
+use Rattle.confluence.proofs.ReducedSpans.{at_most_in, reduced_part, reduced_span}
+use Rattle.confluence.proofs.BelowSpans.{below_span, below_from_span}
+use Rattle.confluence.proofs.Spans.{Span, nothing, more}
 use Rattle.confluence.proofs.SumRows.{comes_from_span, span_from_comes}
 use Rattle.confluence.specs.Kept.{IsReached}
+use Rattle.std.proofs.Math.IntN.{+ℤ_idr}
+use Rattle.definitions.proofs.Coefficients.{coefficient_of-multiple}
+use Rattle.nc_polynomial.proofs.Kept.{product_nonzero}
+use Rattle.rule_reduce.specs.declared.state.State.{State}
+use Rattle.confluence.proofs.Integers.{nonzero_or}
 
 -- by number
-slice_get-more : (rules more : List Rule) (n : ℕ) (g : Rule) → slice_get rules n ≡ Some g → slice_get (rules ++ more) n ≡ Some g
-slice_get-more [] more n g is = absurd (cc)
-slice_get-more (f ∷ rules) more zero g is = is
-slice_get-more (f ∷ rules) more (suc n) g is = slice_get-more rules more n g is
+slice_get-more : (rules later : List Rule) (n : ℕ) (g : Rule) → slice_get rules n ≡ Some g → slice_get (rules ++ later) n ≡ Some g
+slice_get-more [] later n g is = absurd (cc)
+slice_get-more (f ∷ rules) later zero g is = is
+slice_get-more (f ∷ rules) later (suc n) g is = slice_get-more rules later n g is
 
-pub rule_at-more : (rules more : List Rule) (n : ℕ) (g : Rule) → rule_at rules n ≡ Some g → rule_at (rules ++ more) n ≡ Some g
-rule_at-more rules more zero g is = absurd (cc)
-rule_at-more rules more (suc n) g is = slice_get-more rules more n g is
+pub rule_at-more : (rules later : List Rule) (n : ℕ) (g : Rule) → rule_at rules n ≡ Some g → rule_at (rules ++ later) n ≡ Some g
+rule_at-more rules later zero g is = absurd (cc)
+rule_at-more rules later (suc n) g is = slice_get-more rules later n g is
+
+-- a rule is what is left of the rest by some integer
+pub record IsAccounted (rules : List Rule) (rest : List Term) : Type 0 where
+  pub number : ℕ
+  pub rule : Rule
+  pub scale : ℤ
+  pub numbered : rule_at rules number ≡ Some rule
+  pub nonzero : scale ≢ pos 0
+  pub divided : SamePolynomial (poly_multiple scale rule.poly.terms) rest
+
+-- an integer that isn't zero can be cancelled
+pub cancel_nonzero : (c x : ℤ) → c ≢ pos 0 → c *ℤ x ≡ pos 0 → x ≡ pos 0
+cancel_nonzero c x some e = elim (nonzero_or x) [ inl none ↦ none | inr n ↦ absurd (product_nonzero c x some n e) ]
 
 module _ (letters : ℕ) (compare : Compare) (rank : List ℕ → List ℕ) (laws : IsAdmissible letters compare rank) where
   abbrev order : Order
@@ -60,15 +76,15 @@ module _ (letters : ℕ) (compare : Compare) (rank : List ℕ → List ℕ) (law
 
     pub reached_span : (p : List Term) → HasLettersBelow letters p → IsReached letters compare rules p → Span (AnyRow order (ordered letters compare rank laws rules are) (at_most_of order p)) (coefficient_of p)
     reached_span p over reached =
-        span_from_comes order (leds_of rules) (leds_are letters compare rank laws rules are) (at_most_of order p) (IsAtMostIn order p)
+        span_from_comes order rules (leds_are letters compare rank laws rules are) (at_most_of order p) (IsAtMostIn order p)
         (λ u most. at_most_bounded order (at_most_of order p) p (bounded_self order p (in_range p over)) u most) p
-        (subst (λ ps. Comes ps (IsAtMostIn order p) p) (sym (polys_of-leds rules)) (comes_reached p reached))
+        (comes_reached p reached)
 
     pub reached_from_span : (p : List Term) → Span (AnyRow order (ordered letters compare rank laws rules are) (at_most_of order p)) (coefficient_of p) → IsReached letters compare rules p
-    reached_from_span p sp = go (subst (λ ps. Comes ps (IsAtMostIn order p) p) (polys_of-leds rules) (comes_from_span order (leds_of rules) (leds_are letters compare rank laws rules are) (at_most_of order p) (IsAtMostIn order p) (λ u range most. most) p sp))
-      where
-        go : Comes (polynomials_of rules) (IsAtMostIn order p) p → IsReached letters compare rules p
-        go c = record {
+    reached_from_span p sp =
+        let c = comes_from_span order rules (leds_are letters compare rank laws rules are) (at_most_of order p) (IsAtMostIn order p)
+        (λ u range most. most) p sp in
+        record {
           denominator = c.multiplier;
           rows = c.rows;
           combination = c.combination;
@@ -76,21 +92,50 @@ module _ (letters : ℕ) (compare : Compare) (rank : List ℕ → List ℕ) (law
         }
 
   -- with more rules
-  module _ (rules more : List Rule) (are : All (IsRule letters compare) rules) (all_are : All (IsRule letters compare) (rules ++ more)) where
-    pub extends : Extends order (ordered letters compare rank laws rules are) (ordered letters compare rank laws (rules ++ more) all_are)
-    extends = record { has = λ n has. longer n (rule_of_number rules n has); same = λ n has. same n (rule_of_number rules n has) }
+  module _ (rules later : List Rule) (are : All (IsRule letters compare) rules) (all_are : All (IsRule letters compare) (rules ++ later)) where
+    pub extends : Extends order (ordered letters compare rank laws rules are) (ordered letters compare rank laws (rules ++ later) all_are)
+    extends = record {
+      has = λ n (g, numbered). (g, rule_at-more rules later n g numbered);
+      same = λ n (g, numbered). ap parted (led_at-is (rules ++ later) n g (rule_at-more rules later n g numbered) ∙ sym (led_at-is rules n g numbered));
+    }
+
+    pub span_more : (q : Allowed order) (f : Word → ℤ) → Span (AnyRow order (ordered letters compare rank laws rules are) q) f → Span (AnyRow order (ordered letters compare rank laws (rules ++ later) all_are) q) f
+    span_more q f sp = any_more order (ordered letters compare rank laws rules are) (ordered letters compare rank laws (rules ++ later) all_are) extends q f sp
+
+    pub below_more : (bound : Word) (p : List Term) → ComesBelow letters compare (polynomials_of rules) bound p → ComesBelow letters compare (polynomials_of (rules ++ later)) bound p
+    below_more bound p comes = below_from_span letters compare rank laws (rules ++ later) all_are bound p (span_more (below order bound) (coefficient_of p) (below_span letters compare rank laws rules are bound p comes))
+
+    pub reached_more : (p : List Term) → HasLettersBelow letters p → IsReached letters compare rules p → IsReached letters compare (rules ++ later) p
+    reached_more p over reached = reached_from_span (rules ++ later) all_are p (span_more (at_most_of order p) (coefficient_of p) (reached_span rules are p over reached))
+
+  module _ (rules : List Rule) (are : All (IsRule letters compare) rules) (q : Allowed order) where
+    -- each word of the rest is bounded as those of the polynomial are
+    pub rest_bounded : (p : List Term) (s : State) → IsReduced letters compare rules p s → Bounded order q p → Bounded order q s.rest
+    rest_bounded p s reduced bounded w = elim (nonzero_or (coefficient_of s.rest w)) [
+      | inl none ↦ inl none
+      | inr some ↦ inr (at_most_bounded order q p bounded w (at_most_in letters compare rank laws p w (reduced.words.rest w some)))
+    ]
+
+    -- the rest is one row of the rule that is made of it
+    pub accounted_span : (rest : List Term) → IsAccounted rules rest → Bounded order q rest → Span (AnyRow order (ordered letters compare rank laws rules are) q) (coefficient_of rest)
+    accounted_span rest is bounded =
+        more (coefficient_of rest) (λ _. pos 0) (coefficient_of (poly_between [] (led_at rules is.number).poly [])) is.scale
+        (_, row_at order rules (leds_are letters compare rank laws rules are) q is.number [] [] ((is.rule, is.numbered)) (subst order.Range (sym (append-nil (led_at rules is.number).lead)) top.0) (subst q.May (sym (append-nil (led_at rules is.number).lead)) top.1))
+        (nothing _ (λ _. refl)) (λ w. at w ∙ ap (λ z. is.scale *ℤ z) (sym (coefficient_of-bare (led_at rules is.number).poly w))
+        ∙ sym (+ℤ_idr _))
       where
-        longer : (n : ℕ) → ((g : Rule) × (rule_at rules n ≡ Some g)) → HasLed (leds_of (rules ++ more)) n
-        longer n (g, numbered) = has_led (rules ++ more) n g (rule_at-more rules more n g numbered)
+        at : (w : Word) → coefficient_of rest w ≡ is.scale *ℤ coefficient_of (led_at rules is.number).poly w
+        at w = sym (is.divided.at w) ∙ coefficient_of-multiple is.scale is.rule.poly.terms w ∙ ap (λ r. is.scale *ℤ coefficient_of r.poly w) (sym (led_at-is rules is.number is.rule is.numbered))
 
-        same : (n : ℕ) → ((g : Rule) × (rule_at rules n ≡ Some g)) → parted (led_at (leds_of (rules ++ more)) n) ≡ parted (led_at (leds_of rules) n)
-        same n (g, numbered) = ap (λ r. parted r) (led_at-is (rules ++ more) n g (rule_at-more rules more n g numbered) ∙ sym (led_at-is rules n g numbered))
+        occurs : coefficient_of rest (led_at rules is.number).lead ≢ pos 0
+        occurs none = leading_nonzero order (led_at rules is.number) (leds_are letters compare rank laws rules are is.number ((is.rule, is.numbered))) (cancel_nonzero is.scale (coefficient_of (led_at rules is.number).poly (led_at rules is.number).lead) is.nonzero (sym (at (led_at rules is.number).lead) ∙ none))
 
-    pub span_more : (q : Allowed order) (f : Word → ℤ) → Span (AnyRow order (ordered letters compare rank laws rules are) q) f → Span (AnyRow order (ordered letters compare rank laws (rules ++ more) all_are) q) f
-    span_more q f sp = any_more order (ordered letters compare rank laws rules are) (ordered letters compare rank laws (rules ++ more) all_are) extends q f sp
+        top : order.Range (led_at rules is.number).lead × q.May (led_at rules is.number).lead
+        top = elim (bounded (led_at rules is.number).lead) [ inl none ↦ absurd (occurs none) | inr held ↦ held ]
 
-    pub below_more : (bound : Word) (p : List Term) → ComesBelow letters compare (polynomials_of rules) bound p → ComesBelow letters compare (polynomials_of (rules ++ more)) bound p
-    below_more bound p comes = below_from_span letters compare rank laws (rules ++ more) all_are bound p (span_more (below order bound) (coefficient_of p) (below_span letters compare rank laws rules are bound p comes))
-
-    pub reached_more : (p : List Term) → HasLettersBelow letters p → IsReached letters compare rules p → IsReached letters compare (rules ++ more) p
-    reached_more p over reached = reached_from_span (rules ++ more) all_are p (span_more (at_most_of order p) (coefficient_of p) (reached_span rules are p over reached))
+  -- what was reduced by fewer rules to a rest that comes from the rules
+  pub reduced_in : (rules later : List Rule) (are : All (IsRule letters compare) rules) (all_are : All (IsRule letters compare) (rules ++ later)) (q : Allowed order) (p : List Term) (s : State)
+      → IsReduced letters compare rules p s → Bounded order q p → Span (AnyRow order (ordered letters compare rank laws (rules ++ later) all_are) q) (coefficient_of s.rest) → Span (AnyRow order (ordered letters compare rank laws (rules ++ later) all_are) q) (coefficient_of p)
+  reduced_in rules later are all_are q p s reduced bounded sp =
+      from_rest (AnyRow order (ordered letters compare rank laws (rules ++ later) all_are) q) p s.rest s.multiplier reduced.positive
+      (span_more rules later are all_are q (reduced_part p s) (reduced_span letters compare rank laws rules are q p s reduced bounded)) sp

@@ -1,25 +1,16 @@
 -- Rows with a bound for their top words, and rows over polynomials that come from such rows.
-use Rattle.std.proofs.Common.{◌≡◌, ◌≢◌, ◌⊎◌, inl, inr, refl, arith, subst, sym, ap, ◌∙◌, List, [], ◌∷◌, ◌++◌, reverse, Bool, true, false, cond, ℤ, pos, ◌+ℤ◌, ◌*ℤ◌}
-use Rattle.std.proofs.lemmas.Int.{ints}
-use Rattle.std.proofs.lemmas.Bool.{eq-eqb}
-use Rattle.std.proofs.lemmas.List.{reverse-append, reverse-reverse}
+use Rattle.std.proofs.Common.{◌≡◌, ◌≢◌, ◌⊎◌, inl, inr, refl, subst, sym, ap, ◌∙◌, List, [], ◌∷◌, ◌++◌, Bool, true, false, cond, pos, ◌+ℤ◌, ◌*ℤ◌}
 use Rattle.std.proofs.Math.IntN.{*ℤ-zero, +ℤ_idl}
 use Rattle.confluence.proofs.Integers.{*ℤ_cancel}
 use Rattle.definitions.specs.Poly.{Word, Term, word_eq, coefficient_of, poly_between}
 use Rattle.confluence.proofs.TermWords.{AllWords, all_words_map}
 use Rattle.definitions.proofs.Linear.{word_eq-true}
 use Rattle.confluence.proofs.Spans.{Coefs, Span, nothing, more, part, span_same}
-use Rattle.confluence.proofs.Shifts.{shift, shift_left, span_shift, coefficient_of-between}
+use Rattle.confluence.proofs.Shifts.{shift, span_shift, coefficient_of-between}
 use Rattle.word_orders.specs.Orders.{Order}
+use Rattle.ambiguities.proofs.Multiples.{coefficient_of-around}
 use Rattle.confluence.proofs.Led.{IsAtMostOf}
-use Rattle.confluence.proofs.Meets.{Rules, Allowed, Row, poly, row_shift, tail_below}
-
-shift_left-at : (l : Word) (f : Coefs) (v : Word) → shift_left l f (l ++ v) ≡ f v
-shift_left-at [] f v = refl
-shift_left-at (a ∷ l) f v = rw (eq-eqb a a refl) (shift_left-at l f v)
-
-pub coefficient_of-between_at : (l r : Word) (p : List Term) (v : Word) → coefficient_of (poly_between l p r) (l ++ (v ++ r)) ≡ coefficient_of p v
-coefficient_of-between_at l r p v = coefficient_of-between l r p (l ++ (v ++ r)) ∙ shift_left-at l _ (v ++ r) ∙ ap (λ z. shift_left (reverse r) (λ u. coefficient_of p (reverse u)) z) (reverse-append v r) ∙ shift_left-at (reverse r) _ (reverse v) ∙ ap (coefficient_of p) (reverse-reverse v)
+use Rattle.confluence.proofs.Meets.{Rules, Allowed, may_factor, Row, row_bound, poly, row_shift, tail_below}
 
 pub coefficient_word : (P : Word → Type 0) (p : List Term) (w : Word) → AllWords P p → (coefficient_of p w ≡ pos 0) ⊎ P w
 coefficient_word P [] w e = inl refl
@@ -44,14 +35,13 @@ module _ (o : Order) (g : Rules o) where
 
   -- a word of a row is in range and may be a top
   pub row_word : (q : Allowed o) (M w : Word) (b : Coefs) → Row o g q M b → (b w ≡ pos 0) ⊎ (o.Range w × q.May w)
-  row_word q M w b x = by_word (coefficient_word P (poly_between x.left (poly (g.rule x.number)) x.right) w (at_top, each))
+  row_word q M w b x = elim (coefficient_word P (poly_between x.left (poly (g.rule x.number)) x.right) w (at_top, each)) [
+    | inl z ↦ inl (x.is w ∙ z)
+    | inr k ↦ inr k
+  ]
     where
       P : Word → Type 0
       P u = o.Range u × q.May u
-
-      by_word : (coefficient_of (poly_between x.left (poly (g.rule x.number)) x.right) w ≡ pos 0) ⊎ P w → (b w ≡ pos 0) ⊎ (o.Range w × q.May w)
-      by_word (inl z) = inl (x.is w ∙ z)
-      by_word (inr k) = inr k
 
       at_top : P (x.left ++ ((g.rule x.number).lead ++ x.right))
       at_top = (subst o.Range x.top x.range, subst q.May x.top x.may)
@@ -67,14 +57,7 @@ module _ (o : Order) (g : Rules o) where
       both (inr r) _ = inr r
       both (inl z) (inr r) = inr r
       both (inl z) (inl y) = inl (h w ∙ ap (λ e. c *ℤ e +ℤ k w) z ∙ ap (λ e. e +ℤ k w) (*ℤ-zero c) ∙ +ℤ_idl (k w) ∙ y)
-  span_word q _ (part f k e pe hk h) w = divided (span_word q k hk w)
-    where
-      divided : (k w ≡ pos 0) ⊎ (o.Range w × q.May w) → (f w ≡ pos 0) ⊎ (o.Range w × q.May w)
-      divided (inr r) = inr r
-      divided (inl z) = inl (*ℤ_cancel e (f w) pe (sym (h w) ∙ z))
-
-  one_row : (q : Allowed o) (M : Word) (b : Coefs) → Row o g q M b → Span (AnyRow q) b
-  one_row q M b row = more b (λ _. pos 0) b (pos 1) (M, row) (nothing _ (λ _. refl)) (λ w. (omega (arith, ints)))
+  span_word q _ (part f k e pe hk h) w = elim (span_word q k hk w) [ inr r ↦ inr r | inl z ↦ inl (*ℤ_cancel e (f w) pe (sym (h w) ∙ z)) ]
 
   -- rows over other polynomials, in which each word is in range and may be a top
   pub record Piece (q : Allowed o) (inner : List Term) (b : Coefs) : Type 0 where
@@ -87,29 +70,21 @@ module _ (o : Order) (g : Rules o) where
   pub piece_span : (q : Allowed o) (p : List Term) (b : Coefs) → Span (AnyRow (at_most_of o p)) (coefficient_of p) → Piece q p b → Span (AnyRow q) b
   piece_span q p b sp t = span_same (AnyRow q) (shift t.left t.right (coefficient_of p)) b (span_shift (AnyRow (at_most_of o p)) (AnyRow q) t.left t.right each (coefficient_of p) sp) (λ w. t.is w ∙ coefficient_of-between t.left t.right p w)
     where
-      placed : (v : Word) → coefficient_of p v ≢ pos 0 → o.Range (t.left ++ (v ++ t.right)) × q.May (t.left ++ (v ++ t.right))
-      placed v n = of_words (t.words (t.left ++ (v ++ t.right)))
-        where
-          of_words : (coefficient_of (poly_between t.left p t.right) (t.left ++ (v ++ t.right)) ≡ pos 0) ⊎ (o.Range (t.left ++ (v ++ t.right)) × q.May (t.left ++ (v ++ t.right))) → o.Range (t.left ++ (v ++ t.right)) × q.May (t.left ++ (v ++ t.right))
-          of_words (inl z) = absurd (n (sym (coefficient_of-between_at t.left t.right p v) ∙ z))
-          of_words (inr k) = k
+      Fits : Word → Type 0
+      Fits v = o.Range (t.left ++ (v ++ t.right)) × q.May (t.left ++ (v ++ t.right))
 
-      at_word : (L v : Word) → (L ≡ v) ⊎ o.Less L v → o.Range (t.left ++ (v ++ t.right)) × q.May (t.left ++ (v ++ t.right)) → o.Range (t.left ++ (L ++ t.right)) × q.May (t.left ++ (L ++ t.right))
-      at_word L v (inl e) k = subst (λ z. o.Range (t.left ++ (z ++ t.right)) × q.May (t.left ++ (z ++ t.right))) (sym e) k
-      at_word L v (inr h) k = let up : o.Less (t.left ++ (L ++ t.right)) (t.left ++ (v ++ t.right)) = o.compatible t.left L v t.right k.0 h in (o.less_range _ _ up, q.closed _ _ up k.1)
+      placed : (v : Word) → coefficient_of p v ≢ pos 0 → Fits v
+      placed v n = elim (t.words (t.left ++ (v ++ t.right))) [
+        | inl z ↦ absurd (n (sym (coefficient_of-around t.left t.right v p) ∙ z))
+        | inr k ↦ k
+      ]
 
-      moved : (L : Word) (d : Coefs) → Row o g (at_most_of o p) L d → o.Range (t.left ++ (L ++ t.right)) × q.May (t.left ++ (L ++ t.right)) → AnyRow q (shift t.left t.right d)
-      moved L d row k = (t.left ++ (L ++ t.right), row_shift o g q t.left t.right L d k.0 k.1 (other_bound L d row (at_top L d row k)))
-        where
-          at_top : (L : Word) (d : Coefs) → Row o g (at_most_of o p) L d → o.Range (t.left ++ (L ++ t.right)) × q.May (t.left ++ (L ++ t.right)) → q.May L
-          at_top L d row k = by_le (o.factor_le t.left L t.right k.0)
-            where
-              by_le : (L ≡ t.left ++ (L ++ t.right)) ⊎ o.Less L (t.left ++ (L ++ t.right)) → q.May L
-              by_le (inl e) = subst q.May (sym e) k.1
-              by_le (inr h) = q.closed L _ h k.1
-
-          other_bound : (L : Word) (d : Coefs) → Row o g (at_most_of o p) L d → q.May L → Row o g q L d
-          other_bound L d row m = record { number = row.number; has = row.has; left = row.left; right = row.right; top = row.top; range = row.range; may = m; is = row.is }
+      at_word : (L v : Word) → (L ≡ v) ⊎ o.Less L v → Fits v → Fits L
+      at_word L v (inl e) k = subst Fits (sym e) k
+      at_word L v (inr h) k = let up = o.compatible t.left L v t.right k.0 h in (o.less_range _ _ up, q.closed _ _ up k.1)
 
       each : (d : Coefs) → AnyRow (at_most_of o p) d → AnyRow q (shift t.left t.right d)
-      each d (L, row) = moved L d row (at_word L row.may.word row.may.at_most (placed row.may.word row.may.occurs))
+      each d (L, row) =
+          let k = at_word L row.may.word row.may.at_most (placed row.may.word row.may.occurs) in
+          let here = row_bound o g (at_most_of o p) q L d row (may_factor o q t.left L t.right k.0 k.1) in
+          (t.left ++ (L ++ t.right), row_shift o g q t.left t.right L d k.0 k.1 here)

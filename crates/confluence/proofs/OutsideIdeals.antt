@@ -1,5 +1,5 @@
 -- What is outside the rational ideal, and what does not come from the generators below a word.
-use Rattle.std.proofs.Common.{◌≡◌, ◌≢◌, ◌⊎◌, inl, inr, ◌≤◌, ℕ, zero, suc, pos, List, [], ◌∷◌, ◌++◌, length, refl, sym, ap, ◌∙◌, subst, arith, Contains}
+use Rattle.std.proofs.Common.{◌≡◌, ◌≢◌, ◌⊎◌, inl, inr, ℕ, zero, suc, pos, List, [], ◌∷◌, refl, sym, ap, ◌∙◌, subst, arith, Contains}
 use Rattle.std.specs.List.{All}
 use Rattle.std.proofs.lemmas.List.Elements.{All-contains}
 use Rattle.definitions.specs.Poly.{Word, Term, coefficient_of, poly_between}
@@ -14,16 +14,14 @@ use Rattle.ambiguities.specs.declared.ambiguity.Kind.TheVariants.{Overlap, Inclu
 use Rattle.ambiguities.specs.declared.ambiguity.Ambiguity.{Ambiguity}
 use Rattle.ambiguities.specs.Ambiguities.{IsAmbiguity, overlap_word_of}
 use Rattle.ambiguities.specs.Resolved.{ComesBelow, IsResolved}
-use Rattle.confluence.proofs.Integers.{nonzero_or}
-use Rattle.confluence.proofs.FreeRows.{between_word}
+use Rattle.confluence.proofs.Shifts.{between_word, span_bind}
 use Rattle.confluence.proofs.Ideals.{generator_decided}
-use Rattle.confluence.proofs.Outside.{AnyRow, piece_span, coefficient_of-between_at}
-use Rattle.confluence.proofs.Parts.{same_nat}
-use Rattle.confluence.proofs.ReducibleLaws.{ordered, below_from_span}
-use Rattle.confluence.proofs.ResolvedOf.{comes_from_below}
+use Rattle.confluence.proofs.Outside.{AnyRow, piece_span}
+use Rattle.confluence.proofs.LedRules.{ordered, same_nat}
+use Rattle.confluence.proofs.BelowSpans.{below_from_span, comes_from_below}
 use Rattle.confluence.proofs.Resolve.{below}
 use Rattle.confluence.proofs.RestLaws.{rests_of_ideal_are_zero, rests_below_are_zero}
-use Rattle.confluence.proofs.Spans.{Coefs, Span, nothing, span_bind}
+use Rattle.confluence.proofs.Spans.{Coefs, Span, nothing}
 use Rattle.confluence.proofs.SumRows.{Numbered, combination_span}
 use Rattle.confluence.specs.Kept.{IsReached, HaveLettersBelow}
 use Rattle.confluence.specs.Conclusions.{AreAllDone, ResolvedWhereClosed, ResolvedBelowPending, NonzeroIsOutside, NonzeroIsNotBelow}
@@ -92,24 +90,18 @@ module _ (letters : ℕ) (compare : Compare) (rank : List ℕ → List ℕ) (law
 
   -- a row over a generator whose words are below the bound comes from rows over rules below it
   row_below : (b : Coefs) → Numbered generators Lower b → Span (AnyRow order (ordered letters compare rank laws rules are) (below order bound)) b
-  row_below b row = go (generator_decided generators row.number)
+  row_below b row = elim (generator_decided generators row.number) [
+    | inr none ↦ nothing b (λ w. row.is w ∙ ap (λ z. coefficient_of (poly_between row.left z row.right) w) none)
+    | inl named ↦ piece_span order (ordered letters compare rank laws rules are) (below order bound) (generator_at generators row.number) b
+        (reached_span letters compare rank laws rules are (generator_at generators row.number) (over row.number) (All-contains (λ n. IsReached letters compare rules (generator_at generators n)) done row.number reached (all row.number named.0 named.1)))
+        (record { left = row.left; right = row.right; words = words; is = row.is })
+  ]
     where
       words : (w : Word) → (coefficient_of (poly_between row.left (generator_at generators row.number) row.right) w ≡ pos 0) ⊎ (order.Range w × order.Less w bound)
-      words w = by_place (between_word row.left row.right (generator_at generators row.number) w)
-        where
-          of_word : (v : Word) → w ≡ row.left ++ (v ++ row.right) → (coefficient_of (generator_at generators row.number) v ≡ pos 0) ⊎ (coefficient_of (generator_at generators row.number) v ≢ pos 0) → (coefficient_of (poly_between row.left (generator_at generators row.number) row.right) w ≡ pos 0) ⊎ (order.Range w × order.Less w bound)
-          of_word v is (inl none) = inl (ap (coefficient_of (poly_between row.left (generator_at generators row.number) row.right)) is ∙ coefficient_of-between_at row.left row.right (generator_at generators row.number) v ∙ none)
-          of_word v is (inr some) = inr (subst (λ u. order.Range u × order.Less u bound) (sym is) (order.less_range (row.left ++ (v ++ row.right)) bound (row.asked v some), row.asked v some))
-
-          by_place : (coefficient_of (poly_between row.left (generator_at generators row.number) row.right) w ≡ pos 0) ⊎ ((v : Word) × (w ≡ row.left ++ (v ++ row.right))) → (coefficient_of (poly_between row.left (generator_at generators row.number) row.right) w ≡ pos 0) ⊎ (order.Range w × order.Less w bound)
-          by_place (inl none) = inl none
-          by_place (inr (v, is)) = of_word v is (nonzero_or (coefficient_of (generator_at generators row.number) v))
-
-      go : ((1 ≤ row.number) × (row.number ≤ length generators)) ⊎ (generator_at generators row.number ≡ []) → Span (AnyRow order (ordered letters compare rank laws rules are) (below order bound)) b
-      go (inr none) = nothing b (λ w. row.is w ∙ ap (λ z. coefficient_of (poly_between row.left z row.right) w) none)
-      go (inl named) = piece_span order (ordered letters compare rank laws rules are) (below order bound) (generator_at generators row.number) b
-          (reached_span letters compare rank laws rules are (generator_at generators row.number) (over row.number) (All-contains (λ n. IsReached letters compare rules (generator_at generators n)) done row.number reached (all row.number named.0 named.1)))
-          (record { left = row.left; right = row.right; words = words; is = row.is })
+      words w = elim (between_word row.left row.right (generator_at generators row.number) w) [
+        | inl none ↦ inl none
+        | inr (v, is, some) ↦ inr (subst (λ u. order.Range u × order.Less u bound) (sym is) (order.less_range _ bound (row.asked v some), row.asked v some))
+      ]
 
   pub below_rules : (p : List Term) → ComesBelow letters compare generators bound p → ComesBelow letters compare (polynomials_of rules) bound p
   below_rules p comes =

@@ -1,5 +1,5 @@
 -- Two leading words in one word are one, apart, or come from an ambiguity; rows apart differ by lower rows.
-use Rattle.std.proofs.Common.{◌≡◌, ◌≢◌, ◌⊎◌, inl, inr, ℕ, ℤ, pos, negsuc, ◌+ℤ◌, ◌*ℤ◌, ◌<ℤ◌, neg_ℤ, List, [], ◌++◌, length, refl, sym, ap, ap₂, ◌∙◌, subst, arith, append_assoc, append-nil}
+use Rattle.std.proofs.Common.{◌≡◌, ◌≢◌, ◌⊎◌, inl, inr, ℕ, pos, negsuc, ◌+ℤ◌, ◌*ℤ◌, ◌<ℤ◌, neg_ℤ, List, [], ◌++◌, length, refl, sym, ap, ap₂, ◌∙◌, arith, append_assoc, append-nil}
 use Rattle.std.specs.List.{All}
 use Rattle.std.specs.Int.RustNames.{unsigned_abs}
 use Rattle.std.proofs.lemmas.Int.{ints}
@@ -15,58 +15,49 @@ use Rattle.rule_reduce.specs.RuleLists.{IsRule, polynomials_of}
 use Rattle.rule_reduce.proofs.Numbers.{rule_at-all}
 use Rattle.ambiguities.specs.declared.ambiguity.Kind.TheVariants.{Overlap, Inclusion}
 use Rattle.ambiguities.specs.declared.ambiguity.Ambiguity.{Ambiguity}
-use Rattle.ambiguities.specs.Ambiguities.{overlap_word_of}
-use Rattle.ambiguities.specs.SPolynomials.{first_row, second_row}
 use Rattle.ambiguities.specs.Resolved.{ComesBelow}
 use Rattle.confluence.specs.Places.{Place, IsPlace, IsOnePlace, IsApart, IsFromAmbiguity, PlacesOfOneWord, place_poly, RowsApartDiffer}
 use Rattle.confluence.proofs.Integers.{neg_ℤ-*ℤ}
-use Rattle.confluence.proofs.Led.{led_at, polys_of, Comes}
-use Rattle.confluence.proofs.LedRules.{leds_of, led_at-is, has_led, polys_of-leds, leds_are}
-use Rattle.confluence.proofs.Meetings.{IsMeeting, overlap, inclusion}
-use Rattle.confluence.proofs.MeetingsOf.{meeting_of, ambiguity_of}
-use Rattle.confluence.proofs.Places.{SomeLetters, Placed, apart, inside, outside, EitherWay, first, second, two_places}
-use Rattle.confluence.proofs.Parts.{same_nat, parted, coefficient_of-parted, rules_of, row_bound}
-use Rattle.confluence.proofs.Resolved.{same_place, some_length}
+use Rattle.confluence.proofs.Led.{led_at, Comes, led_at-is}
+use Rattle.confluence.proofs.LedRules.{leds_are, row_poly, same_nat, rules_of}
+use Rattle.confluence.proofs.MeetingsOf.{IsMeeting, overlap_meeting, inclusion_meeting}
+use Rattle.confluence.proofs.Places.{SomeLetters, some_length, Placed, apart, overlap, inside, outside, EitherWay, first, second, two_places}
 use Rattle.confluence.proofs.Resolve.{everything, below}
-use Rattle.confluence.proofs.RuleRows.{same_between}
-use Rattle.confluence.proofs.Spans.{Coefs, Span, span_bind, span_same}
-use Rattle.confluence.proofs.Meets.{Rules, Row, Under, poly, apart_span}
+use Rattle.confluence.proofs.Spans.{Coefs, Span, span_same, single}
+use Rattle.confluence.proofs.Shifts.{span_bind}
+use Rattle.confluence.proofs.Meets.{Rules, Row, Under, poly, apart_span, row_bound}
 use Rattle.confluence.proofs.Outside.{AnyRow}
-use Rattle.confluence.proofs.FreeRows.{single}
 use Rattle.confluence.proofs.SumRows.{comes_from_span}
-use Rattle.confluence.proofs.ResolvedOf.{below_from_comes}
+use Rattle.confluence.proofs.BelowSpans.{below_from_comes}
 
 module _ (rules : List Rule) (word : Word) where
   -- a meeting between two words makes the places come from its ambiguity
-  from_meeting : (p q : Place) (a : Ambiguity) (inner after before behind x y : Word) → IsMeeting (leds_of rules) a inner after before behind → a.i ≡ p.number → a.j ≡ q.number
+  from_meeting : (p q : Place) (a : Ambiguity) (inner after before behind x y : Word) → IsMeeting rules a inner after before behind → a.i ≡ p.number → a.j ≡ q.number
       → word ≡ x ++ (inner ++ y) → p.left ≡ x → p.right ≡ after ++ y → q.left ≡ x ++ before → q.right ≡ behind ++ y → IsFromAmbiguity rules word p q
-  from_meeting p q a inner after before behind x y m i_is j_is splits p_left p_right q_left q_right =
-      let is = ambiguity_of rules a inner after before behind m in
-      let same = same_place (leds_of rules) a inner (overlap_word_of rules a) after (first_row rules a).right before (second_row rules a).left behind (second_row rules a).right m (meeting_of rules a is) in
-      record {
-        ambiguity = a;
-        is_ambiguity = is;
-        first = i_is;
-        second = j_is;
-        before = x;
-        behind = y;
-        splits = splits ∙ ap (λ w. x ++ (w ++ y)) same.0;
-        first_left = p_left ∙ sym (append-nil x);
-        first_right = p_right ∙ ap (λ w. w ++ y) same.1;
-        second_left = q_left ∙ ap (λ w. x ++ w) same.2;
-        second_right = q_right ∙ ap (λ w. w ++ y) same.3;
-      }
+  from_meeting p q a inner after before behind x y m i_is j_is splits p_left p_right q_left q_right = record {
+    ambiguity = a;
+    is_ambiguity = m.ambiguity;
+    first = i_is;
+    second = j_is;
+    before = x;
+    behind = y;
+    splits = splits ∙ ap (λ w. x ++ (w ++ y)) (sym m.word_is);
+    first_left = p_left ∙ sym (append-nil x);
+    first_right = p_right ∙ ap (λ w. w ++ y) (sym m.after_is);
+    second_left = q_left ∙ ap (λ w. x ++ w) (sym m.before_is);
+    second_right = q_right ∙ ap (λ w. w ++ y) (sym m.behind_is);
+  }
 
   module _ (p q : Place) (is_p : IsPlace rules word p) (is_q : IsPlace rules word q) where
-    p_lead : (led_at (leds_of rules) p.number).lead ≡ p.rule.lead
+    p_lead : (led_at rules p.number).lead ≡ p.rule.lead
     p_lead = ap (λ r. r.lead) (led_at-is rules p.number p.rule is_p.numbered)
 
-    q_lead : (led_at (leds_of rules) q.number).lead ≡ q.rule.lead
+    q_lead : (led_at rules q.number).lead ≡ q.rule.lead
     q_lead = ap (λ r. r.lead) (led_at-is rules q.number q.rule is_q.numbered)
 
     -- rules with one number have one leading word
     one_lead : p.number ≡ q.number → p.rule.lead ≡ q.rule.lead
-    one_lead same = sym p_lead ∙ ap (λ n. (led_at (leds_of rules) n).lead) same ∙ q_lead
+    one_lead same = sym p_lead ∙ ap (λ n. (led_at rules n).lead) same ∙ q_lead
 
     abbrev OneWay : Type 0
     OneWay = IsOnePlace p q ⊎ (IsApart p q ⊎ (IsFromAmbiguity rules word p q ⊎ IsFromAmbiguity rules word q p))
@@ -81,26 +72,25 @@ module _ (rules : List Rule) (word : Word) where
             let front : s ≡ [] = nil_from_length s (omega (arith, ap length whole, length-append s (q.rule.lead ++ t), length-append q.rule.lead t)) in
             let back : t ≡ [] = nil_from_length t (omega (arith, ap length whole, length-append s (q.rule.lead ++ t), length-append q.rule.lead t)) in
             inl (record { number = same; left = sym (left ∙ ap (λ w. p.left ++ w) front ∙ append-nil p.left); right = sym (right ∙ ap (λ w. w ++ p.right) back) })
-        by_number (inr differ) = inr (inr (inl (from_meeting p q (record { i = p.number; j = q.number; kind = Inclusion; place = length s }) (led_at (leds_of rules) p.number).lead [] s t p.left p.right
-            (inclusion s t refl (has_led rules p.number p.rule is_p.numbered) (has_led rules q.number q.rule is_q.numbered) differ (p_lead ∙ splits ∙ ap (λ w. s ++ (w ++ t)) (sym q_lead)) refl refl refl refl refl)
-            refl refl (is_p.splits ∙ ap (λ w. p.left ++ (w ++ p.right)) (sym p_lead)) refl refl left right)))
+        by_number (inr differ) = inr (inr (inl (from_meeting p q (record { i = p.number; j = q.number; kind = Inclusion; place = length s }) p.rule.lead [] s t p.left p.right
+            (inclusion_meeting rules p.number q.number p.rule q.rule is_p.numbered is_q.numbered s t differ splits)
+            refl refl is_p.splits refl refl left right)))
 
     -- the second leading word begins where the first does, and is longer
     longer : (t : Word) → SomeLetters t → q.rule.lead ≡ p.rule.lead ++ t → q.left ≡ p.left → p.right ≡ t ++ q.right → OneWay
-    longer t some splits left right = by_number (same_nat p.number q.number)
-      where
-        by_number : (p.number ≡ q.number) ⊎ (p.number ≢ q.number) → OneWay
-        by_number (inl same) = absurd (omega (arith, ap length (one_lead same), ap length splits, length-append p.rule.lead t, some_length t some))
-        by_number (inr differ) = inr (inr (inr (from_meeting q p (record { i = q.number; j = p.number; kind = Inclusion; place = 0 }) (led_at (leds_of rules) q.number).lead [] [] t q.left q.right
-            (inclusion [] t refl (has_led rules q.number q.rule is_q.numbered) (has_led rules p.number p.rule is_p.numbered) (λ e. differ (sym e)) (q_lead ∙ splits ∙ ap (λ w. w ++ t) (sym p_lead)) refl refl refl refl refl)
-            refl refl (is_q.splits ∙ ap (λ w. q.left ++ (w ++ q.right)) (sym q_lead)) refl refl (sym left ∙ sym (append-nil q.left)) right)))
+    longer t some splits left right = elim (same_nat p.number q.number) [
+      | inl same ↦ absurd (omega (arith, ap length (one_lead same), ap length splits, length-append p.rule.lead t, some_length t some))
+      | inr differ ↦ inr (inr (inr (from_meeting q p (record { i = q.number; j = p.number; kind = Inclusion; place = 0 }) q.rule.lead [] [] t q.left q.right
+          (inclusion_meeting rules q.number p.number q.rule p.rule is_q.numbered is_p.numbered [] t (λ e. differ (sym e)) splits)
+          refl refl is_q.splits refl refl (sym left ∙ sym (append-nil q.left)) right)))
+    ]
 
     one_way : Placed p.rule.lead q.rule.lead p.left p.right q.left q.right → OneWay
     one_way (apart m left right) = inr (inl (record { between = m; left = left; right = right }))
-    one_way (Placed.overlap s o t some_s some_o some_t p_splits q_splits left right) = inr (inr (inl (from_meeting p q (record { i = p.number; j = q.number; kind = Overlap; place = length s }) (s ++ (led_at (leds_of rules) q.number).lead) t s [] p.left q.right
-        (overlap s o t refl (has_led rules p.number p.rule is_p.numbered) (has_led rules q.number q.rule is_q.numbered) (some_length s some_s) (some_length o some_o) (some_length t some_t) (p_lead ∙ p_splits) (q_lead ∙ q_splits) refl refl refl refl refl)
+    one_way (overlap s o t some_s some_o some_t p_splits q_splits left right) = inr (inr (inl (from_meeting p q (record { i = p.number; j = q.number; kind = Overlap; place = length s }) (s ++ q.rule.lead) t s [] p.left q.right
+        (overlap_meeting rules p.number q.number p.rule q.rule is_p.numbered is_q.numbered s o t some_s some_o some_t p_splits q_splits)
         refl refl
-        (is_q.splits ∙ ap (λ w. w ++ (q.rule.lead ++ q.right)) left ∙ append_assoc p.left s (q.rule.lead ++ q.right) ∙ ap (λ w. p.left ++ w) (sym (append_assoc s q.rule.lead q.right)) ∙ ap (λ w. p.left ++ ((s ++ w) ++ q.right)) (sym q_lead))
+        (is_q.splits ∙ ap (λ w. w ++ (q.rule.lead ++ q.right)) left ∙ append_assoc p.left s (q.rule.lead ++ q.right) ∙ ap (λ w. p.left ++ w) (sym (append_assoc s q.rule.lead q.right)))
         refl right left refl)))
     one_way (inside s t splits left right) = included s t splits left right
     one_way (outside t some splits left right) = longer t some splits left right
@@ -111,28 +101,26 @@ places_of_one_word rules word p q is_p is_q = go (two_places p.rule.lead q.rule.
     Goal : Type 0
     Goal = IsOnePlace p q ⊎ ((IsApart p q ⊎ IsApart q p) ⊎ (IsFromAmbiguity rules word p q ⊎ IsFromAmbiguity rules word q p))
 
-    there : OneWay rules word p q is_p is_q → Goal
-    there (inl one) = inl one
-    there (inr (inl far)) = inr (inl (inl far))
-    there (inr (inr (inl from))) = inr (inr (inl from))
-    there (inr (inr (inr from))) = inr (inr (inr from))
-
-    back : OneWay rules word q p is_q is_p → Goal
-    back (inl one) = inl (record { number = sym one.number; left = sym one.left; right = sym one.right })
-    back (inr (inl far)) = inr (inl (inr far))
-    back (inr (inr (inl from))) = inr (inr (inr from))
-    back (inr (inr (inr from))) = inr (inr (inl from))
-
     go : EitherWay p.rule.lead q.rule.lead p.left p.right q.left q.right → Goal
-    go (first placed) = there (one_way rules word p q is_p is_q placed)
-    go (second placed) = back (one_way rules word q p is_q is_p placed)
+    go (first placed) = elim (one_way rules word p q is_p is_q placed) [
+      | inl one ↦ inl one
+      | inr (inl far) ↦ inr (inl (inl far))
+      | inr (inr (inl from)) ↦ inr (inr (inl from))
+      | inr (inr (inr from)) ↦ inr (inr (inr from))
+    ]
+    go (second placed) = elim (one_way rules word q p is_q is_p placed) [
+      | inl one ↦ inl (record { number = sym one.number; left = sym one.left; right = sym one.right })
+      | inr (inl far) ↦ inr (inl (inr far))
+      | inr (inr (inl from)) ↦ inr (inr (inr from))
+      | inr (inr (inr from)) ↦ inr (inr (inl from))
+    ]
 
 module _ (letters : ℕ) (compare : Compare) (rank : List ℕ → List ℕ) (rules : List Rule) (word : Word) (p q : Place) (laws : IsAdmissible letters compare rank) (are : All (IsRule letters compare) rules) (over : IsOver letters word) (is_p : IsPlace rules word p) (is_q : IsPlace rules word q) (far : IsApart p q) where
   abbrev o : Order
   o = order_from_laws letters compare rank laws
 
   abbrev g : Rules (order_from_laws letters compare rank laws)
-  g = rules_of (order_from_laws letters compare rank laws) (leds_of rules) (leds_are letters compare rank laws rules are)
+  g = rules_of (order_from_laws letters compare rank laws) rules (leds_are letters compare rank laws rules are)
 
   abbrev one_poly : List Term
   one_poly = poly_between p.left (poly (g.rule p.number)) (far.between ++ ((g.rule q.number).lead ++ q.right))
@@ -141,7 +129,7 @@ module _ (letters : ℕ) (compare : Compare) (rank : List ℕ → List ℕ) (rul
   other_poly = poly_between (p.left ++ ((g.rule p.number).lead ++ far.between)) (poly (g.rule q.number)) q.right
 
   span : Span (Under o g (everything o) word) (λ w. pos (g.rule q.number).leading *ℤ coefficient_of one_poly w +ℤ neg_ℤ (pos (g.rule p.number).leading *ℤ coefficient_of other_poly w))
-  span = apart_span o g (everything o) p.number q.number p.left far.between q.right word (has_led rules p.number p.rule is_p.numbered) (has_led rules q.number q.rule is_q.numbered)
+  span = apart_span o g (everything o) p.number q.number p.left far.between q.right word ((p.rule, is_p.numbered)) ((q.rule, is_q.numbered))
       (is_p.splits ∙ ap (λ w. p.left ++ (p.rule.lead ++ w)) far.right ∙ ap₂ (λ u v. p.left ++ (u ++ (far.between ++ (v ++ q.right)))) (sym (p_lead rules word p q is_p is_q)) (sym (q_lead rules word p q is_p is_q)))
       (over_range letters compare rank laws word over) tt
 
@@ -153,17 +141,14 @@ module _ (letters : ℕ) (compare : Compare) (rank : List ℕ → List ℕ) (rul
 
   -- the polynomial of the rule at a place
   part_is : (r : Place) (is : IsPlace rules word r) (l back : Word) → l ≡ r.left → back ≡ r.right → (w : Word) → coefficient_of (poly_between l (poly (g.rule r.number)) back) w ≡ coefficient_of (place_poly r) w
-  part_is r is l back l_is back_is w =
-      same_between l back (poly (parted (led_at (leds_of rules) r.number))) (led_at (leds_of rules) r.number).poly (coefficient_of-parted o (led_at (leds_of rules) r.number) (leds_are letters compare rank laws rules are r.number (has_led rules r.number r.rule is.numbered))) w
-      ∙ ap (λ f. coefficient_of (poly_between l f.poly back) w) (led_at-is rules r.number r.rule is.numbered)
+  part_is r is l back l_is back_is w = row_poly letters compare rank laws rules are r.number r.rule is.numbered l back w
       ∙ ap₂ (λ u v. coefficient_of (poly_between u r.rule.poly.terms v) w) l_is back_is
 
   leading_is : (r : Place) (is : IsPlace rules word r) → pos (g.rule r.number).leading ≡ r.rule.leading
-  leading_is r is = ap (λ f. pos f.leading) (led_at-is rules r.number r.rule is.numbered) ∙ as_nat r.rule.leading (rule_at-all (IsRule letters compare) rules r.number r.rule is.numbered are).positive
-    where
-      as_nat : (k : ℤ) → pos 0 <ℤ k → pos (unsigned_abs k) ≡ k
-      as_nat (pos n) h = refl
-      as_nat (negsuc n) h = absurd (omega (arith, ints, h))
+  leading_is r is = ap (λ f. pos f.leading) (led_at-is rules r.number r.rule is.numbered) ∙ ((elim r.rule.leading as (λ k. pos 0 <ℤ k → pos (unsigned_abs k) ≡ k) [
+    | pos n ↦ λ h. refl
+    | negsuc n ↦ λ h. absurd (omega (arith, ints, h))
+  ]) (rule_at-all (IsRule letters compare) rules r.number r.rule is.numbered are).positive)
 
   abbrev difference : List Term
   difference = poly_multiple q.rule.leading (place_poly p) ++ poly_multiple (neg_ℤ p.rule.leading) (place_poly q)
@@ -176,13 +161,13 @@ module _ (letters : ℕ) (compare : Compare) (rank : List ℕ → List ℕ) (rul
       (ap₂ ◌*ℤ◌ (sym (leading_is q is_q)) (sym (part_is p is_p p.left (far.between ++ ((g.rule q.number).lead ++ q.right)) refl (ap (λ u. far.between ++ (u ++ q.right)) (q_lead rules word p q is_p is_q) ∙ sym far.right) w)))
       (ap₂ ◌*ℤ◌ (sym (leading_is p is_p)) (sym (part_is q is_q (p.left ++ ((g.rule p.number).lead ++ far.between)) q.right (ap (λ u. p.left ++ (u ++ far.between)) (p_lead rules word p q is_p is_q) ∙ sym far.left) refl w)))
 
-  comes : Comes (polys_of (leds_of rules)) (λ w. o.Less w word) difference
-  comes = comes_from_span o (leds_of rules) (leds_are letters compare rank laws rules are) (below o word) (λ w. o.Less w word) (λ u range less. less) difference
+  comes : Comes (polynomials_of rules) (λ w. o.Less w word) difference
+  comes = comes_from_span o rules (leds_are letters compare rank laws rules are) (below o word) (λ w. o.Less w word) (λ u range less. less) difference
       (span_same (AnyRow o g (below o word)) (λ w. pos (g.rule q.number).leading *ℤ coefficient_of one_poly w +ℤ neg_ℤ (pos (g.rule p.number).leading *ℤ coefficient_of other_poly w)) (coefficient_of difference)
       (span_bind (Under o g (everything o) word) (AnyRow o g (below o word)) lower (λ w. pos (g.rule q.number).leading *ℤ coefficient_of one_poly w +ℤ neg_ℤ (pos (g.rule p.number).leading *ℤ coefficient_of other_poly w)) span) value)
 
   pub apart_comes : ComesBelow letters compare (polynomials_of rules) word difference
-  apart_comes = below_from_comes letters compare rank laws (polynomials_of rules) word difference (subst (λ ps. Comes ps (λ w. o.Less w word) difference) (polys_of-leds rules) comes)
+  apart_comes = below_from_comes letters compare rank laws (polynomials_of rules) word difference comes
 
 pub rows_apart_differ : RowsApartDiffer
 rows_apart_differ letters compare rank rules word p q laws are over is_p is_q far = apart_comes letters compare rank rules word p q laws are over is_p is_q far

@@ -1,28 +1,48 @@
 -- What was reduced, as rows over the rules.
-use Rattle.std.proofs.Common.{◌≡◌, ◌⊎◌, inl, inr, ℕ, ℤ, ◌+ℤ◌, ◌*ℤ◌, neg_ℤ, List, [], ◌++◌, length, sym, ◌∙◌, subst, arith}
+use Rattle.std.proofs.Common.{◌≡◌, ◌≢◌, ℕ, pos, ◌+ℤ◌, ◌*ℤ◌, List, [], ◌∷◌, ◌++◌, refl, sym, ap, ◌∙◌, subst, arith, ◌⊎◌, inl, inr, neg_ℤ, length}
+use Rattle.std.proofs.lemmas.List.Elements.{All-tail, All-weaker}
 use Rattle.std.specs.List.{All}
-use Rattle.std.proofs.lemmas.Int.{ints}
-use Rattle.std.proofs.lemmas.List.Elements.{All-weaker}
-use Rattle.definitions.specs.Poly.{Word, Term, coefficient_of}
+use Rattle.definitions.specs.Poly.{Word, Term, coefficient_of, poly_between}
+use Rattle.definitions.specs.Combination.{generator_at}
 use Rattle.definitions.proofs.Coefficients.{coefficient_of-append, coefficient_of-multiple}
+use Rattle.traced_rows.specs.declared.Origin.{Origin}
+use Rattle.traced_rows.specs.declared.Origin.TheVariants as origin
+use Rattle.traced_rows.specs.declared.Row.{Row}
+use Rattle.traced_rows.specs.Traces.{origin_poly, traced_poly, traced_sum}
+use Rattle.rule_reduce.specs.Laws.{IsByRule}
+use Rattle.confluence.proofs.Spans.{Span, nothing, more, Coefs, span_same}
+use Rattle.confluence.proofs.SumRows.{Numbered, span_from_numbered}
 use Rattle.word_orders.specs.Admissible.{Compare, IsAdmissible}
 use Rattle.word_orders.specs.Orders.{Order, IsBelow}
 use Rattle.word_orders.proofs.Orders.{order_from_laws, below_less}
-use Rattle.traced_rows.specs.Traces.{traced_sum}
 use Rattle.rule_reduce.specs.declared.rule.Rule.{Rule}
 use Rattle.rule_reduce.specs.declared.state.State.{State}
 use Rattle.rule_reduce.specs.RuleLists.{IsRule, polynomials_of}
 use Rattle.rule_reduce.specs.KeptWords.{IsAtMostOf}
 use Rattle.confluence.specs.Reductions.{IsZero, IsReduced}
+use Rattle.confluence.proofs.Integers.{second_part}
 use Rattle.confluence.proofs.Led.{IsAtMostOf as IsAtMostIn}
-use Rattle.confluence.proofs.LedRules.{leds_of, polys_of-leds, leds_are}
+use Rattle.confluence.proofs.LedRules.{leds_are, ordered, Bounded, at_most_bounded, from_rest}
 use Rattle.confluence.proofs.Meets.{Allowed}
 use Rattle.confluence.proofs.Outside.{AnyRow}
-use Rattle.confluence.proofs.ReducibleLaws.{ordered}
-use Rattle.confluence.proofs.RuleRows.{Bounded, at_most_bounded, from_rest}
-use Rattle.confluence.proofs.Spans.{Coefs, Span, nothing, span_same}
-use Rattle.confluence.proofs.SumRows.{Numbered, span_from_numbered}
-use Rattle.confluence.proofs.TracedRows.{IsAsked, numbered_rows}
+
+-- each word to which the row multiplies its polynomial is as asked
+abbrev pub IsAsked : List (List Term) → (Word → Type 0) → Row → Type 0
+IsAsked polys Asked row = (w : Word) → coefficient_of (origin_poly [] polys row.from) w ≢ pos 0 → Asked (row.left ++ (w ++ row.right))
+
+module _ (polys : List (List Term)) (Asked : Word → Type 0) (count : ℕ) where
+  pub numbered_rows : (rows : List Row) → All (λ row. IsByRule count row.from) rows → All (IsAsked polys Asked) rows → Span (Numbered polys Asked) (coefficient_of (traced_sum [] polys rows))
+  numbered_rows [] by_rules asked = nothing _ (λ w. refl)
+  numbered_rows (row ∷ rows) by_rules asked =
+      go row.from refl (by_rules 0 row (omega arith)) (numbered_rows rows (All-tail (λ (r : Row). IsByRule count r.from) row rows by_rules) (All-tail (IsAsked polys Asked) row rows asked))
+    where
+      go : (x : Origin) → row.from ≡ x → IsByRule count row.from → Span (Numbered polys Asked) (coefficient_of (traced_sum [] polys rows)) → Span (Numbered polys Asked) (coefficient_of (traced_sum [] polys (row ∷ rows)))
+      go (origin.Generator n) is by_rule rest = absurd (subst (IsByRule count) is by_rule)
+      go (origin.Rule n) is by_rule rest =
+          more _ (coefficient_of (traced_sum [] polys rows)) (coefficient_of (poly_between row.left (generator_at polys n) row.right)) row.coef
+          (record { number = n; left = row.left; right = row.right; is = λ w. refl; asked = λ w some. asked 0 row (omega arith) w (subst (λ o. coefficient_of (origin_poly [] polys o) w ≢ pos 0) (sym is) some) })
+          rest
+          (λ w. coefficient_of-append (traced_poly [] polys row) (traced_sum [] polys rows) w ∙ ap (λ z. z +ℤ coefficient_of (traced_sum [] polys rows) w) (coefficient_of-multiple row.coef (poly_between row.left (origin_poly [] polys row.from) row.right) w ∙ ap (λ o. row.coef *ℤ coefficient_of (poly_between row.left (origin_poly [] polys o) row.right) w) is))
 
 -- the multiplier times the polynomial, less the rest
 abbrev pub reduced_part : List Term → State → Coefs
@@ -35,11 +55,8 @@ numbered_span letters compare rules p s reduced Asked asked =
     span_same (Numbered (polynomials_of rules) Asked) (coefficient_of (traced_sum [] (polynomials_of rules) s.rows)) (reduced_part p s)
     (numbered_rows (polynomials_of rules) Asked (length rules) s.rows reduced.by_rules
     (All-weaker (IsAsked (polynomials_of rules) (IsAtMostOf letters compare p)) (IsAsked (polynomials_of rules) Asked) (λ row each w some. asked (row.left ++ (w ++ row.right)) (each w some)) s.rows reduced.words.rows))
-    (λ w. moved (s.multiplier *ℤ coefficient_of p w) (coefficient_of s.rest w) (coefficient_of (traced_sum [] (polynomials_of rules) s.rows) w)
+    (λ w. second_part (s.multiplier *ℤ coefficient_of p w) (coefficient_of s.rest w) (coefficient_of (traced_sum [] (polynomials_of rules) s.rows) w)
     (sym (coefficient_of-multiple s.multiplier p w) ∙ reduced.balances.at w ∙ coefficient_of-append s.rest (traced_sum [] (polynomials_of rules) s.rows) w))
-  where
-    moved : (x a t : ℤ) → x ≡ a +ℤ t → x +ℤ neg_ℤ a ≡ t
-    moved x a t e = omega (arith, ints, e)
 
 module _ (letters : ℕ) (compare : Compare) (rank : List ℕ → List ℕ) (laws : IsAdmissible letters compare rank) where
   abbrev order : Order
@@ -56,9 +73,8 @@ module _ (letters : ℕ) (compare : Compare) (rank : List ℕ → List ℕ) (law
   module _ (rules : List Rule) (are : All (IsRule letters compare) rules) (q : Allowed order) (p : List Term) (s : State) (reduced : IsReduced letters compare rules p s) (bounded : Bounded order q p) where
     pub reduced_span : Span (AnyRow order (ordered letters compare rank laws rules are) q) (reduced_part p s)
     reduced_span =
-        span_from_numbered order (leds_of rules) (leds_are letters compare rank laws rules are) q Asked (λ u asked. asked) (reduced_part p s)
-        (subst (λ ps. Span (Numbered ps Asked) (reduced_part p s)) (sym (polys_of-leds rules))
-        (numbered_span letters compare rules p s reduced Asked (λ u most. at_most_bounded order q p bounded u (at_most_in p u most))))
+        span_from_numbered order rules (leds_are letters compare rank laws rules are) q Asked (λ u asked. asked) (reduced_part p s)
+        (numbered_span letters compare rules p s reduced Asked (λ u most. at_most_bounded order q p bounded u (at_most_in p u most)))
       where
         Asked : Word → Type 0
         Asked u = order.Range u × q.May u

@@ -1,16 +1,16 @@
--- What reductions by resolved rules leave.
-use Rattle.std.proofs.Common.{◌≡◌, ◌≢◌, ◌⊎◌, inl, inr, ℕ, ℤ, pos, negsuc, neg_ℤ, ◌+ℤ◌, ◌*ℤ◌, List, sym, subst, arith}
+-- What reductions by resolved rules leave; what is reduced to zero is in the rational ideal, and its ambiguity is resolved.
+use Rattle.std.proofs.Common.{◌≡◌, ◌≢◌, ◌⊎◌, inl, inr, ℕ, pos, negsuc, List, sym, subst, arith, ◌∙◌}
 use Rattle.std.specs.List.{All}
 use Rattle.std.proofs.lemmas.Int.{ints}
-use Rattle.definitions.specs.Poly.{Word, Term, coefficient_of}
+use Rattle.definitions.specs.Poly.{Word, Term, coefficient_of, SamePolynomial}
 use Rattle.word_core.specs.Letters.{IsOver}
 use Rattle.word_core.specs.Occurrence.{OccursNowhere}
-use Rattle.word_orders.specs.Admissible.{Compare}
-use Rattle.word_orders.specs.Orders.{Order, IsBelow}
+use Rattle.word_orders.specs.Admissible.{Compare, IsAdmissible}
+use Rattle.word_orders.specs.Orders.{Order}
 use Rattle.word_orders.proofs.Orders.{order_from_laws, below_less}
 use Rattle.rule_reduce.specs.declared.rule.Rule.{Rule}
 use Rattle.rule_reduce.specs.declared.state.State.{State}
-use Rattle.rule_reduce.specs.RuleLists.{polynomials_of}
+use Rattle.rule_reduce.specs.RuleLists.{polynomials_of, IsRule}
 use Rattle.rule_reduce.specs.Laws.{IsIrreducible}
 use Rattle.rule_reduce.specs.KeptWords.{IsAtMostOf}
 use Rattle.rule_reduce.proofs.Balance.{reductions_balance}
@@ -20,17 +20,23 @@ use Rattle.rule_reduce.proofs.Multipliers.{multipliers_are_positive}
 use Rattle.rule_reduce.proofs.Numbers.{rule_at-all}
 use Rattle.rule_reduce.proofs.RowsByRules.{rows_are_by_rules}
 use Rattle.rule_reduce.proofs.WordsKept.{words_with_coefficients}
-use Rattle.confluence.specs.Reductions.{IsNonzero, IsZero, IsReduced, NormalFormsAreReduced}
+use Rattle.confluence.specs.Reductions.{HasLettersBelow, IsNonzero, IsZero, IsReduced, NormalFormsAreReduced}
 use Rattle.confluence.specs.Reducible.{IsReducible, HasReducibleGreatest, RestsBelowAreZero, RestsOfIdealAreZero}
 use Rattle.confluence.proofs.Integers.{nonzero_or}
-use Rattle.confluence.proofs.Spans.{Span, span_same, span_add, span_scale}
-use Rattle.confluence.proofs.Outside.{span_word}
+use Rattle.confluence.proofs.Spans.{Span, span_same, span_add, span_scale, nothing}
+use Rattle.confluence.proofs.Outside.{span_word, AnyRow}
 use Rattle.confluence.proofs.Resolve.{below}
 use Rattle.confluence.proofs.SumRows.{Numbered, listed, combination_span, combination_from}
 use Rattle.confluence.proofs.FreeRows.{Free, in_ideal, ideal_span}
-use Rattle.confluence.proofs.ReducedSpans.{reduced_part, numbered_span}
-use Rattle.confluence.proofs.ResolvedOf.{comes_from_below, below_from_comes}
-use Rattle.confluence.proofs.ReducibleLaws.{ordered, below_span, reducible_below, reducible_in_ideal}
+use Rattle.confluence.proofs.ReducedSpans.{reduced_part, numbered_span, zero_rest_span}
+use Rattle.confluence.proofs.BelowSpans.{comes_from_below, below_from_comes, below_span, below_from_span}
+use Rattle.confluence.proofs.LedRules.{ordered, Bounded, bounded_from, from_rest}
+use Rattle.confluence.proofs.ReducibleLaws.{reducible_below, reducible_in_ideal}
+use Rattle.ambiguities.specs.declared.ambiguity.Ambiguity.{Ambiguity}
+use Rattle.ambiguities.specs.Ambiguities.{IsAmbiguity, overlap_word_of}
+use Rattle.ambiguities.specs.Resolved.{s_sum, IsResolved}
+use Rattle.confluence.specs.ZeroRests.{ZeroRestsAreInside, ZeroRestsAreResolved}
+use Rattle.confluence.proofs.MeetingsOf.{s_words_below}
 
 pub normal_forms_are_reduced : NormalFormsAreReduced
 normal_forms_are_reduced letters compare rank rules p steps s laws are shaped over ends = record {
@@ -46,6 +52,16 @@ pub not_reducible : (rules : List Rule) (p : List Term) → IsIrreducible rules 
 not_reducible rules p irreducible w some reducible =
     let nowhere = words_with_coefficients (λ v. All (λ g. OccursNowhere v g.lead) rules) p irreducible w some in
     rule_at-all (λ g. OccursNowhere w g.lead) rules reducible.number reducible.rule reducible.numbered nowhere reducible.place reducible.occurs
+
+-- the letters of the rest are those of the polynomial
+pub rest_over : (letters : ℕ) (compare : Compare) (rules : List Rule) (p : List Term) (s : State) → HasLettersBelow letters p → IsReduced letters compare rules p s
+    → HasLettersBelow letters s.rest
+rest_over letters compare rules p s over reduced = record {
+  at = λ w some. let most = reduced.words.rest w some in elim most.at_most [
+    | inl same ↦ subst (IsOver letters) (sym same) (over.at most.word most.occurs)
+    | inr below ↦ below.left
+  ];
+}
 
 module _ (letters : ℕ) (compare : Compare) (rules : List Rule) (p : List Term) (s : State) (reduced : IsReduced letters compare rules p s) where
   -- without a reducible greatest word the rest is zero
@@ -67,14 +83,7 @@ pub rests_of_ideal_are_zero : RestsOfIdealAreZero
 rests_of_ideal_are_zero letters compare rank rules p s laws are resolved inside over reduced =
     let polys = polynomials_of rules in
     let rest_inside = in_ideal polys s.rest (rest_span letters compare rules p s reduced Free (λ w most. tt) (ideal_span polys p inside)) in
-    zero_rest letters compare rules p s reduced (reducible_in_ideal letters compare rank rules s.rest laws are resolved rest_inside (record { at = λ w some. of_word w (reduced.words.rest w some) }))
-  where
-    of_word : (w : Word) → IsAtMostOf letters compare p w → IsOver letters w
-    of_word w most = go most.at_most
-      where
-        go : (w ≡ most.word) ⊎ IsBelow letters compare w most.word → IsOver letters w
-        go (inl same) = subst (IsOver letters) (sym same) (over.at most.word most.occurs)
-        go (inr below) = below.left
+    zero_rest letters compare rules p s reduced (reducible_in_ideal letters compare rank rules s.rest laws are resolved rest_inside (rest_over letters compare rules p s over reduced))
 
 pub rests_below_are_zero : RestsBelowAreZero
 rests_below_are_zero letters compare rank rules bound p s laws are resolved comes reduced =
@@ -95,8 +104,37 @@ rests_below_are_zero letters compare rank rules bound p s laws are resolved come
         pick (inr held) = held.1
 
     of_word : (w : Word) → IsAtMostOf letters compare p w → (order_from_laws letters compare rank laws).Less w bound
-    of_word w most = go most.at_most
-      where
-        go : (w ≡ most.word) ⊎ IsBelow letters compare w most.word → (order_from_laws letters compare rank laws).Less w bound
-        go (inl same) = subst (λ v. (order_from_laws letters compare rank laws).Less v bound) (sym same) (own most.word most.occurs)
-        go (inr less) = (order_from_laws letters compare rank laws).less_trans w most.word bound (below_less letters compare rank laws w most.word less) (own most.word most.occurs)
+    of_word w most = elim most.at_most [
+      | inl same ↦ subst (λ v. (order_from_laws letters compare rank laws).Less v bound) (sym same) (own most.word most.occurs)
+      | inr less ↦ (order_from_laws letters compare rank laws).less_trans w most.word bound (below_less letters compare rank laws w most.word less) (own most.word most.occurs)
+    ]
+
+pub zero_rests_are_inside : ZeroRestsAreInside
+zero_rests_are_inside letters compare rules p s reduced none =
+    in_ideal (polynomials_of rules) p
+    (from_rest (Numbered (polynomials_of rules) Free) p s.rest s.multiplier reduced.positive (numbered_span letters compare rules p s reduced Free (λ w most. tt)) (nothing (coefficient_of s.rest) none.at))
+
+module _ (letters : ℕ) (compare : Compare) (rank : List ℕ → List ℕ) (laws : IsAdmissible letters compare rank) (rules : List Rule) (are : All (IsRule letters compare) rules)
+    (a : Ambiguity) (is : IsAmbiguity rules a) (p : List Term) (same : SamePolynomial p (s_sum rules a)) where
+  abbrev order : Order
+  order = order_from_laws letters compare rank laws
+
+  -- the words of the S-polynomial are below the overlap word
+  pub s_bounded : Bounded order (below order (overlap_word_of rules a)) p
+  s_bounded = bounded_from order (below order (overlap_word_of rules a)) p (λ w some.
+      let less = below_less letters compare rank laws w (overlap_word_of rules a)
+      (s_words_below rules a is letters compare are rank laws w (λ none. some (same.at w ∙ none))) in
+      (order.less_range w _ less, less))
+
+  -- where the S-polynomial comes from the rules below the overlap word, the ambiguity is resolved
+  pub resolved_by : Span (AnyRow order (ordered letters compare rank laws rules are) (below order (overlap_word_of rules a))) (coefficient_of p) → IsResolved letters compare rules a
+  resolved_by sp = record {
+    ambiguity = is;
+    below = below_from_span letters compare rank laws rules are (overlap_word_of rules a) (s_sum rules a)
+        (span_same (AnyRow order (ordered letters compare rank laws rules are) (below order (overlap_word_of rules a))) (coefficient_of p) (coefficient_of (s_sum rules a)) sp (λ w. sym (same.at w)));
+  }
+
+pub zero_rests_are_resolved : ZeroRestsAreResolved
+zero_rests_are_resolved letters compare rank rules a p s laws are is same reduced none =
+    resolved_by letters compare rank laws rules are a is p same
+    (zero_rest_span letters compare rank laws rules are (below (order_from_laws letters compare rank laws) (overlap_word_of rules a)) p s reduced (s_bounded letters compare rank laws rules are a is p same) none)

@@ -20,8 +20,8 @@ use Rattle.rule_reduce.specs.RuleLists.{polynomials_of}
 use Rattle.rule_reduce.specs.Laws.{IsByRule}
 use Rattle.rule_reduce.specs.Steps.{multiplied_row}
 use Rattle.confluence.specs.Reductions.{IsReduced}
-use Rattle.confluence.proofs.Integers.{neg_ℤ-*ℤ}
-use Rattle.confluence.proofs.RuleRows.{coefficient_of-bare}
+use Rattle.confluence.proofs.Integers.{neg_ℤ-*ℤ, first_part}
+use Rattle.confluence.proofs.LedRules.{coefficient_of-bare}
 use Rattle.confluence.specs.Rests.{negated_row, negated_rows, generator_rows, rows_less, IsEarlier, AddsUpTo}
 
 -- the same rows over more rules
@@ -74,7 +74,7 @@ module _ (generators polys : List (List Term)) where
   abbrev row_at : Row → Word → ℤ
   row_at row w = coefficient_of (poly_between row.left (origin_poly generators polys row.from) row.right) w
 
-  traced-cons : (row : Row) (rows : List Row) (w : Word) → sum_at (row ∷ rows) w ≡ row.coef *ℤ row_at row w +ℤ sum_at rows w
+  pub traced-cons : (row : Row) (rows : List Row) (w : Word) → sum_at (row ∷ rows) w ≡ row.coef *ℤ row_at row w +ℤ sum_at rows w
   traced-cons row rows w =
       coefficient_of-append (traced_poly generators polys row) (traced_sum generators polys rows) w
       ∙ ap (λ z. z +ℤ sum_at rows w) (coefficient_of-multiple row.coef (poly_between row.left (origin_poly generators polys row.from) row.right) w)
@@ -124,11 +124,8 @@ less_adds_up letters compare generators start more p rows s adds reduced = recor
         traced-append generators (polynomials_of (start ++ more)) (map (multiplied_row s.multiplier) rows) (negated_rows s.rows) w
         ∙ ap₂ ◌+ℤ◌ (traced-multiplied generators (polynomials_of (start ++ more)) s.multiplier rows w ∙ ap (λ z. s.multiplier *ℤ z) (adds.sum.at w))
         (traced-negated generators (polynomials_of (start ++ more)) s.rows w ∙ ap (λ q. neg_ℤ (coefficient_of q w)) (traced_sum-by_rules generators start more s.rows reduced.by_rules))
-        ∙ left (s.multiplier *ℤ coefficient_of p w) (coefficient_of s.rest w) (coefficient_of (traced_sum [] (polynomials_of start) s.rows) w)
+        ∙ first_part (s.multiplier *ℤ coefficient_of p w) (coefficient_of s.rest w) (coefficient_of (traced_sum [] (polynomials_of start) s.rows) w)
         (sym (coefficient_of-multiple s.multiplier p w) ∙ reduced.balances.at w ∙ coefficient_of-append s.rest (traced_sum [] (polynomials_of start) s.rows) w)
-      where
-        left : (x a t : ℤ) → x ≡ a +ℤ t → x +ℤ neg_ℤ t ≡ a
-        left x a t e = omega (arith, ints, e)
 
 -- and so the rows of a generator
 pub generator_adds_up : (letters : ℕ) (compare : Compare) (generators : List (List Term)) (rules more : List Rule) (n : ℕ) (s : State)
@@ -150,8 +147,5 @@ generator_adds_up letters compare generators rules more n s first last reduced =
         traced-cons generators (polynomials_of (rules ++ more)) (record { coef = s.multiplier; left = []; from = origin.Generator n; right = [] }) (negated_rows s.rows) w
         ∙ ap₂ ◌+ℤ◌ (ap (λ z. s.multiplier *ℤ z) (coefficient_of-bare (generator_at generators n) w))
         (traced-negated generators (polynomials_of (rules ++ more)) s.rows w ∙ ap (λ q. neg_ℤ (coefficient_of q w)) (traced_sum-by_rules generators rules more s.rows reduced.by_rules))
-        ∙ left (s.multiplier *ℤ coefficient_of (generator_at generators n) w) (coefficient_of s.rest w) (coefficient_of (traced_sum [] (polynomials_of rules) s.rows) w)
+        ∙ first_part (s.multiplier *ℤ coefficient_of (generator_at generators n) w) (coefficient_of s.rest w) (coefficient_of (traced_sum [] (polynomials_of rules) s.rows) w)
         (sym (coefficient_of-multiple s.multiplier (generator_at generators n) w) ∙ reduced.balances.at w ∙ coefficient_of-append s.rest (traced_sum [] (polynomials_of rules) s.rows) w)
-      where
-        left : (x a t : ℤ) → x ≡ a +ℤ t → x +ℤ neg_ℤ t ≡ a
-        left x a t e = omega (arith, ints, e)

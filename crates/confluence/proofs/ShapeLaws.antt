@@ -1,41 +1,43 @@
--- Sums, multiples and moves that go well keep polynomials sorted and in range.
-use Rattle.std.proofs.Common.{◌≡◌, ◌≢◌, ◌⊎◌, inl, inr, ℕ, zero, suc, ℤ, pos, List, [], ◌∷◌, ◌++◌, get_or, Option, Some, None, Result, Ok, Err, refl, sym, ap, ◌∙◌, subst}
+-- What goes well keeps polynomials sorted and in range, and what does not go well is a fault that isn't want of memory.
+use Rattle.std.proofs.Common.{◌≡◌, ◌≢◌, ℕ, zero, suc, ℤ, pos, List, [], ◌∷◌, ◌++◌, Option, Some, None, Result, Ok, Err, refl, sym, ap, ◌∙◌, subst, ◌⊎◌, inl, inr, Bool, true, false, cond, length, nat_lt}
 use Rattle.std.specs.List.{All}
 use Rattle.coef_int.specs.declared.Overflow.{Overflow}
 use Rattle.coef_int.specs.Operations.{product_of, first_overflow}
-use Rattle.definitions.specs.Poly.{Word, Term, poly_between}
+use Rattle.definitions.specs.Poly.{Term, poly_between}
 use Rattle.definitions.specs.Combination.{generator_at}
 use Rattle.word_core.specs.Letters.{IsOver}
 use Rattle.word_orders.specs.Admissible.{Compare}
-use Rattle.word_orders.specs.Orders.{IsBelow}
 use Rattle.nc_polynomial.specs.declared.fault.PolyFault.{PolyFault}
 use Rattle.nc_polynomial.specs.declared.fault.PolyFault.TheVariants as fault
 use Rattle.nc_polynomial.specs.Terms.{IsDescending, scaled, multiplied, multiplications, negated, shifted, products, added, sums}
-use Rattle.nc_polynomial.specs.Faults.{checked, unless_overflow, sized}
-use Rattle.nc_polynomial.specs.Shape.{IsShaped}
+use Rattle.nc_polynomial.specs.Faults.{checked, unless_overflow, sized, size_fault, has_long_word, IsMemory}
+use Rattle.nc_polynomial.specs.Shape.{IsShaped, IsCanonical}
 use Rattle.nc_polynomial.specs.Arithmetic.{combined}
 use Rattle.nc_polynomial.specs.Product.{and_then}
 use Rattle.nc_polynomial.proofs.Around.{shaped-between}
 use Rattle.nc_polynomial.proofs.Chains.{or_first, first-append, ranged_multiply, shaped_scale, shaped_add, sized-value, finished-value}
 use Rattle.nc_polynomial.proofs.Distinct.{distinct-descending, words_listed}
-use Rattle.nc_polynomial.proofs.Products.{shaped_shift}
+use Rattle.nc_polynomial.proofs.Products.{shaped_shift, canonical_sized}
 use Rattle.nc_polynomial.proofs.Shapes.{IsDescending-from_recursion, recursion_from_IsDescending, descending-scaled, nonzero-scaled, shaped-negated}
 use Rattle.rule_reduce.specs.declared.rule.Rule.{Rule}
 use Rattle.rule_reduce.specs.declared.state.State.{State}
 use Rattle.rule_reduce.specs.declared.state.Choice.{Choice}
 use Rattle.rule_reduce.specs.declared.fault.ReduceFault.{ReduceFault}
-use Rattle.rule_reduce.specs.declared.fault.ReduceFault.TheVariants as halt
 use Rattle.rule_reduce.specs.RuleLists.{rule_at, polynomials_of, entries_of}
 use Rattle.rule_reduce.specs.Choices.{choice_of}
 use Rattle.rule_reduce.specs.Steps.{Move, moved, move_of, move_result, move_operations, row_operations, state_operations, less_operations, if_sized, step_by, step_result}
-use Rattle.rule_reduce.specs.NormalForms.{halt_of, then_next, at_limit, one_step, reduction, start_of}
-use Rattle.rule_reduce.specs.KeptWords.{IsAtMostOf}
+use Rattle.rule_reduce.specs.NormalForms.{halt_of, then_next, at_limit, one_step, reduction, start_of, normal_form_of}
 use Rattle.rule_reduce.proofs.Exits.{multiplied-scaled}
 use Rattle.rule_reduce.proofs.Runs.{move_result-value}
-use Rattle.ambiguities.specs.SPolynomials.{first_row, second_row, row_multiple}
+use Rattle.ambiguities.specs.SPolynomials.{first_row, second_row, row_multiple, s_polynomial_of}
 use Rattle.ambiguities.proofs.Multiples.{passed}
+use Rattle.confluence.proofs.Led.{led_or, poly_at}
+use Rattle.confluence.proofs.RestLaws.{rest_over}
 use Rattle.confluence.proofs.WrittenTerms.{shaped_as_written}
 use Rattle.confluence.specs.Shapes.{NormalFormsAreShaped, SPolynomialsAreShaped, RestsHaveLettersBelow}
+use Rattle.rule_reduce.specs.NormalForms as reduce
+use Rattle.ambiguities.specs.declared.ambiguity.Ambiguity.{Ambiguity}
+use Rattle.nc_polynomial.specs.Limits.{term_limit}
 
 -- no overflow
 no_error : {A E : Type 0} (x : A) (e : E) → ◌≡◌ {A = Result A E} (Err e) (Ok x) → ⊥
@@ -56,11 +58,10 @@ fits : {A : Type 0} (os : List Overflow) (x : A) → first_overflow os ≡ None 
 fits os x none = ap (λ o. unless_overflow o (Ok x)) none
 
 none_of : {A : Type 0} (os : List Overflow) (r : Result A PolyFault) (v : A) → unless_overflow (first_overflow os) r ≡ Ok v → first_overflow os ≡ None
-none_of os r v ends = go (first_overflow os) refl ends
-  where
-    go : (o : Option Overflow) → first_overflow os ≡ o → unless_overflow o r ≡ Ok v → first_overflow os ≡ None
-    go None at e = at
-    go (Some x) at e = absurd (no_error v (fault.Overflow x) e)
+none_of os r v ends = (elim (first_overflow os) as (λ o. first_overflow os ≡ o → unless_overflow o r ≡ Ok v → first_overflow os ≡ None) [
+  | None ↦ λ at e. at
+  | Some x ↦ λ at e. absurd (no_error v (fault.Overflow x) e)
+]) refl ends
 
 -- S-polynomials
 combined_shaped : (a : ℤ) (p : List Term) (b : ℤ) (q r : List Term) → IsShaped p → IsShaped q → combined a p b q ≡ Ok r → IsShaped r
@@ -74,19 +75,15 @@ combined_shaped a p b q r p_shaped q_shaped ends =
     (shaped_scale b q (scaled b q) q_shaped (fits (products b q) (scaled b q) two.first))
     (fits (sums (scaled a p) (scaled b q)) (added (scaled a p) (scaled b q)) two.rest))
 
-zero_is_shaped : IsShaped []
+pub zero_is_shaped : IsShaped []
 zero_is_shaped = shaped_as_written [] tt tt tt
 
 -- the polynomial of a rule, and zero where there is none
 rule_shaped : (rules : List Rule) (n : ℕ) → IsShaped (generator_at (polynomials_of rules) n)
-rule_shaped rules zero = zero_is_shaped
-rule_shaped [] (suc n) = subst IsShaped (sym (past n)) zero_is_shaped
-  where
-    past : (n : ℕ) → get_or {A = List Term} [] n [] ≡ []
-    past zero = refl
-    past (suc n) = refl
-rule_shaped (g ∷ rules) (suc zero) = g.poly.canonical.shaped
-rule_shaped (g ∷ rules) (suc (suc n)) = rule_shaped rules (suc n)
+rule_shaped rules n = subst IsShaped (sym (poly_at rules n)) (elim (rule_at rules n) as (λ o. IsShaped (led_or o).poly) [
+  | None ↦ zero_is_shaped
+  | Some g ↦ g.poly.canonical.shaped
+])
 
 pub s_polynomials_are_shaped : SPolynomialsAreShaped
 s_polynomials_are_shaped rules a p ends =
@@ -120,48 +117,113 @@ move_shaped m s t rule_is rest_is ends =
     (shaped_multiply s.rest m.by rest_is state.first) (shaped-negated (shifted m.times m.left m.rule m.right) taken)
     (fits (sums (multiplied s.rest m.by) (negated (shifted m.times m.left m.rule m.right))) (added (multiplied s.rest m.by) (negated (shifted m.times m.left m.rule m.right))) less.rest))
 
-step_shaped : (rules : List Rule) (c : Choice) (s t : State) → IsShaped s.rest → step_result rules c s ≡ Ok t → IsShaped t.rest
-step_shaped rules c s t shaped ends = go (rule_at rules c.number) ends
+-- a value with a property, or a fault that isn't want of memory
+abbrev pub Makes : {A : Type 0} → (A → Type 0) → Result A PolyFault → Type 0
+Makes P (Ok x) = P x
+Makes P (Err e) = IsMemory e → ⊥
+
+abbrev pub Gives : {A : Type 0} → (A → Type 0) → Result A ReduceFault → Type 0
+Gives P (Ok x) = P x
+Gives P (Err e) = reduce.IsMemory e → ⊥
+
+pub makes_too : {A : Type 0} (P Q : A → Type 0) (r : Result A PolyFault) → ((x : A) → r ≡ Ok x → P x → Q x) → Makes P r → Makes Q r
+makes_too P Q (Ok x) follows makes = follows x refl makes
+makes_too P Q (Err e) follows makes = makes
+
+pub gives_too : {A : Type 0} (P Q : A → Type 0) (r : Result A ReduceFault) → ((x : A) → r ≡ Ok x → P x → Q x) → Gives P r → Gives Q r
+gives_too P Q (Ok x) follows gives = follows x refl gives
+gives_too P Q (Err e) follows gives = gives
+
+-- polynomials
+abbrev IsSized : List Term → Type 0
+IsSized p = sized p ≡ Ok p
+
+sized_or_not : (p : List Term) → IsSized p ⊎ ((letters : Bool) × (sized p ≡ Err (size_fault letters)))
+sized_or_not p = go (has_long_word p) (nat_lt term_limit (length p))
   where
-    same : (x y : State) → ◌≡◌ {A = Result State PolyFault} (Ok x) (Ok y) → x ≡ y
-    same x y e = cc
+    go : (long many : Bool) → (cond long (Err (size_fault true)) (cond many (Err (size_fault false)) (Ok p)) ≡ Ok p)
+        ⊎ ((letters : Bool) × (cond long (Err (size_fault true)) (cond many (Err (size_fault false)) (Ok p)) ≡ Err (size_fault letters)))
+    go true many = inr (true, refl)
+    go false true = inr (false, refl)
+    go false false = inl refl
 
-    go : (o : Option Rule) → step_by o c s ≡ Ok t → IsShaped t.rest
-    go None e = subst (λ (u : State). IsShaped u.rest) (same s t e) shaped
-    go (Some g) e = move_shaped (move_of c g) s t g.poly.canonical.shaped shaped e
+sized_makes : (p : List Term) → Makes IsSized (sized p)
+sized_makes p = elim (sized_or_not p) [
+  | inl within ↦ subst (Makes IsSized) (sym within) within
+  | inr (letters, large) ↦ subst (Makes IsSized) (sym large) (λ memory. memory)
+]
 
-reduction_shaped : (compare : Compare) (rules : List Rule) (limit n : ℕ) (s t : State) → IsShaped s.rest → reduction limit compare rules n s ≡ Ok t → IsShaped t.rest
-reduction_shaped compare rules limit zero s t shaped ends = go (choice_of compare (entries_of rules) s.rest) ends
-  where
-    same : (x y : State) → ◌≡◌ {A = Result State ReduceFault} (Ok x) (Ok y) → x ≡ y
-    same x y e = cc
+overflow_makes : {A : Type 0} (P : A → Type 0) (o : Option Overflow) (r : Result A PolyFault) → Makes P r → Makes P (unless_overflow o r)
+overflow_makes P None r makes = makes
+overflow_makes P (Some o) r makes = λ memory. memory
 
-    go : (o : Option Choice) → at_limit limit o s ≡ Ok t → IsShaped t.rest
-    go None e = subst (λ (u : State). IsShaped u.rest) (same s t e) shaped
-    go (Some c) e = absurd (no_error t (halt.Steps limit) e)
-reduction_shaped compare rules limit (suc n) s t shaped ends = go (choice_of compare (entries_of rules) s.rest) (reduction_shaped compare rules limit n) ends
-  where
-    same : (x y : State) → ◌≡◌ {A = Result State ReduceFault} (Ok x) (Ok y) → x ≡ y
-    same x y e = cc
+then_makes : (P Q : List Term → Type 0) (r : Result (List Term) PolyFault) (next : List Term → Result (List Term) PolyFault) → Makes P r → ((p : List Term) → P p → Makes Q (next p)) → Makes Q (and_then r next)
+then_makes P Q (Ok p) next makes later = later p makes
+then_makes P Q (Err e) next makes later = makes
 
-    go : (o : Option Choice) → ((u v : State) → IsShaped u.rest → reduction limit compare rules n u ≡ Ok v → IsShaped v.rest) → one_step rules o s (reduction limit compare rules n) ≡ Ok t → IsShaped t.rest
-    go None later e = subst (λ (u : State). IsShaped u.rest) (same s t e) shaped
-    go (Some c) later e = stepped (step_result rules c s) refl e
+-- S-polynomials
+combined_makes : (a : ℤ) (p : List Term) (b : ℤ) (q : List Term) → Makes IsSized (combined a p b q)
+combined_makes a p b q =
+    overflow_makes IsSized (first_overflow (products a p ++ (products b q ++ sums (scaled a p) (scaled b q)))) (sized (added (scaled a p) (scaled b q))) (sized_makes (added (scaled a p) (scaled b q)))
+
+pub s_polynomial_makes : (rules : List Rule) (a : Ambiguity) → Makes IsCanonical (s_polynomial_of rules a)
+s_polynomial_makes rules a =
+    makes_too IsSized IsCanonical (s_polynomial_of rules a) (λ p is within. canonical_sized p p (s_polynomials_are_shaped rules a p is) within)
+    (then_makes IsSized IsSized (row_multiple rules (first_row rules a)) (λ p. and_then (row_multiple rules (second_row rules a)) (λ q. combined (first_row rules a).coef p (second_row rules a).coef q))
+    (sized_makes (poly_between (first_row rules a).left (generator_at (polynomials_of rules) a.i) (first_row rules a).right)) (λ p _.
+    then_makes IsSized IsSized (row_multiple rules (second_row rules a)) (λ q. combined (first_row rules a).coef p (second_row rules a).coef q)
+    (sized_makes (poly_between (second_row rules a).left (generator_at (polynomials_of rules) a.j) (second_row rules a).right)) (λ q _.
+    combined_makes (first_row rules a).coef p (second_row rules a).coef q)))
+
+-- reductions
+move_makes : (m : Move) (s : State) → Makes (λ t. IsSized t.rest) (move_result m s)
+move_makes m s = overflow_makes (λ t. IsSized t.rest) (first_overflow (move_operations m s)) (if_sized (sized (moved m s).rest) (moved m s)) (elim (sized_or_not (moved m s).rest) [
+  | inl within ↦ subst (λ r. Makes (λ t. IsSized t.rest) (if_sized r (moved m s))) (sym within) within
+  | inr (letters, large) ↦ subst (λ r. Makes (λ t. IsSized t.rest) (if_sized r (moved m s))) (sym large) (λ memory. memory)
+])
+
+halt_memory : (e : PolyFault) → reduce.IsMemory (halt_of e) → IsMemory e
+halt_memory (fault.Overflow o) memory = memory
+halt_memory (fault.Size s) memory = memory
+halt_memory (fault.Memory e) memory = memory
+
+module _ (first : List Term) where
+  -- It is sorted and in range, and it is what there was at first, or within the limits.
+  abbrev IsKept : State → Type 0
+  IsKept s = IsShaped s.rest × ((s.rest ≡ first) ⊎ IsSized s.rest)
+
+  step_makes : (o : Option Rule) (c : Choice) (s : State) → IsKept s → Makes IsKept (step_by o c s)
+  step_makes None c s kept = kept
+  step_makes (Some g) c s kept = makes_too (λ t. IsSized t.rest) IsKept (move_result (move_of c g) s)
+      (λ t is within. (move_shaped (move_of c g) s t g.poly.canonical.shaped kept.0 is, inr within)) (move_makes (move_of c g) s)
+
+  next_gives : (r : Result State PolyFault) (next : State → Result State ReduceFault) → Makes IsKept r → ((s : State) → IsKept s → Gives IsKept (next s)) → Gives IsKept (then_next r next)
+  next_gives (Ok s) next makes later = later s makes
+  next_gives (Err e) next makes later = λ memory. makes (halt_memory e memory)
+
+  module _ (compare : Compare) (rules : List Rule) (limit : ℕ) where
+    reduction_gives : (n : ℕ) (s : State) → IsKept s → Gives IsKept (reduction limit compare rules n s)
+    reduction_gives zero s kept = elim (choice_of compare (entries_of rules) s.rest) as (λ o. Gives IsKept (at_limit limit o s)) [
+      | None ↦ kept
+      | Some c ↦ λ memory. memory
+    ]
+    reduction_gives (suc n) s kept = go (choice_of compare (entries_of rules) s.rest) (reduction_gives n)
       where
-        stepped : (r : Result State PolyFault) → step_result rules c s ≡ r → then_next r (reduction limit compare rules n) ≡ Ok t → IsShaped t.rest
-        stepped (Ok u) went k = later u t (step_shaped rules c s u shaped went) k
-        stepped (Err x) went k = absurd (no_error t (halt_of x) k)
+        go : (o : Option Choice) → ((t : State) → IsKept t → Gives IsKept (reduction limit compare rules n t)) → Gives IsKept (one_step rules o s (reduction limit compare rules n))
+        go None later = kept
+        go (Some c) later = next_gives (step_result rules c s) (reduction limit compare rules n) (step_makes (rule_at rules c.number) c s kept) later
 
 pub normal_forms_are_shaped : NormalFormsAreShaped
-normal_forms_are_shaped compare rules p steps s shaped ends = reduction_shaped compare rules steps steps (start_of p) s shaped ends
+normal_forms_are_shaped compare rules p steps s shaped ends = (subst (Gives (IsKept p)) ends (reduction_gives p compare rules steps steps (start_of p) (shaped, inl refl))).0
+
+pub normal_form_gives : (compare : Compare) (rules : List Rule) (p : List Term) (steps : ℕ) → IsCanonical p → Gives (λ s. IsCanonical s.rest) (normal_form_of compare rules p steps)
+normal_form_gives compare rules p steps canonical =
+    gives_too (IsKept p) (λ s. IsCanonical s.rest) (normal_form_of compare rules p steps) (λ s is kept. elim kept.1 [
+      | inl same ↦ subst IsCanonical (sym same) canonical
+      | inr within ↦ canonical_sized s.rest s.rest kept.0 within
+    ]) (reduction_gives p compare rules steps steps (start_of p) (canonical.shaped, inl refl))
 
 pub rests_have_letters_below : RestsHaveLettersBelow
 rests_have_letters_below letters compare rules p s over reduced shaped =
-    words_listed (IsOver letters) s.rest (distinct-descending s.rest (recursion_from_IsDescending s.rest shaped.descending)) shaped.nonzero (λ w some. of_word w (reduced.words.rest w some))
-  where
-    of_word : (w : Word) → IsAtMostOf letters compare p w → IsOver letters w
-    of_word w most = go most.at_most
-      where
-        go : (w ≡ most.word) ⊎ IsBelow letters compare w most.word → IsOver letters w
-        go (inl same) = subst (IsOver letters) (sym same) (over.at most.word most.occurs)
-        go (inr below) = below.left
+    words_listed (IsOver letters) s.rest (distinct-descending s.rest (recursion_from_IsDescending s.rest shaped.descending)) shaped.nonzero
+    (rest_over letters compare rules p s over reduced).at

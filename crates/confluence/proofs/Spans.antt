@@ -1,10 +1,9 @@
 -- What some positive multiple is a sum of multiples of given polynomials, by coefficients.
-use Rattle.std.proofs.Common.{◌≡◌, ℕ, ◌<◌, sym, ap, ◌∙◌, List, ℤ, pos, ◌+ℤ◌, ◌*ℤ◌}
+use Rattle.std.proofs.Common.{◌≡◌, ℕ, ◌<◌, refl, sym, ap, ◌∙◌, ℤ, pos, ◌+ℤ◌, ◌*ℤ◌, arith}
+use Rattle.std.proofs.lemmas.Int.{ints}
+use Rattle.definitions.specs.Poly.{Word}
 use Rattle.std.proofs.Math.IntN.{*ℤ_comm, +ℤ_assoc, *ℤ-zero, +ℤ_idl}
 use Rattle.definitions.proofs.Integers.{*ℤ-+ℤ, *ℤ_assoc}
-
-abbrev pub Word : Type 0
-Word = List ℕ
 
 -- the coefficients of a polynomial
 abbrev pub Coefs : Type 0
@@ -34,8 +33,5 @@ span_add Base _ g (nothing f h) hg = span_same Base g _ hg (λ w. ap (λ x. x +�
 span_add Base _ g (more f k b c hb hk h) hg = more _ (λ w. k w +ℤ g w) b c hb (span_add Base k g hk hg) (λ w. ap (λ x. x +ℤ g w) (h w) ∙ +ℤ_assoc (c *ℤ b w) (k w) (g w))
 span_add Base _ g (part f k e pe hk h) hg = part _ (λ w. k w +ℤ pos e *ℤ g w) e pe (span_add Base k (λ w. pos e *ℤ g w) hk (span_scale Base (pos e) g hg)) (λ w. ap (λ x. x +ℤ pos e *ℤ g w) (h w) ∙ sym (*ℤ-+ℤ (pos e) (f w) (g w)))
 
--- where each of the one kind is in the span of the other
-pub span_bind : (Base Other : Coefs → Type 0) → ((b : Coefs) → Base b → Span Other b) → (f : Coefs) → Span Base f → Span Other f
-span_bind Base Other each _ (nothing f h) = nothing f h
-span_bind Base Other each _ (more f g b c hb hg h) = span_same Other (λ w. c *ℤ b w +ℤ g w) f (span_add Other (λ w. c *ℤ b w) g (span_scale Other c b (each b hb)) (span_bind Base Other each g hg)) h
-span_bind Base Other each _ (part f g e pe hg h) = part f g e pe (span_bind Base Other each g hg) h
+pub single : (Base : Coefs → Type 0) (b : Coefs) → Base b → Span Base b
+single Base b h = more b (λ _. pos 0) b (pos 1) h (nothing _ (λ _. refl)) (λ w. omega (arith, ints))

@@ -1,10 +1,10 @@
 -- Typed rules in play make typed rules in play.
-use Rattle.std.proofs.Common.{◌≡◌, ◌≢◌, ◌⊎◌, inl, inr, ◌<◌, ℕ, ℤ, pos, ◌<ℤ◌, Bool, List, [], ◌∷◌, ◌++◌, length, take, drop, Some, sym, ap, ◌∙◌, subst, arith}
+use Rattle.std.proofs.Common.{◌≡◌, ◌≢◌, inl, inr, ◌<◌, ℕ, pos, Bool, List, [], ◌∷◌, ◌++◌, length, take, drop, Some, sym, ◌∙◌, subst, arith}
 use Rattle.std.specs.List.{All, list_all}
 use Rattle.std.proofs.lemmas.Bool.{and_parts, and_from}
 use Rattle.std.proofs.lemmas.Int.{ints}
 use Rattle.std.proofs.lemmas.List.{take-append-drop}
-use Rattle.std.proofs.lemmas.List.Elements.{All-append, All-cons, All-nil, All-weaker}
+use Rattle.std.proofs.lemmas.List.Elements.{All-weaker, All-push}
 use Rattle.std.proofs.lemmas.List.Folds.{list_all-append}
 use Rattle.definitions.specs.Poly.{Word, Term, coefficient_of, poly_between}
 use Rattle.definitions.specs.Quiver.{Quiver, IsPath}
@@ -26,13 +26,11 @@ use Rattle.ambiguities.proofs.Bounds.{of_either, coefficient_of-s_polynomial}
 use Rattle.ambiguities.proofs.Joined.{overlap_word-is, first_splits, second_splits}
 use Rattle.ambiguities.proofs.Multiples.{leading_coefficient}
 use Rattle.ambiguities.proofs.Signatures.{s_polynomials_are_typed}
-use Rattle.confluence.proofs.FreeRows.{between_word}
-use Rattle.confluence.proofs.Integers.{nonzero_or}
-use Rattle.confluence.proofs.Outside.{coefficient_of-between_at}
+use Rattle.confluence.proofs.Shifts.{between_word}
 use Rattle.confluence.specs.Rests.{signed, IsMadeOf, nothing_left, rule_made}
 use Rattle.confluence.specs.Typed.{IsTypedInPlay, AreTypedInPlay, NormalFormsStayTyped, SPolynomialsStayTyped, RulesStayTyped, TypedHasNoEmptyWord}
-use Rattle.confluence.proofs.MadeSpans.{cancel_nonzero}
-use Rattle.confluence.proofs.Appending.{signed_nonzero}
+use Rattle.confluence.proofs.MoreRules.{cancel_nonzero}
+use Rattle.confluence.proofs.Steps.{signed_nonzero}
 
 typed_rules : (q : Quiver) (play : ℕ → Bool) (rules : List Rule) → AreTypedInPlay q play rules → All (IsTypedRule q) rules
 typed_rules q play rules typed = All-weaker (λ (g : Rule). IsTypedInPlay q play g.poly.terms) (IsTypedRule q) (λ g is. record { source = is.source; target = is.target; typed = is.typed }) rules typed
@@ -60,18 +58,14 @@ lead_in_play play letters compare g is in_play = in_play.at g.lead (λ none. (om
 
 -- words of l g r, where l lead r is in play
 between_in_play : (play : ℕ → Bool) (g : Rule) (l r : Word) → IsPolyInPlay play g.poly.terms → IsInPlay play (l ++ (g.lead ++ r)) → (w : Word) → coefficient_of (poly_between l g.poly.terms r) w ≢ pos 0 → IsInPlay play w
-between_in_play play g l r in_play whole w some = go (between_word l r g.poly.terms w)
+between_in_play play g l r in_play whole w some = elim (between_word l r g.poly.terms w) [
+  | inl none ↦ absurd (some none)
+  | inr (v, is, occurs) ↦ subst (IsInPlay play) (sym is)
+      (joined_in_play play l (v ++ r) outer.0 (joined_in_play play v r (in_play.at v occurs) (parts_in_play play g.lead r outer.1).1))
+]
   where
     outer : IsInPlay play l × IsInPlay play (g.lead ++ r)
     outer = parts_in_play play l (g.lead ++ r) whole
-
-    of_word : (v : Word) → w ≡ l ++ (v ++ r) → (coefficient_of g.poly.terms v ≡ pos 0) ⊎ (coefficient_of g.poly.terms v ≢ pos 0) → IsInPlay play w
-    of_word v is (inl none) = absurd (some (ap (coefficient_of (poly_between l g.poly.terms r)) is ∙ coefficient_of-between_at l r g.poly.terms v ∙ none))
-    of_word v is (inr occurs) = subst (IsInPlay play) (sym is) (joined_in_play play l (v ++ r) outer.0 (joined_in_play play v r (in_play.at v occurs) (parts_in_play play g.lead r outer.1).1))
-
-    go : (coefficient_of (poly_between l g.poly.terms r) w ≡ pos 0) ⊎ ((v : Word) × (w ≡ l ++ (v ++ r))) → IsInPlay play w
-    go (inl none) = absurd (some none)
-    go (inr (v, is)) = of_word v is (nonzero_or (coefficient_of g.poly.terms v))
 
 -- the letters of the overlap word are letters of the two leading words
 module _ (q : Quiver) (play : ℕ → Bool) (letters : ℕ) (compare : Compare) (rules : List Rule) (are : All (IsRule letters compare) rules) (typed : AreTypedInPlay q play rules) where
@@ -123,7 +117,7 @@ pub rules_stay_typed : RulesStayTyped
 rules_stay_typed q play letters compare rest rows rules made rules_after made_after typed rest_typed (nothing_left none rules_same made_same) = subst (AreTypedInPlay q play) (sym rules_same) typed
 rules_stay_typed q play letters compare rest rows rules made rules_after made_after typed rest_typed (rule_made g m is rules_are made_are) =
     let P = λ (f : Rule). IsTypedInPlay q play f.poly.terms in
-    subst (AreTypedInPlay q play) (sym rules_are) (All-append P rules (g ∷ []) typed (All-cons P g [] (made_typed q play letters compare rest rows g m rest_typed is) (All-nil P)))
+    subst (AreTypedInPlay q play) (sym rules_are) (All-push P rules g typed (made_typed q play letters compare rest rows g m rest_typed is))
 
 pub typed_has_no_empty_word : TypedHasNoEmptyWord
 typed_has_no_empty_word q play p typed = record { at = λ w some. letters_in w (typed.typed.at w some) }

@@ -1,5 +1,5 @@
 -- The category of the normal forms of resolved rules, and what is zero in it.
-use Rattle.std.proofs.Common.{◌≡◌, ◌≢◌, ℕ, ◌<◌, pos, Bool, true, not, List, [], ◌∷◌, ◌++◌, Some, refl, sym, ap, ◌∙◌, subst, arith, true≢false, ltb, ltb-true}
+use Rattle.std.proofs.Common.{◌≡◌, ◌≢◌, ℕ, ◌<◌, pos, Bool, true, not, List, [], ◌∷◌, ◌++◌, refl, sym, ap, ◌∙◌, subst, arith, true≢false, ltb, ltb-true}
 use Rattle.std.proofs.lemmas.Bool.{and_parts}
 use Rattle.std.proofs.lemmas.Bool.Decides.{Decides-int_eq}
 use Rattle.std.proofs.lemmas.Int.{ints}
@@ -21,21 +21,19 @@ use Rattle.word_orders.proofs.Over.{IsOver-append}
 use Rattle.quiver.specs.Declarations.{letter_count, quiver_of}
 use Rattle.quiver.proofs.Counts.{letters-quiver_of}
 use Rattle.rule_reduce.specs.declared.rule.Rule.{Rule}
-use Rattle.rule_reduce.specs.RuleLists.{IsRule, rule_at, polynomials_of}
+use Rattle.rule_reduce.specs.RuleLists.{IsRule, polynomials_of}
 use Rattle.rule_reduce.proofs.Numbers.{rule_at-all}
 use Rattle.adjoint_rules.specs.declared.parts.Parts.{Parts}
 use Rattle.adjoint_rules.specs.Problem.{numbers, is_in_play, polynomials, generators_in}
 use Rattle.adjoint_rules.proofs.Generators.{posed_quiver, marked_are_objects, assumptions_have_signatures}
 use Rattle.confluence.specs.Typed.{IsTypedInPlay}
-use Rattle.confluence.proofs.Led.{HasLed, led_at, polys_of, Comes}
-use Rattle.confluence.proofs.LedRules.{led_of, led_is, leds_of, polys_of-leds, led_at-is, rule_of_number, leds_are}
+use Rattle.confluence.proofs.Led.{HasLed, led_at, led_of, led_at-is}
+use Rattle.confluence.proofs.LedRules.{led_is, leds_are, parted, is_lower, all_words_filtered}
 use Rattle.confluence.proofs.Spans.{Span}
-use Rattle.confluence.proofs.Parts.{parted, is_lower, all_words_filtered}
 use Rattle.confluence.proofs.Resolve.{everything}
 use Rattle.confluence.proofs.Resolved.{all_resolved}
-use Rattle.confluence.proofs.ResolvedOf.{meetings_all}
 use Rattle.confluence.proofs.FreeRows.{Free, ideal_span, free_span}
-use Rattle.confluence.proofs.SumRows.{Numbered, comes_from_span}
+use Rattle.confluence.proofs.SumRows.{comes_from_span}
 use Rattle.normal_forms.specs.Descents.{all_grounded}
 use Rattle.normal_forms.specs.NormalForms.{IsBasis, normal_forms, forms_representation}
 use Rattle.normal_forms.specs.SharpMeans.{SharpMeans}
@@ -89,52 +87,47 @@ module _ (p : Parts) (rules : List Rule) (b : IsBasis p rules) where
       (ltb-true a (letter_count p.quiver) (and_parts (ltb a (letter_count p.quiver)) _ each.0).0) (play_over w each.1)
 
   -- the rules are typed and in play
-  rule_typed : (i : ℕ) → HasLed (leds_of rules) i → IsTypedRule q play (parted (led_at (leds_of rules) i))
-  rule_typed i has = go (rule_of_number rules i has)
+  rule_typed : (i : ℕ) → HasLed rules i → IsTypedRule q play (parted (led_at rules i))
+  rule_typed i (g, numbered) = subst (λ r. IsTypedRule q play (parted r)) (sym (led_at-is rules i g numbered)) (record {
+    source = is.source;
+    target = is.target;
+    lead_path = is.typed.at g.lead lead_occurs;
+    lead_plays = plays_from_test play g.lead (is.in_play.at g.lead lead_occurs);
+    tail = all_words_filtered (λ w. (is_path q is.source is.target w ≡ true) × AllPlay play w) (is_lower (led_of g)) g.poly.terms
+        (λ w lower. let some = occurs w lower in (is.typed.at w some, plays_from_test play w (is.in_play.at w some)));
+  })
     where
-      go : ((g : Rule) × (rule_at rules i ≡ Some g)) → IsTypedRule q play (parted (led_at (leds_of rules) i))
-      go (g, numbered) = subst (λ r. IsTypedRule q play (parted r)) (sym (led_at-is rules i g numbered)) (record {
-        source = is.source;
-        target = is.target;
-        lead_path = is.typed.at g.lead lead_occurs;
-        lead_plays = plays_from_test play g.lead (is.in_play.at g.lead lead_occurs);
-        tail = all_words_filtered (λ w. (is_path q is.source is.target w ≡ true) × AllPlay play w) (is_lower (led_of g)) g.poly.terms
-            (λ w lower. let some = occurs w lower in (is.typed.at w some, plays_from_test play w (is.in_play.at w some)));
-      })
-        where
-          is : IsTypedInPlay q play g.poly.terms
-          is = rule_at-all (λ f. IsTypedInPlay q play f.poly.terms) rules i g numbered b.typed
+      is : IsTypedInPlay q play g.poly.terms
+      is = rule_at-all (λ f. IsTypedInPlay q play f.poly.terms) rules i g numbered b.typed
 
-          lead_occurs : coefficient_of g.poly.terms g.lead ≢ pos 0
-          lead_occurs zero =
-              let led = led_is (letter_count p.quiver) (asked_cmp p.order) order_rank (asked_cmp-admissible (letter_count p.quiver) p.order) g
-              (rule_at-all (IsRule (letter_count p.quiver) (asked_cmp p.order)) rules i g numbered b.are_rules) in
-              let none : pos (led_of g).leading ≡ pos 0 = sym led.at_lead ∙ zero in
-              absurd (omega (arith, ints, none, led.positive))
+      lead_occurs : coefficient_of g.poly.terms g.lead ≢ pos 0
+      lead_occurs zero =
+          let led = led_is (letter_count p.quiver) (asked_cmp p.order) order_rank (asked_cmp-admissible (letter_count p.quiver) p.order) g
+          (rule_at-all (IsRule (letter_count p.quiver) (asked_cmp p.order)) rules i g numbered b.are_rules) in
+          let none : pos (led_of g).leading ≡ pos 0 = sym led.at_lead ∙ zero in
+          absurd (omega (arith, ints, none, led.positive))
 
-          occurs : (w : Word) → is_lower (led_of g) w ≡ true → coefficient_of g.poly.terms w ≢ pos 0
-          occurs w lower zero =
-              let parts = and_parts (not (word_eq g.lead w)) (not (int_eq (coefficient_of g.poly.terms w) (pos 0))) lower in
-              true≢false (sym parts.1 ∙ ap not ((Decides-int_eq (coefficient_of g.poly.terms w) (pos 0)).1 zero))
+      occurs : (w : Word) → is_lower (led_of g) w ≡ true → coefficient_of g.poly.terms w ≢ pos 0
+      occurs w lower zero =
+          let parts = and_parts (not (word_eq g.lead w)) (not (int_eq (coefficient_of g.poly.terms w) (pos 0))) lower in
+          true≢false (sym parts.1 ∙ ap not ((Decides-int_eq (coefficient_of g.poly.terms w) (pos 0)).1 zero))
 
   -- what is in the rational ideal is a sum of rows over the rules
   ideal_rows : {f : List Term} → HasSignature q f → InRationalIdeal (polynomials_of rules) f
       → Span (AnyRow (word_order p rules b.are_rules) (word_rules p rules b.are_rules)) (coefficient_of f)
-  ideal_rows {f} typed inside = free_span (word_order p rules b.are_rules) (leds_of rules)
+  ideal_rows {f} typed inside = free_span (word_order p rules b.are_rules) rules
       (leds_are (letter_count p.quiver) (asked_cmp p.order) order_rank (asked_cmp-admissible (letter_count p.quiver) p.order) rules b.are_rules) f
       (λ w some. path_range typed.source typed.target w (typed.typed.at w some))
-      (subst (λ ps. Span (Numbered ps Free) (coefficient_of f)) (sym (polys_of-leds rules)) (ideal_span (polynomials_of rules) f inside))
+      (ideal_span (polynomials_of rules) f inside)
 
   -- and back
   rows_ideal : (f : List Term) → Span (AnyRow (word_order p rules b.are_rules) (word_rules p rules b.are_rules)) (coefficient_of f)
       → InRationalIdeal (polynomials_of rules) f
-  rows_ideal f rows = subst (λ ps. InRationalIdeal ps f) (polys_of-leds rules) (from_comes
-      (comes_from_span (word_order p rules b.are_rules) (leds_of rules)
+  rows_ideal f rows =
+      let c = comes_from_span (word_order p rules b.are_rules) rules
       (leds_are (letter_count p.quiver) (asked_cmp p.order) order_rank (asked_cmp-admissible (letter_count p.quiver) p.order) rules b.are_rules)
-      (everything (word_order p rules b.are_rules)) Free (λ u range any. tt) f rows))
-    where
-      from_comes : Comes (polys_of (leds_of rules)) Free f → InRationalIdeal (polys_of (leds_of rules)) f
-      from_comes c = record { denominator = c.multiplier; rows = c.rows; combination = c.combination }
+      (everything (word_order p rules b.are_rules)) Free (λ u range any. tt) f rows in
+      record { denominator = c.multiplier; rows = c.rows; combination = c.combination }
 
   abbrev Inside : List Term → Type 0
   Inside = InRationalIdeal (polynomials_of rules)
@@ -158,11 +151,9 @@ module _ (p : Parts) (rules : List Rule) (b : IsBasis p rules) where
         count_is = sym (letters-quiver_of p.quiver);
         normal_is = normal_form_is rationals (letter_count p.quiver) (asked_cmp p.order) order_rank
             (asked_cmp-admissible (letter_count p.quiver) p.order) rules b.are_rules (all_grounded (letter_count p.quiver) p.order);
-        resolved = all_resolved (word_order p rules b.are_rules) (leds_of rules)
-            (leds_are (letter_count p.quiver) (asked_cmp p.order) order_rank (asked_cmp-admissible (letter_count p.quiver) p.order) rules b.are_rules)
-            (everything (word_order p rules b.are_rules))
-            (λ a word after before behind m any. meetings_all (letter_count p.quiver) (asked_cmp p.order) order_rank
-            (asked_cmp-admissible (letter_count p.quiver) p.order) rules b.are_rules b.resolved a word after before behind m);
+        resolved = all_resolved
+            (letter_count p.quiver) (asked_cmp p.order) order_rank (asked_cmp-admissible (letter_count p.quiver) p.order) rules b.are_rules
+            (everything (word_order p rules b.are_rules)) (λ a is any. b.resolved.each a is);
         join = λ u v one other. in_range (u ++ v) (IsOver-append (letter_count p.quiver) u v (over_from u one) (over_from v other));
         is_quiver = quiver;
         play_range = λ w each. in_range w (play_over w each);

@@ -148,11 +148,10 @@ module _ {Object Arrow : Type 0} {s : Structure Object Arrow} (laws : Preadditiv
       (leads-star q quiver v a first.letter first.target))
 
   path_back : (u v : ℕ) (w : List ℕ) → is_path q v u (adjoint_word q w) ≡ is_path q u v w
-  path_back u v w = go (is_path q u v w) refl
-    where
-      go : (b : Bool) → is_path q u v w ≡ b → is_path q v u (adjoint_word q w) ≡ is_path q u v w
-      go true e = is_path-adjoint_word q quiver u v w e ∙ sym e
-      go false e = false_from_ne_true _ (λ h. true≢false (sym (is_path-from_adjoint_word q quiver u v w h) ∙ e)) ∙ sym e
+  path_back u v w = (elim (is_path q u v w) as (λ b. is_path q u v w ≡ b → is_path q v u (adjoint_word q w) ≡ is_path q u v w) [
+    | true ↦ λ e. is_path-adjoint_word q quiver u v w e ∙ sym e
+    | false ↦ λ e. false_from_ne_true _ (λ h. true≢false (sym (is_path-from_adjoint_word q quiver u v w h) ∙ e)) ∙ sym e
+  ]) refl
 
   pub value_back : (u v : ℕ) (p : Poly) → (value_at (both_ways s) q g u v p).1 ≡ value_at s q f v u (adjoint_poly q p)
   value_back u v [] = refl

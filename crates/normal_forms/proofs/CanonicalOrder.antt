@@ -16,12 +16,11 @@ from_test Equal e = absurd (cc)
 from_test Greater e = absurd (cc)
 
 pub before_total : (v w : Word) → (v ≡ w) ⊎ ((comes_before v w ≡ true) ⊎ (comes_before w v ≡ true))
-before_total v w = go (word_cmp v w) refl
-  where
-    go : (x : Ordering) → word_cmp v w ≡ x → (v ≡ w) ⊎ ((comes_before v w ≡ true) ⊎ (comes_before w v ≡ true))
-    go Less e = inr (inl (ap is_lt e))
-    go Equal e = inl ((word_cmp-admissible 0).same v w e)
-    go Greater e = inr (inr (ap is_lt (word_cmp_total.antisymm w v ∙ ap ordering_reverse e)))
+before_total v w = (elim (word_cmp v w) as (λ x. word_cmp v w ≡ x → (v ≡ w) ⊎ ((comes_before v w ≡ true) ⊎ (comes_before w v ≡ true))) [
+  | Less ↦ λ e. inr (inl (ap is_lt e))
+  | Equal ↦ λ e. inl ((word_cmp-admissible 0).same v w e)
+  | Greater ↦ λ e. inr (inr (ap is_lt (word_cmp_total.antisymm w v ∙ ap ordering_reverse e)))
+]) refl
 
 abbrev pub canonical : Sorting
 canonical = record {

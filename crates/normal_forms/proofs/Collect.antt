@@ -35,11 +35,7 @@ module _ {K : Type 0} (k : Field K) (o : Sorting) where
   collect = collected (numbers_of k) o.below
 
   each-put : (P : Word → Type 0) (t : K × Word) (p : Form K) → P t.1 → Each P p → Each P (put_term t p)
-  each-put P t p h e = go (k.is_none t.0)
-    where
-      go : (b : Bool) → Each P (cond b p (t ∷ p))
-      go true = e
-      go false = (h, e)
+  each-put P t p h e = elim (k.is_none t.0) as (λ b. Each P (cond b p (t ∷ p))) [ true ↦ e | false ↦ (h, e) ]
 
   each-insert : (P : Word → Type 0) (t : K × Word) (p : Form K) → P t.1 → Each P p → Each P (insert t p)
   each-insert P t [] h e = each-put P t [] h e
@@ -88,23 +84,21 @@ module _ {K : Type 0} (k : Field K) (o : Sorting) where
   after-more {v} w (t ∷ p) e h = (o.transitive w v t.1 e h.0, after-more w p e h.1)
 
   form-put : (t : K × Word) (p : Form K) → After t.1 p → IsForm p → IsForm (put_term t p)
-  form-put t p h f = go (k.is_none t.0) refl
-    where
-      go : (b : Bool) → k.is_none t.0 ≡ b → IsForm (cond b p (t ∷ p))
-      go true e = f
-      go false e = (e, h, f)
+  form-put t p h f = (elim (k.is_none t.0) as (λ b. k.is_none t.0 ≡ b → IsForm (cond b p (t ∷ p))) [
+    | true ↦ λ e. f
+    | false ↦ λ e. (e, h, f)
+  ]) refl
 
   form-insert : (t : K × Word) (p : Form K) → IsForm p → IsForm (insert t p)
   form-insert t [] f = form-put t [] tt f
   form-insert t (s ∷ p) f = go (word_eq t.1 s.1) refl (o.below t.1 s.1) refl (form-insert t p f.2)
     where
       above : word_eq t.1 s.1 ≡ false → o.below t.1 s.1 ≡ false → o.below s.1 t.1 ≡ true
-      above e h = by_total (o.total t.1 s.1)
-        where
-          by_total : (t.1 ≡ s.1) ⊎ ((o.below t.1 s.1 ≡ true) ⊎ (o.below s.1 t.1 ≡ true)) → o.below s.1 t.1 ≡ true
-          by_total (inl q) = absurd (true≢false (sym (subst (λ x. word_eq t.1 x ≡ true) q (word_eq-same t.1)) ∙ e))
-          by_total (inr (inl q)) = absurd (true≢false (sym q ∙ h))
-          by_total (inr (inr q)) = q
+      above e h = elim (o.total t.1 s.1) [
+        | inl q ↦ absurd (true≢false (sym (subst (λ x. word_eq t.1 x ≡ true) q (word_eq-same t.1)) ∙ e))
+        | inr (inl q) ↦ absurd (true≢false (sym q ∙ h))
+        | inr (inr q) ↦ q
+      ]
 
       go : (b : Bool) → word_eq t.1 s.1 ≡ b → (c : Bool) → o.below t.1 s.1 ≡ c → IsForm (insert t p)
           → IsForm (cond b (put_term (k.plus t.0 s.0, s.1) p) (cond c (put_term t (s ∷ p)) (s ∷ insert t p)))

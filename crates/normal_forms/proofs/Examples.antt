@@ -37,9 +37,8 @@ use Rattle.adjoint_rules.specs.declared.parts.Parts.{Parts}
 use Rattle.adjoint_rules.specs.Problem.{IsPosed, IsShape, IsSide, IsDeclaredMap, IsTypedOf, HasObjects, HasLettersInPlay, IsInPlay, is_in_play, generators_in}
 use Rattle.confluence.specs.Typed.{IsTypedInPlay}
 use Rattle.confluence.specs.Reductions.{IsReduced}
-use Rattle.confluence.proofs.RestLaws.{normal_forms_are_reduced, rests_of_ideal_are_zero}
+use Rattle.confluence.proofs.RestLaws.{normal_forms_are_reduced, rests_of_ideal_are_zero, zero_rests_are_resolved}
 use Rattle.confluence.proofs.WrittenTerms.{shaped_as_written, canonical_as_written}
-use Rattle.confluence.proofs.ZeroRestLaws.{zero_rests_are_resolved}
 use Rattle.normal_forms.specs.Fractions.{Fraction}
 use Rattle.normal_forms.specs.Maps.{NormalMap}
 use Rattle.normal_forms.specs.NormalForms.{IsBasis, normal_forms}
@@ -209,18 +208,17 @@ is_one = record {
   second = square_rule;
   first_numbered = refl;
   second_numbered = refl;
-  meets =
-      record {
-        before = 2 ∷ [];
-        shared = 2 ∷ [];
-        after = 2 ∷ [];
-        left_splits = refl;
-        right_splits = refl;
-        at_place = refl;
-        before_letters = omega arith;
-        shared_letters = omega arith;
-        after_letters = omega arith;
-      };
+  meets = record {
+    before = 2 ∷ [];
+    shared = 2 ∷ [];
+    after = 2 ∷ [];
+    left_splits = refl;
+    right_splits = refl;
+    at_place = refl;
+    before_letters = omega arith;
+    shared_letters = omega arith;
+    after_letters = omega arith;
+  };
 }
 
 difference : s_polynomial_of rules itself ≡ Ok []

@@ -1,5 +1,7 @@
 -- What follows from the laws of a field.
-use Rattle.std.proofs.Common.{◌≡◌, ℕ, ◌<◌, sym, ap, ap₂, ◌∙◌, pos}
+use Rattle.std.proofs.Common.{◌≡◌, ℕ, ◌<◌, sym, ap, ap₂, ◌∙◌, ℤ, pos, ◌+ℤ◌, neg_ℤ, arith}
+use Rattle.std.proofs.lemmas.Int.{ints}
+use Rattle.std.proofs.Math.IntN.{+ℤ_invr}
 use Rattle.normal_forms.proofs.Field.{Field}
 
 module _ {K : Type 0} (k : Field K) where
@@ -12,11 +14,11 @@ module _ {K : Type 0} (k : Field K) where
   pub plus_times : (a b c : K) → k.times (k.plus a b) c ≡ k.plus (k.times a c) (k.times b c)
   plus_times a b c = k.times_comm (k.plus a b) c ∙ k.times_plus c a b ∙ ap₂ k.plus (k.times_comm c a) (k.times_comm c b)
 
+  pub minus_plus : (a b : K) → k.plus (k.minus a) (k.plus a b) ≡ b
+  minus_plus a b = sym (k.plus_assoc (k.minus a) a b) ∙ ap (λ z. k.plus z b) (k.plus_comm (k.minus a) a ∙ k.plus_minus a) ∙ none_plus b
+
   pub plus_cancel : (a b c : K) → k.plus a b ≡ k.plus a c → b ≡ c
-  plus_cancel a b c e = sym (back a b) ∙ ap (λ z. k.plus (k.minus a) z) e ∙ back a c
-    where
-      back : (a b : K) → k.plus (k.minus a) (k.plus a b) ≡ b
-      back a b = sym (k.plus_assoc (k.minus a) a b) ∙ ap (λ z. k.plus z b) (k.plus_comm (k.minus a) a ∙ k.plus_minus a) ∙ none_plus b
+  plus_cancel a b c e = sym (minus_plus a b) ∙ ap (λ z. k.plus (k.minus a) z) e ∙ minus_plus a c
 
   pub times_none : (a : K) → k.times a k.none ≡ k.none
   times_none a = plus_cancel (k.times a k.none) (k.times a k.none) k.none
@@ -52,9 +54,19 @@ module _ {K : Type 0} (k : Field K) where
   int_none = plus_cancel (k.int (pos 0)) (k.int (pos 0)) k.none (sym (k.int_plus (pos 0) (pos 0)) ∙ sym (k.plus_none (k.int (pos 0))))
 
   -- a positive integer cancels
+  part_times : {n : ℕ} (a : K) → 0 < n → a ≡ k.times (k.part n) (k.times (k.int (pos n)) a)
+  part_times {n} a h = sym (k.one_times a) ∙ ap (λ z. k.times z a) (sym (k.part_is n h) ∙ k.times_comm (k.int (pos n)) (k.part n))
+      ∙ k.times_assoc (k.part n) (k.int (pos n)) a
+
+  pub part_cancel : {n : ℕ} {a b : K} → 0 < n → k.times (k.int (pos n)) a ≡ k.times (k.int (pos n)) b → a ≡ b
+  part_cancel {n} {a} {b} h e = part_times a h ∙ ap (k.times (k.part n)) e ∙ sym (part_times b h)
+
   pub int_cancel : {n : ℕ} (a : K) → 0 < n → k.times (k.int (pos n)) a ≡ k.none → a ≡ k.none
-  int_cancel {n} a h e = sym (k.one_times a) ∙ ap (λ z. k.times z a) (sym (k.part_is n h) ∙ k.times_comm (k.int (pos n)) (k.part n))
-      ∙ k.times_assoc (k.part n) (k.int (pos n)) a ∙ ap (λ z. k.times (k.part n) z) e ∙ times_none (k.part n)
+  int_cancel {n} a h e = part_cancel h (e ∙ sym (times_none (k.int (pos n))))
+
+  pub int_same : (a b : ℤ) → k.int a ≡ k.int b → a ≡ b
+  int_same a b e = let z : a +ℤ neg_ℤ b ≡ pos 0 = k.int_only (a +ℤ neg_ℤ b) (k.int_plus a (neg_ℤ b) ∙ ap (λ z. k.plus z (k.int (neg_ℤ b))) e
+      ∙ sym (k.int_plus b (neg_ℤ b)) ∙ ap k.int (+ℤ_invr b) ∙ int_none) in omega (arith, ints, z)
 
   -- two differ by nothing
   pub equal_from_rest : (a b : K) → k.plus a (k.minus b) ≡ k.none → a ≡ b

@@ -1,10 +1,13 @@
 -- Lists of with_words with coefficients in a field, and sums over their terms.
-use Rattle.std.proofs.Common.{◌≡◌, ℕ, ◌<◌, ◌≤◌, suc, refl, sym, ap, ap₂, subst, ◌∙◌, Bool, true, false, cond, [], ◌∷◌, ◌++◌, length, arith}
+use Rattle.std.proofs.Common.{◌≡◌, ℕ, ◌<◌, ◌≤◌, suc, refl, sym, ap, ap₂, subst, ◌∙◌, Bool, true, false, cond, List, [], ◌∷◌, ◌++◌, length, arith}
+use Rattle.std.specs.List.{AllByRecursion}
+use Rattle.definitions.proofs.UnitSound.{all-append}
+use Rattle.confluence.proofs.TermWords.{each_weaker}
 use Rattle.normal_forms.specs.Forms.{Form, with_words, multiple_form}
 use Rattle.normal_forms.proofs.Field.{Field, numbers_of}
 use Rattle.definitions.specs.Poly.{Word, word_eq}
 use Rattle.definitions.proofs.Linear.{word_eq-true, word_eq-same}
-use Rattle.normal_forms.proofs.Induction.{strong}
+use Rattle.confluence.proofs.Inside.{strong}
 use Rattle.normal_forms.proofs.FieldLaws.{none_plus, times_one, plus_times, plus_cancel, times_none, none_times, minus_one, plus_swap, equal_from_rest}
 
 pub words-append : {K : Type 0} (h : Word → Word) (p q : Form K) → with_words h (p ++ q) ≡ with_words h p ++ with_words h q
@@ -19,18 +22,24 @@ pub words-same : {K : Type 0} (h j : Word → Word) (p : Form K) → ((w : Word)
 words-same h j [] e = refl
 words-same h j (t ∷ p) e = ap₂ (λ w z. (t.0, w) ∷ z) (e t.1) (words-same h j p e)
 
+-- of a list and another one behind it
+pub all_front : {A : Type 0} (P : A → Type 0) (p q : List A) → AllByRecursion P (p ++ q) → AllByRecursion P p
+all_front P [] q a = tt
+all_front P (x ∷ p) q a = (a.0, all_front P p q a.1)
+
+pub all_back : {A : Type 0} (P : A → Type 0) (p q : List A) → AllByRecursion P (p ++ q) → AllByRecursion P q
+all_back P [] q a = a
+all_back P (x ∷ p) q a = all_back P p q a.1
+
 -- what holds of each word
 abbrev pub Each : {K : Type 0} → (Word → Type 0) → Form K → Type 0
-Each P [] = Unit {0}
-Each P (t ∷ p) = P t.1 × Each P p
+Each P p = AllByRecursion (λ t. P t.1) p
 
 pub each-append : {K : Type 0} (P : Word → Type 0) (p q : Form K) → Each P p → Each P q → Each P (p ++ q)
-each-append P [] q a b = b
-each-append P (t ∷ p) q a b = (a.0, each-append P p q a.1 b)
+each-append P = all-append (λ t. P t.1)
 
 pub each-weaker : {K : Type 0} (P Q : Word → Type 0) → ((w : Word) → P w → Q w) → (p : Form K) → Each P p → Each Q p
-each-weaker P Q h [] a = tt
-each-weaker P Q h (t ∷ p) a = (h t.1 a.0, each-weaker P Q h p a.1)
+each-weaker P Q h = each_weaker (λ t. P t.1) (λ t. Q t.1) (λ t. h t.1)
 
 module _ {K : Type 0} (k : Field K) where
   abbrev pub hit : Word → Word → K

@@ -55,13 +55,12 @@ module _ {Object A B : Type 0} (s : Structure Object A) (c : Structure Object B)
       let below = i.arrow b h.arrow in
       record {
         arrow = down b;
-        is_arrow =
-            record {
-              arrow = below.0;
-              source = sym (i.source (down b)) ∙ ap c.source below.1 ∙ h.source;
-              target = sym (i.target (down b))
-                  ∙ ap c.target below.1 ∙ h.target;
-            };
+        is_arrow = record {
+          arrow = below.0;
+          source = sym (i.source (down b)) ∙ ap c.source below.1 ∙ h.source;
+          target = sym (i.target (down b))
+              ∙ ap c.target below.1 ∙ h.target;
+        };
         same = below.1;
       }
 
@@ -72,6 +71,15 @@ module _ {Object A B : Type 0} (s : Structure Object A) (c : Structure Object B)
   on_arrow : (P : B → Type 0) {x y : Object} {b : B} → IsArrow c x y b → ((a : A) → IsArrow s x y a → P (up a)) → P b
   on_arrow P h each = let u = under h in subst P u.same (each u.arrow u.is_arrow)
 
+  on_arrows : (P : B → B → Type 0) {x y u v : Object} {b d : B} → IsArrow c x y b → IsArrow c u v d
+      → ((a e : A) → IsArrow s x y a → IsArrow s u v e → P (up a) (up e)) → P b d
+  on_arrows P {d} h j each = on_arrow (λ b. P b d) h (λ a is. on_arrow (P (up a)) j (λ e too. each a e is too))
+
+  on_three : (P : B → B → B → Type 0) {x y u v z w : Object} {b d f : B} → IsArrow c x y b → IsArrow c u v d → IsArrow c z w f
+      → ((a e g : A) → IsArrow s x y a → IsArrow s u v e → IsArrow s z w g → P (up a) (up e) (up g)) → P b d f
+  on_three P {f} h j m each =
+      on_arrows (λ b d. P b d f) h j (λ a e is too. on_arrow (P (up a) (up e)) m (λ g third. each a e g is too third))
+
   pub image_laws : PreadditiveLaws s → PreadditiveLaws c
   image_laws laws = record {
     source_is_object = λ b h. let u = i.arrow b h in i.image_object (c.source b)
@@ -80,68 +88,60 @@ module _ {Object A B : Type 0} (s : Structure Object A) (c : Structure Object B)
         (subst s.is_object (sym (i.target (down b)) ∙ ap c.target u.1) (laws.target_is_object (down b) u.0));
     identity_is_arrow = λ x h. subst (IsArrow c x x) (sym (i.identity x)) (image (laws.identity_is_arrow x (i.object x h)));
     zero_is_arrow = λ x y h j. subst (IsArrow c x y) (sym (i.zero x y)) (image (laws.zero_is_arrow x y (i.object x h) (i.object y j)));
-    add_is_arrow = λ x y a b h j. on_arrow (λ a. IsArrow c x y (c.add a b)) h
-        (λ a' h'. on_arrow (λ b. IsArrow c x y (c.add (up a') b)) j (λ b' j'.
-        subst (IsArrow c x y) (sym (i.add a' b')) (image (laws.add_is_arrow x y a' b' h' j'))));
+    add_is_arrow = λ x y a b h j. on_arrows (λ a b. IsArrow c x y (c.add a b)) h j
+        (λ a b h j. subst (IsArrow c x y) (sym (i.add a b)) (image (laws.add_is_arrow x y a b h j)));
     negate_is_arrow = λ x y a h. on_arrow (λ a. IsArrow c x y (c.negate a)) h
-        (λ a' h'. subst (IsArrow c x y) (sym (i.negate a')) (image (laws.negate_is_arrow x y a' h')));
-    compose_is_arrow = λ x y z a b h j. on_arrow (λ a. IsArrow c x z (c.compose a b)) h
-        (λ a' h'. on_arrow (λ b. IsArrow c x z (c.compose (up a') b)) j (λ b' j'.
-        subst (IsArrow c x z) (sym (i.compose a' b')) (image (laws.compose_is_arrow x y z a' b' h' j'))));
-    compose_assoc = λ w x y z a b d h j m. on_arrow (λ a. c.compose (c.compose a b) d ≡ c.compose a (c.compose b d)) h (λ a' h'.
-        on_arrow (λ b. c.compose (c.compose (up a') b) d ≡ c.compose (up a') (c.compose b d)) j (λ b' j'.
-        on_arrow (λ d. c.compose (c.compose (up a') (up b')) d ≡ c.compose (up a') (c.compose (up b') d)) m (λ d' m'.
-        ap (λ e. c.compose e (up d')) (i.compose a' b') ∙ i.compose (s.compose a' b') d' ∙ ap up (laws.compose_assoc w x y z a' b' d' h' j' m')
-        ∙ sym (ap (c.compose (up a')) (i.compose b' d') ∙ i.compose a' (s.compose b' d')))));
+        (λ a h. subst (IsArrow c x y) (sym (i.negate a)) (image (laws.negate_is_arrow x y a h)));
+    compose_is_arrow = λ x y z a b h j. on_arrows (λ a b. IsArrow c x z (c.compose a b)) h j
+        (λ a b h j. subst (IsArrow c x z) (sym (i.compose a b)) (image (laws.compose_is_arrow x y z a b h j)));
+    compose_assoc =
+        λ w x y z a b d h j m. on_three (λ a b d. c.compose (c.compose a b) d ≡ c.compose a (c.compose b d)) h j m (λ a b d h j m.
+        ap (λ e. c.compose e (up d)) (i.compose a b) ∙ i.compose (s.compose a b) d ∙ ap up (laws.compose_assoc w x y z a b d h j m)
+        ∙ sym (ap (c.compose (up a)) (i.compose b d) ∙ i.compose a (s.compose b d)));
     identity_left = λ x y a h. on_arrow (λ a. c.compose (c.identity y) a ≡ a) h
-        (λ a' h'. ap (λ e. c.compose e (up a')) (i.identity y) ∙ i.compose (s.identity y) a' ∙ ap up (laws.identity_left x y a' h'));
+        (λ a h. ap (λ e. c.compose e (up a)) (i.identity y) ∙ i.compose (s.identity y) a ∙ ap up (laws.identity_left x y a h));
     identity_right = λ x y a h. on_arrow (λ a. c.compose a (c.identity x) ≡ a) h
-        (λ a' h'. ap (c.compose (up a')) (i.identity x) ∙ i.compose a' (s.identity x) ∙ ap up (laws.identity_right x y a' h'));
-    add_assoc = λ x y a b d h j m. on_arrow (λ a. c.add (c.add a b) d ≡ c.add a (c.add b d)) h (λ a' h'.
-        on_arrow (λ b. c.add (c.add (up a') b) d ≡ c.add (up a') (c.add b d)) j (λ b' j'.
-        on_arrow (λ d. c.add (c.add (up a') (up b')) d ≡ c.add (up a') (c.add (up b') d)) m (λ d' m'.
-        ap (λ e. c.add e (up d')) (i.add a' b') ∙ i.add (s.add a' b') d' ∙ ap up (laws.add_assoc x y a' b' d' h' j' m')
-        ∙ sym (ap (c.add (up a')) (i.add b' d') ∙ i.add a' (s.add b' d')))));
-    add_comm = λ x y a b h j. on_arrow (λ a. c.add a b ≡ c.add b a) h (λ a' h'. on_arrow (λ b. c.add (up a') b ≡ c.add b (up a')) j (λ b' j'.
-        i.add a' b' ∙ ap up (laws.add_comm x y a' b' h' j') ∙ sym (i.add b' a')));
+        (λ a h. ap (c.compose (up a)) (i.identity x) ∙ i.compose a (s.identity x) ∙ ap up (laws.identity_right x y a h));
+    add_assoc = λ x y a b d h j m. on_three (λ a b d. c.add (c.add a b) d ≡ c.add a (c.add b d)) h j m (λ a b d h j m.
+        ap (λ e. c.add e (up d)) (i.add a b) ∙ i.add (s.add a b) d ∙ ap up (laws.add_assoc x y a b d h j m)
+        ∙ sym (ap (c.add (up a)) (i.add b d) ∙ i.add a (s.add b d)));
+    add_comm = λ x y a b h j. on_arrows (λ a b. c.add a b ≡ c.add b a) h j
+        (λ a b h j. i.add a b ∙ ap up (laws.add_comm x y a b h j) ∙ sym (i.add b a));
     add_zero = λ x y a h. on_arrow (λ a. c.add a (c.zero x y) ≡ a) h
-        (λ a' h'. ap (c.add (up a')) (i.zero x y) ∙ i.add a' (s.zero x y) ∙ ap up (laws.add_zero x y a' h'));
-    add_negate = λ x y a h. on_arrow (λ a. c.add a (c.negate a) ≡ c.zero x y) h (λ a' h'.
-        ap (c.add (up a')) (i.negate a') ∙ i.add a' (s.negate a') ∙ ap up (laws.add_negate x y a' h') ∙ sym (i.zero x y));
-    compose_add_left = λ x y z a b d h j m. on_arrow (λ a. c.compose (c.add a b) d ≡ c.add (c.compose a d) (c.compose b d)) h (λ a' h'.
-        on_arrow (λ b. c.compose (c.add (up a') b) d ≡ c.add (c.compose (up a') d) (c.compose b d)) j (λ b' j'.
-        on_arrow (λ d. c.compose (c.add (up a') (up b')) d ≡ c.add (c.compose (up a') d) (c.compose (up b') d)) m (λ d' m'.
-        ap (λ e. c.compose e (up d')) (i.add a' b') ∙ i.compose (s.add a' b') d' ∙ ap up (laws.compose_add_left x y z a' b' d' h' j' m')
-        ∙ sym (ap₂ c.add (i.compose a' d') (i.compose b' d') ∙ i.add (s.compose a' d') (s.compose b' d')))));
-    compose_add_right = λ x y z a b d h j m. on_arrow (λ a. c.compose a (c.add b d) ≡ c.add (c.compose a b) (c.compose a d)) h (λ a' h'.
-        on_arrow (λ b. c.compose (up a') (c.add b d) ≡ c.add (c.compose (up a') b) (c.compose (up a') d)) j (λ b' j'.
-        on_arrow (λ d. c.compose (up a') (c.add (up b') d) ≡ c.add (c.compose (up a') (up b')) (c.compose (up a') d)) m (λ d' m'.
-        ap (c.compose (up a')) (i.add b' d') ∙ i.compose a' (s.add b' d') ∙ ap up (laws.compose_add_right x y z a' b' d' h' j' m')
-        ∙ sym (ap₂ c.add (i.compose a' b') (i.compose a' d') ∙ i.add (s.compose a' b') (s.compose a' d')))));
+        (λ a h. ap (c.add (up a)) (i.zero x y) ∙ i.add a (s.zero x y) ∙ ap up (laws.add_zero x y a h));
+    add_negate = λ x y a h. on_arrow (λ a. c.add a (c.negate a) ≡ c.zero x y) h
+        (λ a h. ap (c.add (up a)) (i.negate a) ∙ i.add a (s.negate a) ∙ ap up (laws.add_negate x y a h) ∙ sym (i.zero x y));
+    compose_add_left =
+        λ x y z a b d h j m. on_three (λ a b d. c.compose (c.add a b) d ≡ c.add (c.compose a d) (c.compose b d)) h j m (λ a b d h j m.
+        ap (λ e. c.compose e (up d)) (i.add a b) ∙ i.compose (s.add a b) d ∙ ap up (laws.compose_add_left x y z a b d h j m)
+        ∙ sym (ap₂ c.add (i.compose a d) (i.compose b d) ∙ i.add (s.compose a d) (s.compose b d)));
+    compose_add_right =
+        λ x y z a b d h j m. on_three (λ a b d. c.compose a (c.add b d) ≡ c.add (c.compose a b) (c.compose a d)) h j m (λ a b d h j m.
+        ap (c.compose (up a)) (i.add b d) ∙ i.compose a (s.add b d) ∙ ap up (laws.compose_add_right x y z a b d h j m)
+        ∙ sym (ap₂ c.add (i.compose a b) (i.compose a d) ∙ i.add (s.compose a b) (s.compose a d)));
   }
 
   -- two arrows with one image are the same
   same_under : (a b : A) → up a ≡ up b → a ≡ b
   same_under a b e = sym (i.back a) ∙ ap down e ∙ i.back b
 
+  zero_image : (a : A) → c.zero (c.source (up a)) (c.target (up a)) ≡ up (s.zero (s.source a) (s.target a))
+  zero_image a = ap₂ c.zero (i.source a) (i.target a) ∙ i.zero (s.source a) (s.target a)
+
   natural_image : (n : ℕ) (a : A) → natural_multiple c n (up a) ≡ up (natural_multiple s n a)
-  natural_image zero a = ap₂ c.zero (i.source a) (i.target a) ∙ i.zero (s.source a) (s.target a)
+  natural_image zero a = zero_image a
   natural_image (suc n) a = ap (c.add (up a)) (natural_image n a) ∙ i.add a (natural_multiple s n a)
 
   multiple_image : (n : ℤ) (a : A) → multiple c n (up a) ≡ up (multiple s n a)
   multiple_image (pos n) a = natural_image n a
   multiple_image (negsuc n) a = ap c.negate (natural_image (suc n) a) ∙ i.negate (natural_multiple s (suc n) a)
 
-  zero_image : (a : A) → c.zero (c.source (up a)) (c.target (up a)) ≡ up (s.zero (s.source a) (s.target a))
-  zero_image a = ap₂ c.zero (i.source a) (i.target a) ∙ i.zero (s.source a) (s.target a)
-
   pub image_cancels : {d : ℤ} → Cancels s d → Cancels c d
-  image_cancels {d} cancels =
-      record {
-        at = λ b h. on_arrow (λ b. multiple c d b ≡ c.zero (c.source b) (c.target b) → b ≡ c.zero (c.source b) (c.target b)) (record { arrow = h; source = refl; target = refl })
-            (λ a is e. ap up (cancels.at a is.arrow (same_under (multiple s d a) (s.zero (s.source a) (s.target a)) (sym (multiple_image d a) ∙ e ∙ zero_image a)))
-            ∙ sym (zero_image a));
-      }
+  image_cancels {d} cancels = record {
+    at = λ b h. on_arrow (λ b. multiple c d b ≡ c.zero (c.source b) (c.target b) → b ≡ c.zero (c.source b) (c.target b)) (record { arrow = h; source = refl; target = refl })
+        (λ a is e. ap up (cancels.at a is.arrow (same_under (multiple s d a) (s.zero (s.source a) (s.target a)) (sym (multiple_image d a) ∙ e ∙ zero_image a)))
+        ∙ sym (zero_image a));
+  }
 
   -- representations
   module _ (f : Representation Object A) (g : Representation Object B) (objects : (v : ℕ) → f.object v ≡ g.object v)

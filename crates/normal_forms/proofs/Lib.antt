@@ -1,9 +1,7 @@
-pub mod Divisors
 pub mod Field
 pub mod Homomorphisms
 pub mod Rationals
 pub mod FieldLaws
-pub mod Induction
 pub mod Forms
 pub mod Collect
 pub mod CanonicalOrder

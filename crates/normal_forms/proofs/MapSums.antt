@@ -23,7 +23,7 @@ use Rattle.normal_forms.specs.MapLaws.{fraction_at, IsNormalWord, IsListedMap, I
 use Rattle.normal_forms.proofs.Homomorphisms.{mapped}
 use Rattle.normal_forms.proofs.Rationals.{Rational, rationals, zero_in_lowest, none_test, none_is_none, raw, raw-none, read, read_raw, raw_read}
 use Rattle.normal_forms.proofs.FieldLaws.{none_plus, times_none, times_one}
-use Rattle.normal_forms.proofs.Forms.{Each, hit, look, without, sum-without, look-without_same}
+use Rattle.normal_forms.proofs.Forms.{Each, each-weaker, hit, look, without, sum-without, look-without_same}
 use Rattle.normal_forms.proofs.Collect.{IsForm, collect, form-collect, look-collect, form_unique, look_head, look_other, none_before}
 use Rattle.normal_forms.proofs.CanonicalOrder.{canonical}
 use Rattle.normal_forms.proofs.NormalCategory.{arrow_same}
@@ -70,11 +70,6 @@ module _ (p : Parts) (rules : List Rule) (u v : ℕ) where
   normal_words [] leads none = tt
   normal_words (t ∷ f) leads none = (normal_word t.1 leads.0 none.0, normal_words f leads.1 none.1)
 
-  words_follow : (P : Word → Type 0) → ((w : Word) → IsNormalWord p rules u v w → P w) → (f : Form Fraction)
-      → AllByRecursion (λ t. IsNormalWord p rules u v t.1) f → AllByRecursion (λ t. P t.1) f
-  words_follow P follows [] each = tt
-  words_follow P follows (t ∷ f) each = (follows t.1 each.0, words_follow P follows f each.1)
-
 module _ (p : Parts) (rules : List Rule) where
   listed_at : {m : NormalMap Fraction} → IsNormalMap p rules m → IsListedMap p rules m.source m.target m
   listed_at {m} is = record {
@@ -92,8 +87,9 @@ module _ (p : Parts) (rules : List Rule) where
     target_is_object = target;
     nonzero = is.fractions;
     ascending = is.ascending;
-    words = words_follow p rules m.source m.target (Leads p rules m.source m.target) (word_leads p rules m.source m.target) m.form is.words;
-    irreducible = words_follow p rules m.source m.target (HasNone p rules m.source m.target)
+    words = each-weaker
+        (IsNormalWord p rules m.source m.target) (Leads p rules m.source m.target) (word_leads p rules m.source m.target) m.form is.words;
+    irreducible = each-weaker (IsNormalWord p rules m.source m.target) (HasNone p rules m.source m.target)
         (word_irreducible p rules m.source m.target (empty_is_irreducible p rules basis.are_rules)) m.form is.words;
   }
 
@@ -206,12 +202,10 @@ module _ (value : Word → Rational) where
           → look rationals (gathered (w ∷ ws)) x ≡ value x
       go true e later = subst (λ y. look rationals (gathered (w ∷ ws)) y ≡ value y) (word_eq-true w x e) (gathered_here w ws)
       go false e later = look_other rationals canonical x (value w, w) (without rationals w (gathered ws)) e ∙ look-without_other w x (gathered ws) e
-          ∙ later (tail at)
-        where
-          tail : Contains (w ∷ ws) x ⊎ (value x ≡ rationals.none) → Contains ws x ⊎ (value x ≡ rationals.none)
-          tail (inl at) = inl (Contains-tail w ws x (λ same. true≢false (sym (subst (λ y. word_eq w y ≡ true) same (word_eq-same w))
-              ∙ e)) at)
-          tail (inr none) = inr none
+          ∙ later (elim at [
+            | inl at ↦ inl (Contains-tail w ws x (λ same. true≢false (sym (subst (λ y. word_eq w y ≡ true) same (word_eq-same w)) ∙ e)) at)
+            | inr none ↦ inr none
+          ])
 
 -- The map of a finite sum.
 module _ (p : Parts) (rules : List Rule) (u v : ℕ) (here : (normal_forms p rules).is_object u) (there : (normal_forms p rules).is_object v)

@@ -64,14 +64,12 @@ module _ {K : Type 0} (k : Field K) (o : Order) (g : Rules o) where
   -- c w is a row and what it is replaced by
   replaced : (c : K) (w : Word) {i : ℕ} (l r : Word) → g.Has i → w ≡ l ++ ((g.rule i).lead ++ r)
       → Alike k ((c, w) ∷ []) (row k o g (k.times c (k.part (g.rule i).leading)) l i r ++ lower c i l r)
-  replaced c w {i} l r h e =
-      record {
-        at = λ v. sym
-            (sum-append k (λ u. hit k u v) (row k o g d l i r) (lower c i l r)
-            ∙ ap₂ k.plus (ap₂ (λ x y. k.plus (k.times x (hit k (l ++ ((g.rule i).lead ++ r)) v)) y) back (look-lifted k at d (g.rule i).tail v))
-            (look-lifted k at (k.minus d) (g.rule i).tail v ∙ minus_times k d _) ∙ k.plus_assoc _ _ _
-            ∙ ap₂ k.plus (ap (λ x. k.times c (hit k x v)) (sym e)) (k.plus_minus _));
-      }
+  replaced c w {i} l r h e = record {
+    at = λ v. sym (sum-append k (λ u. hit k u v) (row k o g d l i r) (lower c i l r)
+        ∙ ap₂ k.plus (ap₂ (λ x y. k.plus (k.times x (hit k (l ++ ((g.rule i).lead ++ r)) v)) y) back (look-lifted k at d (g.rule i).tail v))
+        (look-lifted k at (k.minus d) (g.rule i).tail v ∙ minus_times k d _) ∙ k.plus_assoc _ _ _
+        ∙ ap₂ k.plus (ap (λ x. k.times c (hit k x v)) (sym e)) (k.plus_minus _));
+  }
     where
       d : K
       d = k.times c (k.part (g.rule i).leading)
@@ -85,9 +83,9 @@ module _ {K : Type 0} (k : Field K) (o : Order) (g : Rules o) where
           ∙ times_one k c
 
   pub normal_cong : {p q : Form K} → Normal p q → Each o.Range p → Cong k o g p q
-  normal_cong done a = cong_refl k o g []
-  normal_cong (keep c w p q i e) a = cong_append k o g (cong_refl k o g ((c, w) ∷ [])) (normal_cong e a.1)
-  normal_cong (step c w i l r n p q h e m d) a = cong_append k o g
+  normal_cong done a = cong_refl []
+  normal_cong (keep c w p q i e) a = cong_append (cong_refl ((c, w) ∷ [])) (normal_cong e a.1)
+  normal_cong (step c w i l r n p q h e m d) a = cong_append
       (rows ((c, w) ∷ []) (lower c i l r) n (k.times c (k.part (g.rule i).leading)) l i r h (subst o.Range e a.0)
       (normal_cong m (each-lower o.Range (λ u. l ++ (u ++ r)) _ (g.rule i).tail (range_kept i l r h (subst o.Range e a.0))))
       (replaced c w l r h e)) (normal_cong d a.1)

@@ -6,6 +6,7 @@ use Rattle.std.specs.List.{AllByRecursion}
 use Rattle.definitions.specs.Quiver.{Quiver, IsQuiver, letters, source, target, leads, is_path}
 use Rattle.definitions.specs.Category.{Structure, IsArrow, PreadditiveLaws}
 use Rattle.definitions.proofs.Paths.{leads-append, fits_from_path, path_from_fits, Step, step}
+use Rattle.definitions.proofs.UnitSound.{all-append}
 use Rattle.normal_forms.proofs.Field.{Field, numbers_of}
 use Rattle.normal_forms.specs.Forms.{Form}
 use Rattle.normal_forms.specs.Maps.{NormalMap, LeadsInPlay, structure_of}
@@ -15,7 +16,7 @@ use Rattle.word_orders.specs.Orders.{Order}
 use Rattle.confluence.proofs.Resolve.{everything}
 use Rattle.confluence.proofs.Meets.{Parted as Rule, Rules, Resolved}
 use Rattle.normal_forms.proofs.FieldLaws.{times_one, minus_one}
-use Rattle.normal_forms.proofs.Forms.{Each, each-append, each-weaker, each-scaled, hit, look, scaled, sum-append, sum-scaled, Alike, alike-append}
+use Rattle.normal_forms.proofs.Forms.{all_front, all_back, Each, each-append, each-weaker, each-scaled, hit, look, scaled, sum-append, sum-scaled, Alike, alike-append}
 use Rattle.normal_forms.proofs.Collect.{Sorting, IsForm, collect, each-collect, look-collect, alike-collect, form-collect, form_unique}
 use Rattle.normal_forms.proofs.Congruence.{alike_refl, alike_sym, alike_trans, alike_same, alike-swap, Cong, alike, cong_refl, cong_same, cong_left, cong_trans, cong_append, cong_scaled, cong_sym, Irreducible, irreducible_unique}
 use Rattle.normal_forms.proofs.Normal.{Normal, normal_irreducible, normal_each, Kept, normal_cong}
@@ -108,19 +109,10 @@ module _ {K : Type 0} (k : Field K) (s : Ground k) where
   abbrev pub normal_structure : Structure ℕ (NormalMap K)
   normal_structure = structure_of (numbers_of k) s.sorting.below s.normal s.marked (λ v. v < s.quiver.objects) IsMap
 
+  abbrev Played : ℕ → Type 0
+  Played a = IsTrue (s.play a)
+
   module _ (facts : Facts k s) where
-    pub plays-append : (u v : Word) → AllPlay s.play u → AllPlay s.play v → AllPlay s.play (u ++ v)
-    plays-append [] v a b = b
-    plays-append (x ∷ u) v a b = (a.0, plays-append u v a.1 b)
-
-    plays_front : (u v : Word) → AllPlay s.play (u ++ v) → AllPlay s.play u
-    plays_front [] v a = tt
-    plays_front (x ∷ u) v a = (a.0, plays_front u v a.1)
-
-    plays_back : (u v : Word) → AllPlay s.play (u ++ v) → AllPlay s.play v
-    plays_back [] v a = a
-    plays_back (x ∷ u) v a = plays_back u v a.1
-
     pub good_range : (u v : ℕ) (w : Word) → Good u v w → InRange w
     good_range u v w h = facts.play_range w h.plays
 
@@ -133,7 +125,12 @@ module _ {K : Type 0} (k : Field K) (s : Ground k) where
 
     pub good_join : (u m v : ℕ) (x y : Word) → Good m v x → Good u m y → Good u v (x ++ y)
     good_join u m v x y a b =
-        record { leads = leads-append s.quiver u m v x y a.leads b.leads; plays = plays-append x y a.plays b.plays; unit = λ e. b.unit (back_empty x y e) }
+        record {
+          leads = leads-append s.quiver u m v x y a.leads b.leads;
+          plays =
+              all-append Played x y a.plays b.plays;
+          unit = λ e. b.unit (back_empty x y e);
+        }
 
     pub path_leads : (u v : ℕ) (w : Word) → is_path s.quiver u v w ≡ true → leads s.quiver u v w ≡ true
     path_leads u v [] e = absurd (cc)
@@ -160,12 +157,11 @@ module _ {K : Type 0} (k : Field K) (s : Ground k) where
         go [] e = tt
         go (x ∷ p) e = (
           record {
-            leads = path_leads u v _
-                (path_from_fits s.quiver u v t.source t.target l x.1 r
+            leads = path_leads u v _ (path_from_fits s.quiver u v t.source t.target l x.1 r
                 (fits_from_path s.quiver u v t.source t.target l (s.rules.rule i).lead r t.lead_path
                 (leads_path u v l (s.rules.rule i).lead r t.source t.target t.lead_path a.leads)) e.0.0);
-            plays = plays-append l (x.1 ++ r) (plays_front l _ a.plays)
-                (plays-append x.1 r e.0.1 (plays_back (s.rules.rule i).lead r (plays_back l _ a.plays)));
+            plays = all-append Played l (x.1 ++ r) (all_front Played l _ a.plays)
+                (all-append Played x.1 r e.0.1 (all_back Played (s.rules.rule i).lead r (all_back Played l _ a.plays)));
             unit = λ q. absurd (path_some t.source t.target l x.1 r e.0.0 q);
           },
           go p e.1,
@@ -175,8 +171,7 @@ module _ {K : Type 0} (k : Field K) (s : Ground k) where
     ranges u v p a = each-weaker (Good u v) InRange (good_range u v) p a
 
     pub reduced_like : {p : Form K} → Each InRange p → Like (reduced p) p
-    reduced_like {p} a = cong_left k s.order s.rules (alike-collect k s.sorting _)
-        (cong_sym k s.order s.rules (normal_cong k s.order s.rules (facts.normal_is p a) a))
+    reduced_like {p} a = cong_left (alike-collect k s.sorting _) (cong_sym (normal_cong k s.order s.rules (facts.normal_is p a) a))
 
     pub reduced_irreducible : (p : Form K) → Each InRange p → Each Irr (reduced p)
     reduced_irreducible p a = each-collect k s.sorting Irr _ (normal_irreducible k s.order s.rules (facts.normal_is p a))
@@ -191,21 +186,20 @@ module _ {K : Type 0} (k : Field K) (s : Ground k) where
     pub words_at : (x y : ℕ) (a : NormalMap K) → IsArrow normal_structure x y a → Each (Good x y) a.form
     words_at x y a h = subst (λ z. Each (Good z y) a.form) h.source (subst (λ z. Each (Good a.source z) a.form) h.target h.arrow.words)
 
-    rebuild : {x y : ℕ} (a : NormalMap K) → a.source ≡ x → a.target ≡ y → x < s.quiver.objects → y < s.quiver.objects → IsForm k s.sorting a.form
+    pub rebuild : {x y : ℕ} (a : NormalMap K)
+        → a.source ≡ x → a.target ≡ y → x < s.quiver.objects → y < s.quiver.objects → IsForm k s.sorting a.form
         → Each Irr a.form → Each (Good x y) a.form → IsArrow normal_structure x y a
-    rebuild {x} a e f hx hy h i w =
-        record {
-          arrow =
-              record {
-                source_is_object = subst (λ z. z < s.quiver.objects) (sym e) hx;
-                target_is_object = subst (λ z. z < s.quiver.objects) (sym f) hy;
-                sorted = h;
-                irreducible = i;
-                words = subst (λ z. Each (Good z a.target) a.form) (sym e) (subst (λ z. Each (Good x z) a.form) (sym f) w);
-              };
-          source = e;
-          target = f;
-        }
+    rebuild {x} a e f hx hy h i w = record {
+      arrow = record {
+        source_is_object = subst (λ z. z < s.quiver.objects) (sym e) hx;
+        target_is_object = subst (λ z. z < s.quiver.objects) (sym f) hy;
+        sorted = h;
+        irreducible = i;
+        words = subst (λ z. Each (Good z a.target) a.form) (sym e) (subst (λ z. Each (Good x z) a.form) (sym f) w);
+      };
+      source = e;
+      target = f;
+    }
 
     source_object : {x y : ℕ} {a : NormalMap K} → IsArrow normal_structure x y a → x < s.quiver.objects
     source_object h = subst (λ z. z < s.quiver.objects) h.source h.arrow.source_is_object
@@ -265,13 +259,11 @@ module _ {K : Type 0} (k : Field K) (s : Ground k) where
 
     pub reduced_same : {p q : Form K} → Each InRange p → Each InRange q → Like p q → reduced p ≡ reduced q
     reduced_same {p} {q} a b e = same_form (form-collect k s.sorting (Nf p)) (form-collect k s.sorting (Nf q))
-        (reduced_irreducible p a) (reduced_irreducible q b) (cong_trans k s.order s.rules (reduced_like a)
-        (cong_trans k s.order s.rules e (cong_sym k s.order s.rules (reduced_like b))))
+        (reduced_irreducible p a) (reduced_irreducible q b) (cong_trans (reduced_like a) (cong_trans e (cong_sym (reduced_like b))))
 
     -- what is a map already is its own reduced form
     pub reduced_is : {p q : Form K} → Each InRange p → IsForm k s.sorting q → Each Irr q → Like p q → reduced p ≡ q
-    reduced_is {p} a f i e = same_form (form-collect k s.sorting (Nf p)) f (reduced_irreducible p a) i
-        (cong_trans k s.order s.rules (reduced_like a) e)
+    reduced_is {p} a f i e = same_form (form-collect k s.sorting (Nf p)) f (reduced_irreducible p a) i (cong_trans (reduced_like a) e)
 
     pub product_left : (p p' q : Form K) → Each InRange q → Like p p' → Like (product k p q) (product k p' q)
     product_left p p' q a e = cong_product_left k s.order s.rules facts.join empty_range q a e
@@ -282,11 +274,11 @@ module _ {K : Type 0} (k : Field K) (s : Ground k) where
     composition_assoc : (w x y z : ℕ) (a b c : NormalMap K) → IsArrow normal_structure y z a → IsArrow normal_structure x y b
         → IsArrow normal_structure w x c → normal_structure.compose (normal_structure.compose a b) c ≡ normal_structure.compose a
         (normal_structure.compose b c)
-    composition_assoc w x y z a b c ha hb hc = arrow_same _ _ refl refl (reduced_same left_range right_range (cong_trans k s.order s.rules
+    composition_assoc w x y z a b c ha hb hc = arrow_same _ _ refl refl (reduced_same left_range right_range (cong_trans
         (product_left (reduced AB) AB c.form (ranges w x c.form (words_at w x c hc)) (reduced_like (ranges x z AB good_ab)))
-        (cong_trans k s.order s.rules (cong_same k s.order s.rules (product-product k a.form b.form c.form))
+        (cong_trans (cong_same (product-product k a.form b.form c.form))
         (product_right a.form BC (reduced BC) (ranges y z a.form (words_at y z a ha))
-        (cong_sym k s.order s.rules (reduced_like (ranges w y BC good_bc)))))))
+        (cong_sym (reduced_like (ranges w y BC good_bc)))))))
       where
         AB : Form K
         AB = product k a.form b.form
@@ -309,35 +301,32 @@ module _ {K : Type 0} (k : Field K) (s : Ground k) where
     unit_front : (x : ℕ) {y : ℕ} (c : K) (w : Word) → y < s.quiver.objects → s.marked y ≡ true → Good x y w
         → Like ((k.times k.one c, y ∷ w) ∷ []) ((c, w) ∷ [])
     unit_front x {y} c [] hy m a = absurd (true≢false (sym m ∙ ap s.marked (sym (eqb-true x y a.leads)) ∙ a.unit refl))
-    unit_front x {y} c (b ∷ w) hy m a = cong_trans k s.order s.rules
-        (cong_same k s.order s.rules (ap (λ z. (z, y ∷ b ∷ w) ∷ []) (k.times_comm k.one c))) (cong_trans k s.order s.rules
+    unit_front x {y} c (b ∷ w) hy m a = cong_trans (cong_same (ap (λ z. (z, y ∷ b ∷ w) ∷ []) (k.times_comm k.one c))) (cong_trans
         (cong_behind k s.order s.rules facts.join empty_range (facts.play_range w a.plays.1)
-        (cong_scaled k s.order s.rules c (facts.unit_left y b hy m first.letter a.plays.0 first.target)))
-        (cong_same k s.order s.rules (ap (λ z. (z, b ∷ w) ∷ []) (times_one k c))))
+        (cong_scaled c (facts.unit_left y b hy m first.letter a.plays.0 first.target)))
+        (cong_same (ap (λ z. (z, b ∷ w) ∷ []) (times_one k c))))
       where
         first : Step s.quiver x y b w
         first = step s.quiver x y b w a.leads
 
     unit_left_like : (x : ℕ) {y : ℕ} {p : Form K} → y < s.quiver.objects → Each (Good x y) p → Like (product k ((k.one, unit_word y) ∷ []) p) p
-    unit_left_like x {y} {p} hy a = cong_trans k s.order s.rules (cong_same k s.order s.rules (append-nil (front k (k.one, unit_word y) p)))
-        (go (s.marked y) refl)
+    unit_left_like x {y} {p} hy a = cong_trans (cong_same (append-nil (front k (k.one, unit_word y) p)))
+        ((elim (s.marked y) as (λ b. s.marked y ≡ b → Like (front k (k.one, cond b (y ∷ []) []) p) p) [
+          | false ↦ λ e. cong_same (plain p)
+          | true ↦ λ e. with_letter e p a
+        ]) refl)
       where
         plain : (p : Form K) → front k (k.one, []) p ≡ p
         plain [] = refl
         plain (t ∷ p) = ap₂ (λ x z. (x, t.1) ∷ z) (k.one_times t.0) (plain p)
 
         with_letter : s.marked y ≡ true → (p : Form K) → Each (Good x y) p → Like (front k (k.one, y ∷ []) p) p
-        with_letter m [] a = cong_refl k s.order s.rules []
-        with_letter m (t ∷ p) a = cong_append k s.order s.rules (unit_front x t.0 t.1 hy m a.0) (with_letter m p a.1)
-
-        go : (b : Bool) → s.marked y ≡ b → Like (front k (k.one, cond b (y ∷ []) []) p) p
-        go false e = cong_same k s.order s.rules (plain p)
-        go true e = with_letter e p a
+        with_letter m [] a = cong_refl []
+        with_letter m (t ∷ p) a = cong_append (unit_front x t.0 t.1 hy m a.0) (with_letter m p a.1)
 
     left_identity : (x y : ℕ) (a : NormalMap K) → IsArrow normal_structure x y a
         → normal_structure.compose (normal_structure.identity y) a ≡ a
-    left_identity x y a ha = arrow_same _ a refl (sym ha.target) (reduced_is range ha.arrow.sorted ha.arrow.irreducible
-        (cong_trans k s.order s.rules
+    left_identity x y a ha = arrow_same _ a refl (sym ha.target) (reduced_is range ha.arrow.sorted ha.arrow.irreducible (cong_trans
         (product_left (reduced U) U a.form (ranges x y a.form (words_at x y a ha)) (reduced_like (good_range y y _ (unit_good hy), tt)))
         (unit_left_like x hy (words_at x y a ha))))
       where
@@ -361,63 +350,55 @@ module _ {K : Type 0} (k : Field K) (s : Ground k) where
       pub plays : AllPlay s.play before
 
     last_of : (x y : ℕ) {b : ℕ} (w : Word) → leads s.quiver x y (b ∷ w) ≡ true → AllPlay s.play (b ∷ w) → Last x (b ∷ w)
-    last_of x y {b} [] e a =
-        record {
-          before = [];
-          last = b;
-          is = refl;
-          letter = (step s.quiver x y b [] e).letter;
-          source =
-              sym (eqb-true x (source s.quiver b) (step s.quiver x y b [] e).rest);
-          play = a.0;
-          plays = tt;
-        }
+    last_of x y {b} [] e a = record {
+      before = [];
+      last = b;
+      is = refl;
+      letter = (step s.quiver x y b [] e).letter;
+      source = sym (eqb-true x (source s.quiver b) (step s.quiver x y b [] e).rest);
+      play = a.0;
+      plays = tt;
+    }
     last_of x y {b} (c ∷ w) e a = more (last_of x (source s.quiver b) w (step s.quiver x y b (c ∷ w) e).rest a.1)
       where
         more : Last x (c ∷ w) → Last x (b ∷ c ∷ w)
-        more l =
-            record {
-              before = b ∷ l.before;
-              last = l.last;
-              is = ap (λ z. b ∷ z) l.is;
-              letter = l.letter;
-              source = l.source;
-              play = l.play;
-              plays =
-                  (a.0, l.plays);
-            }
+        more l = record {
+          before = b ∷ l.before;
+          last = l.last;
+          is = ap (λ z. b ∷ z) l.is;
+          letter = l.letter;
+          source = l.source;
+          play = l.play;
+          plays = (a.0, l.plays);
+        }
 
     unit_back : {x : ℕ} (y : ℕ) (c : K) (w : Word) → x < s.quiver.objects → s.marked x ≡ true → Good x y w
         → Like ((k.times c k.one, w ++ (x ∷ [])) ∷ []) ((c, w) ∷ [])
     unit_back y c [] hx m a = absurd (true≢false (sym m ∙ a.unit refl))
-    unit_back {x} y c (b ∷ w) hx m a = at_last (last_of x y w a.leads a.plays)
-      where
-        at_last : Last x (b ∷ w) → Like ((k.times c k.one, (b ∷ w) ++ (x ∷ [])) ∷ []) ((c, b ∷ w) ∷ [])
-        at_last l = cong_trans k s.order s.rules (cong_same k s.order s.rules
-            (ap (λ z. (k.times c k.one, z) ∷ []) (ap (λ z. z ++ (x ∷ [])) l.is ∙ append_assoc l.before (l.last ∷ []) (x ∷ []))))
-            (cong_trans k s.order s.rules (cong_before k s.order s.rules facts.join empty_range (facts.play_range l.before l.plays)
-            (cong_scaled k s.order s.rules c (facts.unit_right x l.last hx m l.letter l.play l.source)))
-            (cong_same k s.order s.rules (ap₂ (λ y z. (y, z) ∷ []) (times_one k c) (sym l.is))))
+    unit_back {x} y c (b ∷ w) hx m a = let l = last_of x y w a.leads a.plays in
+        cong_trans (cong_same
+        (ap (λ z. (k.times c k.one, z) ∷ []) (ap (λ z. z ++ (x ∷ [])) l.is ∙ append_assoc l.before (l.last ∷ []) (x ∷ []))))
+        (cong_trans (cong_before k s.order s.rules facts.join empty_range (facts.play_range l.before l.plays)
+        (cong_scaled c (facts.unit_right x l.last hx m l.letter l.play l.source)))
+        (cong_same (ap₂ (λ y z. (y, z) ∷ []) (times_one k c) (sym l.is))))
 
     unit_right_like : {x : ℕ} (y : ℕ) {p : Form K} → x < s.quiver.objects → Each (Good x y) p → Like (product k p ((k.one, unit_word x) ∷ [])) p
-    unit_right_like {x} y {p} hx a = go (s.marked x) refl
+    unit_right_like {x} y {p} hx a = (elim (s.marked x) as (λ b. s.marked x ≡ b → Like (product k p ((k.one, cond b (x ∷ []) []) ∷ [])) p) [
+      | false ↦ λ e. cong_same (plain p)
+      | true ↦ λ e. with_letter e p a
+    ]) refl
       where
         plain : (p : Form K) → product k p ((k.one, []) ∷ []) ≡ p
         plain [] = refl
         plain (t ∷ p) = ap₂ (λ x z. x ∷ z) (λ i. (times_one k t.0 i, append-nil t.1 i)) (plain p)
 
         with_letter : s.marked x ≡ true → (p : Form K) → Each (Good x y) p → Like (product k p ((k.one, x ∷ []) ∷ [])) p
-        with_letter m [] a = cong_refl k s.order s.rules []
-        with_letter m (t ∷ p) a = cong_append k s.order s.rules (unit_back y t.0 t.1 hx m a.0) (with_letter m p a.1)
-
-        go : (b : Bool) → s.marked x ≡ b → Like (product k p ((k.one, cond b (x ∷ []) []) ∷ [])) p
-        go false e = cong_same k s.order s.rules (plain p)
-        go true e = with_letter e p a
+        with_letter m [] a = cong_refl []
+        with_letter m (t ∷ p) a = cong_append (unit_back y t.0 t.1 hx m a.0) (with_letter m p a.1)
 
     right_identity : (x y : ℕ) (a : NormalMap K) → IsArrow normal_structure x y a
         → normal_structure.compose a (normal_structure.identity x) ≡ a
-    right_identity x y a ha = arrow_same _ a (sym ha.source) refl (reduced_is range ha.arrow.sorted ha.arrow.irreducible
-        (cong_trans k s.order s.rules
+    right_identity x y a ha = arrow_same _ a (sym ha.source) refl (reduced_is range ha.arrow.sorted ha.arrow.irreducible (cong_trans
         (product_right a.form (reduced U) U (ranges x y a.form (words_at x y a ha)) (reduced_like (good_range x x _ (unit_good hx), tt)))
         (unit_right_like y hx (words_at x y a ha))))
       where
@@ -432,24 +413,24 @@ module _ {K : Type 0} (k : Field K) (s : Ground k) where
 
     pub collect_same : {p q : Form K} → Alike k p q → collect k s.sorting p ≡ collect k s.sorting q
     collect_same {p} {q} e = form_unique k s.sorting _ _ (form-collect k s.sorting p) (form-collect k s.sorting q)
-        (alike_trans k (alike-collect k s.sorting p) (alike_trans k e (alike_sym k (alike-collect k s.sorting q))))
+        (alike_trans (alike-collect k s.sorting p) (alike_trans e (alike_sym (alike-collect k s.sorting q))))
 
     addition_assoc : (x y : ℕ) (a b c : NormalMap K) → normal_structure.add (normal_structure.add a b) c ≡ normal_structure.add a
         (normal_structure.add b c)
     addition_assoc x y a b c = arrow_same _ _ refl refl (collect_same
-        (alike_trans k (alike-append k (alike-collect k s.sorting (a.form ++ b.form)) (alike_refl k c.form))
-        (alike_trans k (alike_same k (append_assoc a.form b.form c.form)) (alike-append k (alike_refl k a.form)
-        (alike_sym k (alike-collect k s.sorting (b.form ++ c.form)))))))
+        (alike_trans (alike-append k (alike-collect k s.sorting (a.form ++ b.form)) (alike_refl c.form))
+        (alike_trans (alike_same (append_assoc a.form b.form c.form)) (alike-append k (alike_refl a.form)
+        (alike_sym (alike-collect k s.sorting (b.form ++ c.form)))))))
 
     addition_comm : (x y : ℕ) (a b : NormalMap K) → IsArrow normal_structure x y a → IsArrow normal_structure x y b
         → normal_structure.add a b ≡ normal_structure.add b a
     addition_comm x y a b ha hb = arrow_same _ _ (ha.source ∙ sym hb.source) (ha.target ∙ sym hb.target)
-        (collect_same (alike-swap k a.form b.form))
+        (collect_same (alike-swap a.form b.form))
 
     addition_zero : (x y : ℕ) (a : NormalMap K) → IsArrow normal_structure x y a → normal_structure.add a (normal_structure.zero x y) ≡ a
     addition_zero x y a ha = arrow_same _ a refl refl
         (form_unique k s.sorting _ a.form (form-collect k s.sorting (a.form ++ [])) ha.arrow.sorted
-        (alike_trans k (alike-collect k s.sorting (a.form ++ [])) (alike_same k (append-nil a.form))))
+        (alike_trans (alike-collect k s.sorting (a.form ++ [])) (alike_same (append-nil a.form))))
 
     addition_negate : (x y : ℕ) (a : NormalMap K) → IsArrow normal_structure x y a
         → normal_structure.add a (normal_structure.negate a) ≡ normal_structure.zero x y
@@ -466,32 +447,32 @@ module _ {K : Type 0} (k : Field K) (s : Ground k) where
     reduced_sum q r a b c e = reduced_is a (form-collect k s.sorting (reduced q ++ reduced r))
         (each-collect k s.sorting Irr (reduced q ++ reduced r)
         (each-append Irr (reduced q) (reduced r) (reduced_irreducible q b) (reduced_irreducible r c)))
-        (cong_trans k s.order s.rules e (cong_trans k s.order s.rules
-        (cong_append k s.order s.rules (cong_sym k s.order s.rules (reduced_like b)) (cong_sym k s.order s.rules (reduced_like c)))
-        (alike _ _ (alike_sym k (alike-collect k s.sorting (reduced q ++ reduced r))))))
+        (cong_trans e (cong_trans
+        (cong_append (cong_sym (reduced_like b)) (cong_sym (reduced_like c)))
+        (alike _ _ (alike_sym (alike-collect k s.sorting (reduced q ++ reduced r))))))
 
     product_right_sum : (p q r : Form K) → Alike k (product k p (q ++ r)) (product k p q ++ product k p r)
-    product_right_sum p [] r = alike_same k (sym (ap (λ z. z ++ product k p r) (product-none k p)))
-    product_right_sum p (t ∷ q) r = alike_trans k (product-behind k p t (q ++ r))
-        (alike_trans k (alike-append k (alike_refl k (behind k t p)) (product_right_sum p q r))
-        (alike_trans k (alike_same k (sym (append_assoc (behind k t p) (product k p q) (product k p r))))
-        (alike-append k (alike_sym k (product-behind k p t q)) (alike_refl k (product k p r)))))
+    product_right_sum p [] r = alike_same (sym (ap (λ z. z ++ product k p r) (product-none k p)))
+    product_right_sum p (t ∷ q) r = alike_trans (product-behind k p t (q ++ r))
+        (alike_trans (alike-append k (alike_refl (behind k t p)) (product_right_sum p q r))
+        (alike_trans (alike_same (sym (append_assoc (behind k t p) (product k p q) (product k p r))))
+        (alike-append k (alike_sym (product-behind k p t q)) (alike_refl (product k p r)))))
 
     composition_sum_left : (x y z : ℕ) (a b c : NormalMap K) → IsArrow normal_structure y z a → IsArrow normal_structure y z b
         → IsArrow normal_structure x y c → normal_structure.compose (normal_structure.add a b) c ≡ normal_structure.add
         (normal_structure.compose a c) (normal_structure.compose b c)
     composition_sum_left x y z a b c ha hb hc = arrow_same _ _ refl refl (reduced_sum (product k a.form c.form) (product k b.form c.form)
         (ranges x z _ (compose_good (add_arrow y z a b ha hb) hc)) (ranges x z _ (compose_good ha hc)) (ranges x z _ (compose_good hb hc))
-        (cong_trans k s.order s.rules
+        (cong_trans
         (product_left (sum_form a.form b.form) (a.form ++ b.form) c.form (ranges x y c.form (words_at x y c hc))
-        (alike _ _ (alike-collect k s.sorting (a.form ++ b.form)))) (cong_same k s.order s.rules (product-append k a.form b.form c.form))))
+        (alike _ _ (alike-collect k s.sorting (a.form ++ b.form)))) (cong_same (product-append k a.form b.form c.form))))
 
     composition_sum_right : (x y z : ℕ) (a b c : NormalMap K) → IsArrow normal_structure y z a → IsArrow normal_structure x y b
         → IsArrow normal_structure x y c → normal_structure.compose a (normal_structure.add b c) ≡ normal_structure.add
         (normal_structure.compose a b) (normal_structure.compose a c)
     composition_sum_right x y z a b c ha hb hc = arrow_same _ _ refl refl (reduced_sum (product k a.form b.form) (product k a.form c.form)
         (ranges x z _ (compose_good ha (add_arrow x y b c hb hc))) (ranges x z _ (compose_good ha hb)) (ranges x z _ (compose_good ha hc))
-        (cong_trans k s.order s.rules
+        (cong_trans
         (product_right a.form (sum_form b.form c.form) (b.form ++ c.form) (ranges y z a.form (words_at y z a ha))
         (alike _ _ (alike-collect k s.sorting (b.form ++ c.form)))) (alike _ _ (product_right_sum a.form b.form c.form))))
 

@@ -9,6 +9,7 @@ use Rattle.definitions.specs.Quiver.{Quiver, source, target}
 use Rattle.word_core.specs.Occurrence.{OccursNowhere}
 use Rattle.word_orders.specs.Admissible.{IsAdmissible}
 use Rattle.word_orders.specs.Orders.{Order}
+use Rattle.word_orders.proofs.Orders.{order_from_laws}
 use Rattle.word_orders.specs.Specified.{asked_cmp}
 use Rattle.word_orders.proofs.AskedOrders.{asked_rank, asked_cmp-admissible}
 use Rattle.quiver.specs.Declarations.{letter_count, quiver_of}
@@ -17,9 +18,9 @@ use Rattle.rule_reduce.specs.RuleLists.{IsRule}
 use Rattle.ambiguities.specs.Resolved.{is_below}
 use Rattle.adjoint_rules.specs.declared.parts.Parts.{Parts}
 use Rattle.adjoint_rules.specs.Problem.{numbers, is_in_play}
-use Rattle.confluence.proofs.LedRules.{led_at-is, has_led}
+use Rattle.confluence.proofs.Led.{led_at-is}
+use Rattle.confluence.proofs.LedRules.{ordered}
 use Rattle.confluence.proofs.Meets.{Rules}
-use Rattle.confluence.proofs.ReducibleLaws.{order, ordered}
 use Rattle.normal_forms.specs.Fractions.{Fraction, is_zero, fractions}
 use Rattle.normal_forms.specs.Forms.{Form, multiple_form, product_form, collected}
 use Rattle.normal_forms.specs.RationalForms.{rational_normal_form}
@@ -29,7 +30,7 @@ use Rattle.normal_forms.specs.NormalForms.{IsNonzero, IsBasis, is_marked_in, IsN
 use Rattle.normal_forms.proofs.Field.{numbers_of}
 use Rattle.normal_forms.proofs.Homomorphisms.{mapped, mapped-append, mapped-multiple, mapped-product, mapped-collected, mapped-normal}
 use Rattle.normal_forms.proofs.Rationals.{Rational, rationals, none_test, raw, raw_is_homomorphism, read, read_raw, raw_read}
-use Rattle.normal_forms.proofs.Forms.{Each}
+use Rattle.normal_forms.proofs.Forms.{Each, each-weaker}
 use Rattle.normal_forms.proofs.Collect.{IsForm}
 use Rattle.normal_forms.proofs.CanonicalOrder.{canonical}
 use Rattle.normal_forms.proofs.Congruence.{Irreducible}
@@ -83,10 +84,6 @@ from_numbers : (P : Rule → Type 0) (rules : List Rule) → ((n : ℕ) (g : Rul
 from_numbers P [] each = All-nil P
 from_numbers P (g ∷ rules) each = All-cons P g rules (each 0 g refl) (from_numbers P rules (λ n. each (suc n)))
 
-all_words_weaker : (P Q : Word → Type 0) → ((w : Word) → P w → Q w) → (p : Form Fraction) → AllByRecursion (λ t. P t.1) p → AllByRecursion (λ t. Q t.1) p
-all_words_weaker P Q weaker [] each = tt
-all_words_weaker P Q weaker (t ∷ p) each = (weaker t.1 each.0, all_words_weaker P Q weaker p each.1)
-
 module _ (p : Parts) (rules : List Rule) (are : All (IsRule (letter_count p.quiver) (asked_cmp p.order)) rules) where
   abbrev rank : List ℕ → List ℕ
   rank = asked_rank (letter_count p.quiver) p.order
@@ -95,7 +92,7 @@ module _ (p : Parts) (rules : List Rule) (are : All (IsRule (letter_count p.quiv
   laws = asked_cmp-admissible (letter_count p.quiver) p.order
 
   abbrev pub word_order : Order
-  word_order = order (letter_count p.quiver) (asked_cmp p.order) rank laws rules are
+  word_order = order_from_laws (letter_count p.quiver) (asked_cmp p.order) rank laws
 
   abbrev pub word_rules : Rules word_order
   word_rules = ordered (letter_count p.quiver) (asked_cmp p.order) rank laws rules are
@@ -113,7 +110,7 @@ module _ (p : Parts) (rules : List Rule) (are : All (IsRule (letter_count p.quiv
 
   nowhere : (w : Word) → Irreducible rationals word_order word_rules w → All (λ g. OccursNowhere w g.lead) rules
   nowhere w irreducible = from_numbers (λ g. OccursNowhere w g.lead) rules
-      (λ n g numbered place at. irreducible.at (suc n) at.before at.after (has_led rules (suc n) g numbered)
+      (λ n g numbered place at. irreducible.at (suc n) at.before at.after ((g, numbered))
       (at.splits ∙ ap (λ x. at.before ++ (x.lead ++ at.after)) (sym (led_at-is rules (suc n) g numbered))))
 
   irreducible_from : (w : Word) → All (λ g. OccursNowhere w g.lead) rules → Irreducible rationals word_order word_rules w
@@ -126,7 +123,7 @@ module _ (p : Parts) (rules : List Rule) (are : All (IsRule (letter_count p.quiv
       target_is_object = is.target_is_object;
       sorted = form_read m.form is.nonzero is.ascending;
       irreducible = each_read (Irreducible rationals word_order word_rules) m.form
-          (all_words_weaker (λ w. All (λ g. OccursNowhere w g.lead) rules)
+          (each-weaker (λ w. All (λ g. OccursNowhere w g.lead) rules)
           (Irreducible rationals word_order word_rules) irreducible_from m.form is.irreducible);
       words = each_read
           (LeadsInPlay (quiver_of p.quiver) (is_in_play p.quiver p.starred (numbers p.marked)) (is_marked_in p) m.source m.target) m.form is.words;
@@ -141,7 +138,8 @@ module _ (p : Parts) (rules : List Rule) (are : All (IsRule (letter_count p.quiv
     nonzero = nonzero_raw a.form is.sorted;
     ascending = ascending_raw a.form is.sorted;
     words = each_raw (LeadsInPlay (quiver_of p.quiver) (is_in_play p.quiver p.starred (numbers p.marked)) (is_marked_in p) a.source a.target) a.form is.words;
-    irreducible = all_words_weaker (Irreducible rationals word_order word_rules) (λ w. All (λ g. OccursNowhere w g.lead) rules) nowhere (mapped raw a.form)
+    irreducible =
+        each-weaker (Irreducible rationals word_order word_rules) (λ w. All (λ g. OccursNowhere w g.lead) rules) nowhere (mapped raw a.form)
         (each_raw (Irreducible rationals word_order word_rules) a.form is.irreducible);
   }
 

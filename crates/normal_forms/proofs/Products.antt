@@ -6,8 +6,8 @@ use Rattle.word_orders.specs.Orders.{Order}
 use Rattle.confluence.proofs.Meets.{Rules}
 use Rattle.normal_forms.proofs.FieldLaws.{middle}
 use Rattle.normal_forms.specs.Forms.{Form, with_words, product_form}
-use Rattle.normal_forms.proofs.Forms.{words-append, words-words, words-same, Each, each-append, hit, look, scaled, sum-append, Alike, scaled-append, scaled-words}
-use Rattle.normal_forms.proofs.Congruence.{alike_sym, Cong, alike, cong_refl, cong_same, cong_append, cong_trans, cong_left, cong_scaled, cong_between}
+use Rattle.normal_forms.proofs.Forms.{words-append, words-words, words-same, Each, each-append, hit, look, scaled, Alike, scaled-append, scaled-words}
+use Rattle.normal_forms.proofs.Congruence.{look-append, alike_sym, Cong, alike, cong_refl, cong_same, cong_append, cong_trans, cong_left, cong_scaled, cong_between}
 
 module _ {K : Type 0} (k : Field K) where
   -- one term times a polynomial, and a polynomial times one term
@@ -49,9 +49,6 @@ module _ {K : Type 0} (k : Field K) where
   product-none [] = refl
   product-none (t ∷ p) = product-none p
 
-  look-append : (p q : Form K) (w : Word) → look k (p ++ q) w ≡ k.plus (look k p w) (look k q w)
-  look-append p q w = sum-append k (λ u. hit k u w) p q
-
   -- the product, written by the terms of the second factor
   pub product-behind : (p : Form K) (s : K × Word) (q : Form K) → Alike k (product p (s ∷ q)) (behind s p ++ product p q)
   product-behind p s q = record { at = λ w. go p w }
@@ -59,9 +56,11 @@ module _ {K : Type 0} (k : Field K) where
       go : (p : Form K) (w : Word) → look k (product p (s ∷ q)) w ≡ look k (behind s p ++ product p q) w
       go [] w = refl
       go (t ∷ p) w = ap₂ k.plus (ap (λ z. k.times z (hit k (t.1 ++ s.1) w)) (k.times_comm t.0 s.0))
-          (look-append (front t q) (product p (s ∷ q)) w ∙ ap (λ z. k.plus (look k (front t q) w) z) (go p w ∙ look-append (behind s p) (product p q) w))
+          (look-append k (front t q) (product p (s ∷ q)) w
+          ∙ ap (λ z. k.plus (look k (front t q) w) z) (go p w ∙ look-append k (behind s p) (product p q) w))
           ∙ sym (k.plus_assoc X F (k.plus B P)) ∙ middle k X F B P
-          ∙ sym (look-append (behind s (t ∷ p)) (front t q ++ product p q) w ∙ ap (λ z. k.plus (k.plus X B) z) (look-append (front t q) (product p q) w))
+          ∙ sym (look-append k (behind s (t ∷ p)) (front t q ++ product p q) w
+          ∙ ap (λ z. k.plus (k.plus X B) z) (look-append k (front t q) (product p q) w))
         where
           X : K
           X = k.times (k.times s.0 t.0) (hit k (t.1 ++ s.1) w)
@@ -85,20 +84,20 @@ module _ {K : Type 0} (k : Field K) where
 
   module _ (o : Order) (g : Rules o) (join : (u v : Word) → o.Range u → o.Range v → o.Range (u ++ v)) (empty : o.Range []) where
     pub cong_before : {x : Word} → o.Range x → {p q : Form K} → Cong k o g p q → Cong k o g (with_words (λ u. x ++ u) p) (with_words (λ u. x ++ u) q)
-    cong_before {x} r {p} {q} e = cong_trans k o g (cong_same k o g (moved p))
-        (cong_trans k o g (cong_between k o g join r empty e) (cong_same k o g (sym (moved q))))
+    cong_before {x} r {p} {q} e = cong_trans (cong_same (moved p))
+        (cong_trans (cong_between join x [] r empty e) (cong_same (sym (moved q))))
       where
         moved : (p : Form K) → with_words (λ u. x ++ u) p ≡ with_words (λ u. x ++ (u ++ [])) p
         moved p = words-same _ _ p (λ u. ap (λ z. x ++ z) (sym (append-nil u)))
 
     pub cong_behind : {y : Word} → o.Range y → {p q : Form K} → Cong k o g p q → Cong k o g (with_words (λ u. u ++ y) p) (with_words (λ u. u ++ y) q)
-    cong_behind r e = cong_between k o g join empty r e
+    cong_behind {y} r e = cong_between join [] y empty r e
 
     pub cong_product_right : (p : Form K) {q q' : Form K} → Each o.Range p → Cong k o g q q' → Cong k o g (product p q) (product p q')
-    cong_product_right [] a e = cong_refl k o g []
-    cong_product_right (t ∷ p) a e = cong_append k o g (cong_before a.0 (cong_scaled k o g t.0 e)) (cong_product_right p a.1 e)
+    cong_product_right [] a e = cong_refl []
+    cong_product_right (t ∷ p) a e = cong_append (cong_before a.0 (cong_scaled t.0 e)) (cong_product_right p a.1 e)
 
     pub cong_product_left : {p p' : Form K} (q : Form K) → Each o.Range q → Cong k o g p p' → Cong k o g (product p q) (product p' q)
-    cong_product_left {p} {p'} [] a e = cong_same k o g (product-none p ∙ sym (product-none p'))
-    cong_product_left {p} {p'} (s ∷ q) a e = cong_left k o g (product-behind p s q) (cong_trans k o g (cong_append k o g
-        (cong_behind a.0 (cong_scaled k o g s.0 e)) (cong_product_left q a.1 e)) (alike _ _ (alike_sym k (product-behind p' s q))))
+    cong_product_left {p} {p'} [] a e = cong_same (product-none p ∙ sym (product-none p'))
+    cong_product_left {p} {p'} (s ∷ q) a e = cong_left (product-behind p s q) (cong_trans (cong_append
+        (cong_behind a.0 (cong_scaled s.0 e)) (cong_product_left q a.1 e)) (alike _ _ (alike_sym (product-behind p' s q))))

@@ -3,28 +3,29 @@ use Rattle.std.proofs.Common.{◌≡◌, ◌≢◌, ℕ, ◌*◌, ◌/◌, ◌<�
 use Rattle.std.proofs.lemmas.Int.{ints}
 use Rattle.std.specs.Int.{IsGcd}
 use Rattle.std.specs.Int.RustNames.{unsigned_abs}
-use Rattle.std.proofs.lemmas.Nat.Gcd.{dvd_antisymm}
-use Rattle.std.proofs.Math.Nat.{mul_comm, mul_assoc, dvd-mul_left, eq-one_of_dvd-one, mul-div_cancel', eq-zero_of_zero-dvd, ℕ_set, dvd_of_mul-dvd-mul_left, mul-dvd-mul_left}
+use Rattle.std.proofs.lemmas.Nat.Gcd.{dvd_antisymm, same_from_IsGcd}
+use Rattle.std.proofs.Math.Nat.{mul-one, mul_comm, mul_assoc, dvd-mul_left, eq-one_of_dvd-one, mul-div_cancel', eq-zero_of_zero-dvd, ℕ_set, dvd_of_mul-dvd-mul_left, mul-dvd-mul_left}
 use Rattle.std.proofs.Math.Bridge.{le_prop}
 use Rattle.std.proofs.Math.IntN.{*ℤ_comm, zero-*ℤ, +ℤ_idr, +ℤ_invr}
 use Prim.Native.Nat.{◌∣◌}
 use Rattle.normal_forms.proofs.Field.{Field, numbers_of}
 use Rattle.normal_forms.proofs.Homomorphisms.{IsHomomorphism}
-use Rattle.definitions.proofs.Integers.{+ℤ-*ℤ, *ℤ-+ℤ, *ℤ_assoc, *ℤ-neg_ℤ, *ℤ_zero}
+use Rattle.definitions.proofs.Integers.{+ℤ-*ℤ, *ℤ-+ℤ, *ℤ_assoc, *ℤ-neg_ℤ}
 use Rattle.coef_int.specs.Divisor.{gcd_of}
-use Rattle.coef_int.proofs.Divisors.{gcd_of-IsGcd}
+use Rattle.coef_int.proofs.Divisors.{gcd_of-IsGcd, gcd_of-scaled}
 use Rattle.normal_forms.specs.Fractions.{Fraction, IsLowest, is_zero, quotient, over as fraction_over, fraction_sum, fraction_product, fraction_negative, whole, part_of, fractions}
-use Rattle.normal_forms.proofs.Divisors.{divides_other}
+use Rattle.confluence.proofs.Integers.{neg_ℤ-*ℤ, *ℤ_cancel}
+use Rattle.confluence.proofs.Spans.{mul_swap}
 
-neg_ℤ-*ℤ : (a b : ℤ) → neg_ℤ a *ℤ b ≡ neg_ℤ (a *ℤ b)
-neg_ℤ-*ℤ a b = *ℤ_comm (neg_ℤ a) b ∙ *ℤ-neg_ℤ b a ∙ ap neg_ℤ (*ℤ_comm b a)
+turn : (p q r : ℤ) → (p *ℤ q) *ℤ r ≡ (p *ℤ r) *ℤ q
+turn p q r = *ℤ_assoc p q r ∙ ap (λ z. p *ℤ z) (*ℤ_comm q r) ∙ sym (*ℤ_assoc p r q)
 
-*ℤ_cancel : (e : ℕ) (a : ℤ) → 0 < e → pos e *ℤ a ≡ pos 0 → a ≡ pos 0
-*ℤ_cancel zero a h z = absurd (omega arith)
-*ℤ_cancel (suc e) a h z = *ℤ_zero e a z
-
-mul_swap : (a b c : ℤ) → a *ℤ (b *ℤ c) ≡ b *ℤ (a *ℤ c)
-mul_swap a b c = sym (*ℤ_assoc a b c) ∙ ap (λ x. x *ℤ c) (*ℤ_comm a b) ∙ *ℤ_assoc b a c
+-- what divides a product and has nothing in common with the one divides the other
+divides_other : (a b c : ℕ) → IsGcd a b 1 → a ∣ b * c → a ∣ c
+divides_other a b c apart divides =
+    let g = unsigned_abs (gcd_of (pos a) (pos b)) in
+    let one : g ≡ 1 = same_from_IsGcd a b g 1 (gcd_of-IsGcd (pos a) (pos b)) apart in
+    subst (λ z. a ∣ z) (ap (λ z. c * z) one ∙ mul-one c) (gcd_of-scaled (pos a) (pos b) c a (dvd-mul_left a c) (subst (λ z. a ∣ z) (mul_comm b c) divides))
 
 -- a fraction with the proof that it is in lowest terms
 pub record Rational : Type 0 where
@@ -71,14 +72,13 @@ factor_positive g zero e p = omega (arith, e)
 factor_positive g (suc m) e p = omega arith
 
 quotient_lowest : (a : ℤ) {b : ℕ} (g : ℕ) → 0 < b → IsGcd (unsigned_abs a) b g → IsLowest (quotient a g) (b / g)
-quotient_lowest a {b} g p h =
-    record {
-      positive = factor_positive g (b / g) (mul-div_cancel' g h.1) p;
-      apart =
-          λ d i j. eq-one_of_dvd-one (dvd_of_mul-dvd-mul_left d (divisor_positive g h.1 p) (subst (λ z. g * d ∣ z) (sym (omega arith))
-          (h.2 (g * d) (subst (λ z. g * d ∣ z) (mul-div_cancel' g h.0) (mul-dvd-mul_left d g (subst (λ z. d ∣ z) (unsigned_abs-quotient a g) i)))
-          (subst (λ z. g * d ∣ z) (mul-div_cancel' g h.1) (mul-dvd-mul_left d g j)))));
-    }
+quotient_lowest a {b} g p h = record {
+  positive = factor_positive g (b / g) (mul-div_cancel' g h.1) p;
+  apart =
+      λ d i j. eq-one_of_dvd-one (dvd_of_mul-dvd-mul_left d (divisor_positive g h.1 p) (subst (λ z. g * d ∣ z) (sym (omega arith))
+      (h.2 (g * d) (subst (λ z. g * d ∣ z) (mul-div_cancel' g h.0) (mul-dvd-mul_left d g (subst (λ z. d ∣ z) (unsigned_abs-quotient a g) i)))
+      (subst (λ z. g * d ∣ z) (mul-div_cancel' g h.1) (mul-dvd-mul_left d g j)))));
+}
 
 pub zero_in_lowest : IsLowest (pos 0) 1
 zero_in_lowest = record { positive = omega arith; apart = λ d i j. eq-one_of_dvd-one j }
@@ -146,21 +146,17 @@ pub value_unique : {x y : Rational} {a : ℤ} {b : ℕ} → Value x a b → Valu
 value_unique {x} {y} {a} {b} v w = cross_unique x y (cancel _ _ v.positive
     (turn x.top (pos y.bottom) (pos b) ∙ ap (λ z. z *ℤ pos y.bottom) v.cross ∙ turn a (pos x.bottom) (pos y.bottom)
     ∙ ap (λ z. z *ℤ pos x.bottom) (sym w.cross) ∙ turn y.top (pos b) (pos x.bottom)))
-  where
-    turn : (p q r : ℤ) → (p *ℤ q) *ℤ r ≡ (p *ℤ r) *ℤ q
-    turn p q r = *ℤ_assoc p q r ∙ ap (λ z. p *ℤ z) (*ℤ_comm q r) ∙ sym (*ℤ_assoc p r q)
 
 pub value_change : {x : Rational} {a c : ℤ} {b d : ℕ} → a ≡ c → b ≡ d → Value x a b → Value x c d
 value_change {x} {a} {d} e f v = subst (λ z. Value x z d) e (subst (λ z. Value x a z) f v)
 
 -- enlarged
 pub value_times : {x : Rational} {a : ℤ} {b n : ℕ} → 0 < n → Value x a b → Value x (a *ℤ pos n) (b * n)
-value_times {x} {a} {b} {n} h v =
-    record {
-      positive = grind arith;
-      cross = sym (*ℤ_assoc x.top (pos b) (pos n)) ∙ ap (λ z. z *ℤ pos n) v.cross
-          ∙ *ℤ_assoc a (pos x.bottom) (pos n) ∙ ap (λ z. a *ℤ z) (*ℤ_comm (pos x.bottom) (pos n)) ∙ sym (*ℤ_assoc a (pos n) (pos x.bottom));
-    }
+value_times {x} {a} {b} {n} h v = record {
+  positive = grind arith;
+  cross = sym (*ℤ_assoc x.top (pos b) (pos n)) ∙ ap (λ z. z *ℤ pos n) v.cross
+      ∙ *ℤ_assoc a (pos x.bottom) (pos n) ∙ ap (λ z. a *ℤ z) (*ℤ_comm (pos x.bottom) (pos n)) ∙ sym (*ℤ_assoc a (pos n) (pos x.bottom));
+}
 
 pub rational_plus : Rational → Rational → Rational
 rational_plus x y = over (x.top *ℤ pos y.bottom +ℤ y.top *ℤ pos x.bottom) (x.bottom * y.bottom)
@@ -179,9 +175,6 @@ pub carry : {x : Rational} {a : ℤ} (c : ℤ) {b : ℕ} (d : ℕ) → Value x a
 carry {x} {a} c {b} d v e = cancel _ _ v.positive
     (turn x.top (pos d) (pos b) ∙ ap (λ z. z *ℤ pos d) v.cross ∙ turn a (pos x.bottom) (pos d) ∙ ap (λ z. z *ℤ pos x.bottom) e
     ∙ turn c (pos b) (pos x.bottom))
-  where
-    turn : (p q r : ℤ) → (p *ℤ q) *ℤ r ≡ (p *ℤ r) *ℤ q
-    turn p q r = *ℤ_assoc p q r ∙ ap (λ z. p *ℤ z) (*ℤ_comm q r) ∙ sym (*ℤ_assoc p r q)
 
 pub plus_value : {x y : Rational} {a c : ℤ} {b d : ℕ} → Value x a b → Value y c d → Value (rational_plus x y) (a *ℤ pos d +ℤ c *ℤ pos b) (b * d)
 unfolding rational_plus
@@ -205,20 +198,18 @@ plus_value {x} {y} {a} {c} {b} {d} v w = through
             ∙ ap (λ z. (c *ℤ pos b) *ℤ z) (*ℤ_comm (pos y.bottom) (pos x.bottom))
 
     through : Value S (x.top *ℤ pos y.bottom +ℤ y.top *ℤ pos x.bottom) (x.bottom * y.bottom) → Value S (a *ℤ pos d +ℤ c *ℤ pos b) (b * d)
-    through u =
-        record {
-          positive = grind arith;
-          cross = carry (a *ℤ pos d +ℤ c *ℤ pos b) (b * d) u same;
-        }
+    through u = record {
+      positive = grind arith;
+      cross = carry (a *ℤ pos d +ℤ c *ℤ pos b) (b * d) u same;
+    }
 
 pub times_value : {x y : Rational} {a c : ℤ} {b d : ℕ} → Value x a b → Value y c d → Value (rational_times x y) (a *ℤ c) (b * d)
 unfolding rational_times
-times_value {x} {y} {a} {c} {b} {d} v w =
-    record {
-      positive = grind arith;
-      cross = carry (a *ℤ c) (b * d) (over_value (x.top *ℤ y.top) (x.bottom * y.bottom) (grind arith))
-          (swap4 x.top y.top (pos b) (pos d) ∙ ap₂ (λ p q. p *ℤ q) v.cross w.cross ∙ swap4 a (pos x.bottom) c (pos y.bottom));
-    }
+times_value {x} {y} {a} {c} {b} {d} v w = record {
+  positive = grind arith;
+  cross = carry (a *ℤ c) (b * d) (over_value (x.top *ℤ y.top) (x.bottom * y.bottom) (grind arith))
+      (swap4 x.top y.top (pos b) (pos d) ∙ ap₂ (λ p q. p *ℤ q) v.cross w.cross ∙ swap4 a (pos x.bottom) c (pos y.bottom));
+}
 
 pub minus_value : {x : Rational} {a : ℤ} {b : ℕ} → Value x a b → Value (rational_minus x) (neg_ℤ a) b
 unfolding rational_minus

@@ -23,7 +23,7 @@ use Rattle.normal_forms.specs.NormalForms.{normal_forms, forms_representation}
 use Rattle.normal_forms.specs.TellsFromZero.{TellsFromZero}
 use Rattle.normal_forms.specs.BothWays.{both_ways, both_ways_representation}
 use Rattle.normal_forms.specs.SharpMeans.{SharpMeans, StarSharpMeans}
-use Rattle.normal_forms.proofs.Units.{all_front, all_back}
+use Rattle.normal_forms.proofs.Forms.{all_front, all_back}
 use Rattle.normal_forms.proofs.BothWays.{both, both_ways_laws, exchange_laws, both_ways_cancels, both_ways_represents, value_there, value_back}
 
 module _ {Object Arrow : Type 0} {s : Structure Object Arrow} (laws : PreadditiveLaws s) (q : Quiver) (quiver : IsQuiver q) (f : Representation Object Arrow) (rep : Represents s q f) where

@@ -26,17 +26,15 @@ in_play count q starred marked a = nat_lt a count && (if nat_lt a q.objects then
 module _ {K : Type 0} (k : Field K) (o : Order) (g : Rules o) (normal : Form K → Form K) (sorting : Sorting) (count : ℕ) (q : Quiver) (starred : Bool)
     (marked : List ℕ) where
   abbrev pub ground : Ground k
-  ground =
-      record {
-        order = o;
-        rules = g;
-        normal = normal;
-        sorting = sorting;
-        quiver = q;
-        play = in_play count q starred marked;
-        marked =
-            λ v. list_any (nat_eq v) marked;
-      }
+  ground = record {
+    order = o;
+    rules = g;
+    normal = normal;
+    sorting = sorting;
+    quiver = q;
+    play = in_play count q starred marked;
+    marked = λ v. list_any (nat_eq v) marked;
+  }
 
   -- a positive multiple is a sum of rows over the rules
   abbrev pub IsGenerated : List Term → Type 0
@@ -65,11 +63,7 @@ module _ {K : Type 0} (k : Field K) (o : Order) (g : Rules o) (normal : Form K �
       outer = and_parts (ltb a count) (cond (ltb a q.objects) (list_any (nat_eq a) marked) (starred || nat_le a (star q a))) e
 
       not_below : (a b : ℕ) → ltb a b ≡ false → b ≤ a
-      not_below a b h = by_cases (cases_lt a b)
-        where
-          by_cases : (a < b) ⊎ (b ≤ a) → b ≤ a
-          by_cases (inl l) = absurd (true≢false (sym (lt-ltb a b l) ∙ h))
-          by_cases (inr r) = r
+      not_below a b h = elim (cases_lt a b) [ inl l ↦ absurd (true≢false (sym (lt-ltb a b l) ∙ h)) | inr r ↦ r ]
 
       go : (b : Bool) → ltb a q.objects ≡ b → cond b (list_any (nat_eq a) marked) (starred || nat_le a (star q a)) ≡ true
           → ((a < q.objects) × (list_any (nat_eq a) marked ≡ true)) ⊎ ((q.objects ≤ a) × ((starred || nat_le a (star q a)) ≡ true))
@@ -97,19 +91,15 @@ module _ {K : Type 0} (k : Field K) (o : Order) (g : Rules o) (normal : Form K �
       by_mark v h (inr x) = absurd (omega (arith, h, x.0))
 
       left : (v a : ℕ) → list_any (nat_eq v) marked ≡ true → Plays a → target q a ≡ v → IsGenerated (left_unit v a)
-      left v a m p t = go p.which
-        where
-          go : ((a < q.objects) × (list_any (nat_eq a) marked ≡ true)) ⊎ ((q.objects ≤ a) × ((starred || nat_le a (star q a)) ≡ true))
-              → IsGenerated (left_unit v a)
-          go (inl x) = subst (λ z. IsGenerated (left_unit v z)) (sym t ∙ c.is_quiver.identity_target a x.0)
-              (unit_itself q starred marked assumptions IsGenerated c.generated v m)
-          go (inr x) = unit_of_target q starred marked assumptions IsGenerated c.generated m x.0 (subst (λ n. a < n) c.count_is p.letter) x.1 t
+      left v a m p t = elim p.which [
+        | inl x ↦ subst (λ z. IsGenerated (left_unit v z)) (sym t ∙ c.is_quiver.identity_target a x.0)
+            (unit_itself q starred marked assumptions IsGenerated c.generated v m)
+        | inr x ↦ unit_of_target q starred marked assumptions IsGenerated c.generated m x.0 (subst (λ n. a < n) c.count_is p.letter) x.1 t
+      ]
 
       right : (v a : ℕ) → list_any (nat_eq v) marked ≡ true → Plays a → source q a ≡ v → IsGenerated (right_unit v a)
-      right v a m p t = go p.which
-        where
-          go : ((a < q.objects) × (list_any (nat_eq a) marked ≡ true)) ⊎ ((q.objects ≤ a) × ((starred || nat_le a (star q a)) ≡ true))
-              → IsGenerated (right_unit v a)
-          go (inl x) = subst (λ z. IsGenerated (right_unit v z)) (sym t ∙ c.is_quiver.identity_source a x.0)
-              (unit_itself q starred marked assumptions IsGenerated c.generated v m)
-          go (inr x) = unit_of_source q starred marked assumptions IsGenerated c.generated m x.0 (subst (λ n. a < n) c.count_is p.letter) x.1 t
+      right v a m p t = elim p.which [
+        | inl x ↦ subst (λ z. IsGenerated (right_unit v z)) (sym t ∙ c.is_quiver.identity_source a x.0)
+            (unit_itself q starred marked assumptions IsGenerated c.generated v m)
+        | inr x ↦ unit_of_source q starred marked assumptions IsGenerated c.generated m x.0 (subst (λ n. a < n) c.count_is p.letter) x.1 t
+      ]

@@ -11,29 +11,19 @@ use Rattle.confluence.proofs.Spans.{Span}
 use Rattle.word_orders.specs.Orders.{Order}
 use Rattle.confluence.proofs.Meets.{Rules}
 use Rattle.normal_forms.proofs.FieldLaws.{minus_one, minus_unique, int_none}
-use Rattle.normal_forms.proofs.Forms.{hit, look}
+use Rattle.normal_forms.proofs.Forms.{all_front, all_back, hit, look}
 use Rattle.normal_forms.specs.Forms.{Form}
 use Rattle.normal_forms.proofs.Congruence.{lifted, AnyRow, Cong, cong_left, cong_after}
 use Rattle.normal_forms.proofs.Sharp.{ideal_like}
-
-pub all_front : {A : Type 0} (P : A → Type 0) (p q : List A) → AllByRecursion P (p ++ q) → AllByRecursion P p
-all_front P [] q a = tt
-all_front P (x ∷ p) q a = (a.0, all_front P p q a.1)
-
-pub all_back : {A : Type 0} (P : A → Type 0) (p q : List A) → AllByRecursion P (p ++ q) → AllByRecursion P q
-all_back P [] q a = a
-all_back P (x ∷ p) q a = all_back P p q a.1
 
 -- what holds of all that a member gives
 all_marked : {A : Type 0} (P : A → Type 0) (h : ℕ → List A) (marked : List ℕ) (v : ℕ) → list_any (nat_eq v) marked ≡ true
     → AllByRecursion P (flat_map h marked) → AllByRecursion P (h v)
 all_marked P h [] v e a = absurd (true≢false (sym e))
-all_marked P h (m ∷ marked) v e a = go (λ j. all_marked P h marked v j (all_back P (h m) (flat_map h marked) a))
-    (or_cases (eqb v m) (list_any (nat_eq v) marked) e)
-  where
-    go : (list_any (nat_eq v) marked ≡ true → AllByRecursion P (h v)) → (eqb v m ≡ true) ⊎ (list_any (nat_eq v) marked ≡ true) → AllByRecursion P (h v)
-    go rest (inl i) = subst (λ z. AllByRecursion P (h z)) (sym (eqb-true v m i)) (all_front P (h m) (flat_map h marked) a)
-    go rest (inr j) = rest j
+all_marked P h (m ∷ marked) v e a = elim (or_cases (eqb v m) (list_any (nat_eq v) marked) e) [
+  | inl i ↦ subst (λ z. AllByRecursion P (h z)) (sym (eqb-true v m i)) (all_front P (h m) (flat_map h marked) a)
+  | inr j ↦ all_marked P h marked v j (all_back P (h m) (flat_map h marked) a)
+]
 
 all_range : {A : Type 0} (P : A → Type 0) (h : ℕ → List A) (n : ℕ) {b a : ℕ} → b ≤ a → a < b + n → AllByRecursion P (flat_map h (range_with_len b n))
     → AllByRecursion P (h a)
@@ -42,11 +32,10 @@ all_range P h (suc n) {b} {a} p q all = go
     (λ e. all_range P h n (omega (arith, e)) (omega (arith, q)) (all_back P (h b) (flat_map h (range_with_len (b + 1) n)) all)) (order b a)
   where
     order : (b a : ℕ) → (b ≡ a) ⊎ (b ≢ a)
-    order b a = by_test (eqb b a) refl
-      where
-        by_test : (t : Bool) → eqb b a ≡ t → (b ≡ a) ⊎ (b ≢ a)
-        by_test true e = inl (eqb-true b a e)
-        by_test false e = inr (λ i. true≢false (sym (eq-eqb b a i) ∙ e))
+    order b a = (elim (eqb b a) as (λ t. eqb b a ≡ t → (b ≡ a) ⊎ (b ≢ a)) [
+      | true ↦ λ e. inl (eqb-true b a e)
+      | false ↦ λ e. inr (λ i. true≢false (sym (eq-eqb b a i) ∙ e))
+    ]) refl
 
     go : (b ≢ a → AllByRecursion P (h a)) → (b ≡ a) ⊎ (b ≢ a) → AllByRecursion P (h a)
     go rest (inl e) = subst (λ z. AllByRecursion P (h z)) e (all_front P (h b) (flat_map h (range_with_len (b + 1) n)) all)
@@ -81,8 +70,8 @@ module _ (q : Quiver) (starred : Bool) (marked : List ℕ) (assumptions : List (
 -- x - y in the ideal makes the words x and y alike
 pub unit_like : {K : Type 0} (k : Field K) {o : Order} {g : Rules o} (x y : Word) → Span (AnyRow o g) (coefficient_of (((pos 1, x) ∷ (negsuc 0, y) ∷ [])))
     → Cong k o g ((k.one, x) ∷ []) ((k.one, y) ∷ [])
-unit_like {K = K} k {o} {g} x y h = cong_left k o g (record { at = same })
-    (cong_after k o g Y (ideal_like k o g (((pos 1, x) ∷ (negsuc 0, y) ∷ [])) h))
+unit_like {K = K} k {o} {g} x y h = cong_left (record { at = same })
+    (cong_after Y (ideal_like k o g (((pos 1, x) ∷ (negsuc 0, y) ∷ [])) h))
   where
     L : Form K
     L = lifted k k.one (((pos 1, x) ∷ (negsuc 0, y) ∷ []))
@@ -98,7 +87,6 @@ unit_like {K = K} k {o} {g} x y h = cong_left k o g (record { at = same })
         (ap (λ z. k.plus z (k.int (negsuc 0))) (sym k.int_one) ∙ sym (k.int_plus (pos 1) (negsuc 0)) ∙ int_none k)
 
     same : (w : Word) → look k ((k.one, x) ∷ []) w ≡ look k (L ++ Y) w
-    same w = sym
-        (ap₂ (λ a b. k.plus (k.times a (hit k x w)) b) (k.one_times (k.int (pos 1)) ∙ k.int_one)
+    same w = sym (ap₂ (λ a b. k.plus (k.times a (hit k x w)) b) (k.one_times (k.int (pos 1)) ∙ k.int_one)
         (ap₂ k.plus (ap (λ z. k.times z (hit k y w)) (k.one_times (k.int (negsuc 0)) ∙ minus_one_is) ∙ minus_one k (hit k y w))
         (k.plus_none (k.times k.one (hit k y w)) ∙ k.one_times (hit k y w)) ∙ k.plus_comm (k.minus (hit k y w)) (hit k y w) ∙ k.plus_minus (hit k y w)))

@@ -10,7 +10,7 @@ use Rattle.definitions.specs.Poly.{Word, Term, word_eq, coefficient_of}
 use Rattle.word_core.specs.Occurrence.{IsFirstPlace, OccursNowhere}
 use Rattle.word_orders.specs.Admissible.{Compare, IsAdmissible}
 use Rattle.word_orders.specs.Orders.{Order}
-use Rattle.word_orders.proofs.Orders.{over_range, less_below}
+use Rattle.word_orders.proofs.Orders.{order_from_laws, over_range, less_below}
 use Rattle.nc_polynomial.proofs.Distinct.{AreDistinct, distinct-descending, words_listed}
 use Rattle.nc_polynomial.proofs.Shapes.{recursion_from_IsDescending}
 use Rattle.rule_index.specs.Matches.{place_in}
@@ -22,11 +22,9 @@ use Rattle.rule_reduce.proofs.WordsKept.{split_at}
 use Rattle.ambiguities.specs.Resolved.{is_below}
 use Rattle.confluence.proofs.TermWords.{AllWords}
 use Rattle.confluence.proofs.Tests.{below_from_test, test_from_below}
-use Rattle.confluence.proofs.Led.{Led, HasLed, led_at}
-use Rattle.confluence.proofs.LedRules.{led_of, leds_of, led_at-is, has_led, rule_of_number}
+use Rattle.confluence.proofs.Led.{Led, HasLed, led_at, led_of, led_at-is}
+use Rattle.confluence.proofs.LedRules.{ordered, filtered, is_lower, parted}
 use Rattle.confluence.proofs.Meets.{Rules}
-use Rattle.confluence.proofs.Parts.{filtered, is_lower, parted}
-use Rattle.confluence.proofs.ReducibleLaws.{order, ordered}
 use Rattle.normal_forms.specs.Forms.{Form, with_words}
 use Rattle.normal_forms.specs.RationalForms.{IsGrounded, grounded, rule_or, first_rule, other_terms, form_where, lower_forms, form_by, word_form, rational_normal_form}
 use Rattle.normal_forms.proofs.Field.{Field, numbers_of}
@@ -76,18 +74,15 @@ other_terms-parted {g} is = same_kept g.poly.terms (λ w. not (word_eq g.lead w)
     distinct : AreDistinct g.poly.terms
     distinct = distinct-descending g.poly.terms (recursion_from_IsDescending g.poly.terms g.poly.canonical.shaped.descending)
 
-    true_right : (b : Bool) → b ≡ (b && true)
-    true_right true = refl
-    true_right false = refl
-
     each : (w : Word) → coefficient_of g.poly.terms w ≢ pos 0 → Same w
-    each w some = true_right (not (word_eq g.lead w)) ∙ ap (λ b. not (word_eq g.lead w) && not b)
+    each w some = (elim (not (word_eq g.lead w)) as (λ b. b ≡ (b && true)) [ true ↦ refl | false ↦ refl ])
+        ∙ ap (λ b. not (word_eq g.lead w) && not b)
         (sym (false_from_ne_true (int_eq (coefficient_of g.poly.terms w) (pos 0)) (λ e. some ((Decides-int_eq (coefficient_of g.poly.terms w) (pos 0)).0 e))))
 
 module _ {K : Type 0} (k : Field K) (letters : ℕ) (compare : Compare) (rank : List ℕ → List ℕ) (laws : IsAdmissible letters compare rank) (rules : List Rule)
     (are : All (IsRule letters compare) rules) where
   abbrev o : Order
-  o = order letters compare rank laws rules are
+  o = order_from_laws letters compare rank laws
 
   abbrev g : Rules o
   g = ordered letters compare rank laws rules are
@@ -96,11 +91,10 @@ module _ {K : Type 0} (k : Field K) (letters : ℕ) (compare : Compare) (rank : 
   below = is_below letters compare
 
   pub no_lead : {word : Word} → HasNoLead rules word → Irreducible k o g word
-  no_lead {word} none = record { at = λ i l r has e. at i l r e (rule_of_number rules i has) }
-    where
-      at : (i : ℕ) (l r : Word) → word ≡ l ++ ((g.rule i).lead ++ r) → ((f : Rule) × (rule_at rules i ≡ Some f)) → ⊥
-      at i l r e (f, numbered) = rule_at-all (λ f. OccursNowhere word f.lead) rules i f numbered none (length l)
-          (record { before = l; after = r; splits = e ∙ ap (λ x. l ++ (x.lead ++ r)) (led_at-is rules i f numbered); at_place = refl })
+  no_lead {word} none = record {
+    at = λ i l r (f, numbered) e. rule_at-all (λ f. OccursNowhere word f.lead) rules i f numbered none (length l)
+        (record { before = l; after = r; splits = e ∙ ap (λ x. l ++ (x.lead ++ r)) (led_at-is rules i f numbered); at_place = refl });
+  }
 
   -- what a term of a rule is replaced by, written both ways
   factor : (q : ℕ) (c : ℤ) → k.times (k.times (k.minus (k.int c)) (k.part q)) k.one ≡ k.times (k.minus (k.times k.one (k.part q))) (k.int c)
@@ -151,10 +145,10 @@ module _ {K : Type 0} (k : Field K) (letters : ℕ) (compare : Compare) (rank : 
           r : Word
           r = drop (f.1 + length f.0.lead) M
 
-          has : HasLed (leds_of rules) found.number
-          has = has_led rules found.number f.0 found.numbered
+          has : HasLed rules found.number
+          has = (f.0, found.numbered)
 
-          is : led_at (leds_of rules) found.number ≡ led_of f.0
+          is : led_at rules found.number ≡ led_of f.0
           is = led_at-is rules found.number f.0 found.numbered
 
           splits : M ≡ l ++ ((g.rule found.number).lead ++ r)

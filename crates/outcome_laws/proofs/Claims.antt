@@ -29,7 +29,7 @@ use Rattle.claim_decider.specs.declared.outcome.Outcome.{Outcome}
 use Rattle.claim_decider.specs.declared.outcome.Outcome.TheVariants as outcome
 use Rattle.claim_decider.specs.Outcomes.{IsCauseOfExpansion, IsCauseOfGathering, halted_at, IsHalted, record_of, certificate_of, Expands, Gathers, IsProved, evidence_of_zero, IsLeft, IsDoneWith, IsDoneBy, IsDone, IsOpen, IsClosedWith, GetsOutcome, at_once, after_round, by_closing, by_stop}
 use Rattle.outcome_laws.specs.Existence.{HasRound}
-use Rattle.confluence.proofs.Ends.{Gives, normal_form_gives}
+use Rattle.confluence.proofs.ShapeLaws.{Gives, normal_form_gives}
 use Rattle.outcome_laws.proofs.CertificateFaults.{ExpansionStops, expansion_overflows, row_too_long, too_many_rows, expansion_stops, GatheringStops, scale_overflows, too_many_lemma_rows, gathering_stops}
 use Rattle.outcome_laws.proofs.Rounds.{has_cause, has_round}
 use Rattle.claim_decider.proofs.UniqueOutcomes.{open_run}

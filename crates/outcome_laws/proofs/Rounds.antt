@@ -18,7 +18,7 @@ use Rattle.traced_completion.specs.Works.{generator_work, first_of}
 use Rattle.traced_completion.specs.Pending.{ambiguities_of}
 use Rattle.traced_completion.specs.PlainRun.{Setting, RunState, Outcome, went, closed, stopped, IsCauseOf, Ends, recorded, IsTreated, TreatsFirst, TreatsPending, taken_count, IsRoundZero, IsLaterRound}
 use Rattle.outcome_laws.specs.Existence.{HasRound}
-use Rattle.confluence.proofs.Ends.{Gives}
+use Rattle.confluence.proofs.ShapeLaws.{Gives}
 use Rattle.outcome_laws.proofs.Works.{IsFitWork, fit_generator, fit_firsts, has_turn, has_passes}
 use Rattle.outcome_laws.proofs.Pending.{has_store}
 

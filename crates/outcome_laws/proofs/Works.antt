@@ -19,7 +19,7 @@ use Rattle.ambiguities.specs.SPolynomials.{s_rows_of, s_polynomial_of}
 use Rattle.traced_completion.specs.Results.{and_then, halted, unless_overflow, each_in_turn}
 use Rattle.rule_making.specs.Making.{Recorded, Rest, rest_with, Adds}
 use Rattle.traced_completion.specs.Works.{Work, generator_rows, generator_work, First, first_of, second_rows, rows_operations, second_rest, second_reduction, second_work, Goes, InTurn, InTwoPasses}
-use Rattle.confluence.proofs.Ends.{Makes, Gives, s_polynomial_makes, normal_form_gives}
+use Rattle.confluence.proofs.ShapeLaws.{Makes, Gives, s_polynomial_makes, normal_form_gives}
 use Rattle.outcome_laws.proofs.Makings.{has_rule}
 
 -- results one after another

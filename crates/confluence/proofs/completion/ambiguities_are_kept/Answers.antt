@@ -1,4 +1,4 @@
-use Rattle.confluence.proofs.Treating.{ambiguities_are_kept}
+use Rattle.confluence.proofs.Steps.{ambiguities_are_kept}
 use Rattle.confluence.proofs.completion.ambiguities_are_kept.Goals as goal
 
 pub returns : goal.returns

@@ -1,4 +1,4 @@
-use Rattle.confluence.proofs.Treating.{resolved_at_once_is_kept}
+use Rattle.confluence.proofs.Steps.{resolved_at_once_is_kept}
 use Rattle.confluence.proofs.completion.resolved_at_once_is_kept.Goals as goal
 
 pub returns : goal.returns
