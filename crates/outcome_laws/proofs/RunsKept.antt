@@ -24,8 +24,7 @@ use Rattle.confluence.specs.Kept.{HaveLettersBelow, Kept}
 use Rattle.confluence.specs.Typed.{IsTypedInPlay, AreTypedInPlay}
 use Rattle.confluence.proofs.RestLaws.{normal_forms_are_reduced}
 use Rattle.confluence.proofs.ShapeLaws.{normal_forms_are_shaped, rests_have_letters_below, s_polynomials_are_shaped}
-use Rattle.confluence.proofs.Steps.{generators_are_kept}
-use Rattle.confluence.proofs.Treating.{ambiguities_are_kept, resolved_at_once_is_kept}
+use Rattle.confluence.proofs.Steps.{generators_are_kept, ambiguities_are_kept, resolved_at_once_is_kept}
 use Rattle.confluence.proofs.TypedLaws.{normal_forms_stay_typed, rules_stay_typed, s_polynomials_stay_typed}
 use Rattle.rule_making.specs.Making.{Recorded, Rest, rest_with, Adds}
 use Rattle.traced_completion.specs.Works.{generator_rows, First, second_rows}
