@@ -47,12 +47,6 @@ module _ (q : Quiver) (p r : List Term) (adjoint : SamePolynomial r (adjoint_pol
         subst (AllZip SamePolynomial (r ∷ [])) (ap₂ (λ b c. cond (b || c) [] (adjoint_poly q p ∷ [])) (sym first) (sym second)) (adjoint, tt)
 
 -- lists of polynomials
-pub AllZip-append : {X Y : Type 0} (R : X → Y → Type 0) (xs us : List X) (ys vs : List Y) → AllZip R xs ys → AllZip R us vs → AllZip R (xs ++ us) (ys ++ vs)
-AllZip-append R [] us [] vs h k = k
-AllZip-append R [] us (y ∷ ys) vs h k = absurd h
-AllZip-append R (x ∷ xs) us [] vs h k = absurd h
-AllZip-append R (x ∷ xs) us (y ∷ ys) vs h k = (h.0, AllZip-append R xs us ys vs h.1 k)
-
 pub each_same : (ps : List (List Term)) → AllZip SamePolynomial ps ps
 each_same [] = tt
 each_same (p ∷ ps) = (Same_refl p, each_same ps)

@@ -14,7 +14,7 @@ use Rattle.block_text.specs.PolynomialLines.{PolynomialTokens, polynomial_line, 
 use Rattle.block_text.specs.Texts.{IsBlocks}
 use Rattle.block_text.proofs.EachText.{values_are}
 use Rattle.block_text.proofs.PolynomialLaws.{is_canonical, is_over}
-use Rattle.block_text.proofs.Zips.{zip_length}
+use Rattle.lists.proofs.Zips.{zip_length}
 use Rattle.block_lines.specs.LineKinds.{PolynomialBound, names, writing, numbers, terms, words, KeepsPolynomial}
 use Rattle.adjoint_rules.specs.declared.basis.Basis.{Basis}
 use Rattle.block_lines.specs.BasisLines.{Bound, on_polynomial, rules, BasisTerms}

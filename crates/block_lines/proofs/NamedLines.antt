@@ -13,7 +13,7 @@ use Rattle.block_text.proofs.Meets.{Meets, reads, passes, then_meets, meets-weak
 use Rattle.block_text.proofs.Owed as owed
 use Rattle.block_text.proofs.Owed.{Begins, IsStopped, misfit}
 use Rattle.block_text.proofs.Standing.{everywhere}
-use Rattle.block_text.proofs.Zips.{AllZip-unique, zip_push}
+use Rattle.lists.proofs.Zips.{AllZip-unique, zip_push}
 use Rattle.block_lines.specs.LineKinds.{LineKind}
 use Rattle.block_lines.specs.Sections.{Section, named_lines}
 use Rattle.block_lines.specs.SectionSteps.{SectionSteps, named_steps}

@@ -22,7 +22,7 @@ use Rattle.block_text.proofs.PolynomialBounds.{all_with}
 use Rattle.block_text.proofs.Results.{bind_assoc, option_map_some}
 use Rattle.block_text.proofs.SaidLines.{said_ok, said_err, said_meets}
 use Rattle.block_text.proofs.Standing.{everywhere}
-use Rattle.block_text.proofs.Zips.{AllZip-unique, zip_length, zip_push}
+use Rattle.lists.proofs.Zips.{AllZip-unique, zip_length, zip_push}
 use Rattle.block_lines.specs.declared.section.LinePlace.{LinePlace}
 use Rattle.block_lines.specs.declared.section.LinePlace.TheVariants as at
 use Rattle.block_lines.specs.declared.section.LinesPlace.{LinesPlace}

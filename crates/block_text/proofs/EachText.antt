@@ -24,7 +24,7 @@ use Rattle.block_text.proofs.NumberedLines.{run, lines_by, IsRefused, AreLinesRe
 use Rattle.block_text.proofs.TextLines.{step_at}
 use Rattle.block_text.proofs.Standing.{everywhere, goes_on, stands_outside}
 use Rattle.block_text.proofs.ReadLines.{stands, kept_at, is_flawed, is_refused, goes_read, blocks_read, is_cut_off}
-use Rattle.block_text.proofs.Zips.{zip_length}
+use Rattle.lists.proofs.Zips.{zip_length}
 
 read_by : {Begun Value : Type 0} (steps : Steps Begun Value) (number : ℕ) (p : Progress Begun Value) (ls : List (List ℕ)) → read_lines steps number p ls ≡ lines_by (step_at steps) number p ls
 read_by steps number p [] = refl

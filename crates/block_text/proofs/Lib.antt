@@ -5,7 +5,6 @@ pub mod Fronts
 pub mod Joins
 pub mod Puts
 pub mod Results
-pub mod Zips
 pub mod LineTrees
 mod Heads
 pub mod Meets

@@ -24,7 +24,7 @@ use Rattle.block_text.proofs.NumberLines.{end_is_text}
 use Rattle.block_text.proofs.Standing.{everywhere}
 use Rattle.block_text.proofs.TextLines.{own_in-append}
 use Rattle.block_text.proofs.TextsBack.{ascii}
-use Rattle.block_text.proofs.Zips.{AllZip-append, zip_length}
+use Rattle.lists.proofs.Zips.{AllZip-append, zip_length}
 
 -- a run that begins with # is a comment
 comment_by : (cs : List ℕ) (tokens : List (List ℕ)) (alone : Bool) → is_skipped (cond alone ((35 ∷ []) ∷ tokens) (onto_first 35 tokens)) ≡ true

@@ -31,7 +31,7 @@ use Rattle.block_text.proofs.PolynomialTerms.{some_same, word_count, MakesTerm, 
 use Rattle.block_text.proofs.PolynomialTokens.{terms_back, terms_no_zero, has_terms}
 use Rattle.block_text.proofs.PolynomialWords.{descends_is, descends_there}
 use Rattle.block_text.proofs.Results.{by_test, asked_ok}
-use Rattle.block_text.proofs.Zips.{AllZip-unique, zip_length}
+use Rattle.lists.proofs.Zips.{AllZip-unique, AllZip-weaker, zip_left, zip_right, zip_length}
 
 -- the tests of a term
 tokens_there : (tokens : Line) → 0 < length tokens → is_some_token tokens ≡ true
@@ -144,18 +144,6 @@ at_most_there n (x ∷ xs) few = rw (ne_eqb n 0 (λ e. omega (arith, e, few))) (
 
 -- what terms say
 module _ {X Y : Type 0} (R : X → Y → Type 0) where
-  pub zip_all : (P : X → Type 0) → ((x : X) (y : Y) → R x y → P x) → (xs : List X) (ys : List Y) → AllZip R xs ys → All P xs
-  zip_all P each [] [] zipped = All-nil P
-  zip_all P each [] (y ∷ ys) zipped = absurd zipped
-  zip_all P each (x ∷ xs) [] zipped = absurd zipped
-  zip_all P each (x ∷ xs) (y ∷ ys) zipped = All-cons P x xs (each x y zipped.0) (zip_all P each xs ys zipped.1)
-
-  pub zip_right : (Q : Y → Type 0) → ((x : X) (y : Y) → R x y → Q y) → (xs : List X) (ys : List Y) → AllZip R xs ys → All Q ys
-  zip_right Q each [] [] zipped = All-nil Q
-  zip_right Q each [] (y ∷ ys) zipped = absurd zipped
-  zip_right Q each (x ∷ xs) [] zipped = absurd zipped
-  zip_right Q each (x ∷ xs) (y ∷ ys) zipped = All-cons Q y ys (each x y zipped.0) (zip_right Q each xs ys zipped.1)
-
   zip_with : (P S : X → Type 0) (Q : X → Y → Type 0) → ((x : X) (y : Y) → R x y → P x → S x → Q x y) → (xs : List X) (ys : List Y) → AllZip R xs ys → All P xs → All S xs → AllZip Q xs ys
   zip_with P S Q each [] [] zipped ps ss = tt
   zip_with P S Q each [] (y ∷ ys) zipped ps ss = absurd zipped
@@ -246,30 +234,24 @@ module _ (ds : List Declaration) where
   terms_read line first later p spelled made =
       let ts = first ∷ later in
       let each : AllZip (MakesTerm ds) ts p = subst (AllZip (MakesTerm ds) ts) (sym made.is) made.each in
-      let fit = zip_all (MakesTerm ds) IsTerm (λ t x makes. makes.is_term) ts p each in
-      let says : AllZip (IsTermOf ds) ts p = zip_weaker ts p each in
+      let fit = zip_left (MakesTerm ds) IsTerm (λ t x makes. makes.is_term) ts p each in
+      let says = AllZip-weaker (MakesTerm ds) (IsTermOf ds) (λ t x makes. makes.says) ts p each in
       let descends = IsDescending-from_recursion p made.descends in
       record {
         tokens = terms first later;
         are = spelled;
         fit = (All-head IsTerm first later fit, All-tail IsTerm first later fit);
-        known = record { known = zip_all (MakesTerm ds) (λ t. All (IsKnown ds) t.letters) (λ t x makes. All-known t.letters makes.written) ts p each };
+        known = record { known = zip_left (MakesTerm ds) (λ t. All (IsKnown ds) t.letters) (λ t x makes. All-known t.letters makes.written) ts p each };
         written = record {
-          letters = zip_all (MakesTerm ds) (λ t. All (IsWrittenLetter ds) t.letters) (λ t x makes. makes.written) ts p each;
+          letters = zip_left (MakesTerm ds) (λ t. All (IsWrittenLetter ds) t.letters) (λ t x makes. makes.written) ts p each;
           descends = λ q other. subst IsDescending (poly_unique ts p q says other) descends;
         };
-        numbers = record { within = zip_all (MakesTerm ds) (λ t. factor_value t.factor ≤ integer_limit) (λ t x makes. makes.within) ts p each };
+        numbers = record { within = zip_left (MakesTerm ds) (λ t. factor_value t.factor ≤ integer_limit) (λ t x makes. makes.within) ts p each };
         few = record { few = subst (λ n. n ≤ term_limit) (sym (zip_length (IsTermOf ds) ts p says)) made.few };
-        short = record { short = zip_all (MakesTerm ds) (λ t. length t.letters ≤ word_limit) (λ t x makes. makes.short) ts p each };
+        short = record { short = zip_left (MakesTerm ds) (λ t. length t.letters ≤ word_limit) (λ t x makes. makes.short) ts p each };
         says = says;
       }
     where
-      zip_weaker : (us : List TermTokens) (q : Poly) → AllZip (MakesTerm ds) us q → AllZip (IsTermOf ds) us q
-      zip_weaker [] [] each = tt
-      zip_weaker [] (x ∷ q) each = absurd each
-      zip_weaker (t ∷ us) [] each = absurd each
-      zip_weaker (t ∷ us) (x ∷ q) each = (each.0.says, zip_weaker us q each.1)
-
       All-known : (letters : Line) → All (IsWrittenLetter ds) letters → All (IsKnown ds) letters
       All-known letters all = all_with (IsWrittenLetter ds) (IsWrittenLetter ds) (IsKnown ds) (λ token w v. written_known token w) letters all all
 

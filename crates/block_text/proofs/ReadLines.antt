@@ -21,7 +21,7 @@ use Rattle.block_text.proofs.NumberedLines.{run, run-append, run_past}
 use Rattle.block_text.proofs.TextLines.{step_at, AreRead, text_meets}
 use Rattle.block_text.proofs.Standing.{Stands, stands_first, stands_next, goes_on, GoesUpTo, split_up, goes_on_before}
 use Rattle.block_text.proofs.FirstBounds.{last_kept, up_to_kept, goes_on_within_none, goes_on_up_to, one_flaw}
-use Rattle.block_text.proofs.Zips.{AllZip-unique}
+use Rattle.lists.proofs.Zips.{AllZip-unique}
 
 module _ {Begun Value : Type 0} (kind : Kind Value) (steps : Steps Begun Value) (reader : IsReader kind steps) where
   stands_behind : (p q : Progress Begun Value) (front ls : List Line) → Stands kind steps reader front p → run (step_at steps) p ls ≡ Ok q → Stands kind steps reader (front ++ ls) q

@@ -20,7 +20,7 @@ use Rattle.block_text.proofs.Bounds.{before, listed}
 use Rattle.block_text.proofs.Owed.{Begins, IsStopped, misfit, passes, IsReader}
 use Rattle.block_text.proofs.Results.{by_test, bind_ok, bind_err}
 use Rattle.block_text.proofs.TextLines.{own_in-append}
-use Rattle.block_text.proofs.Zips.{AllZip-append, zip_length}
+use Rattle.lists.proofs.Zips.{AllZip-append, zip_length}
 
 pub everywhere : {X : Type 0} (P : X → Type 0) → ((x : X) → P x) → (xs : List X) → All P xs
 everywhere P each xs = λ k d below. each _

@@ -18,7 +18,7 @@ use Rattle.block_text.proofs.Owed.{read_inside, read_block, IsReader, told_for_n
 use Rattle.block_text.proofs.Meets.{Meets, reads, passes, then_meets, meets-weaker}
 use Rattle.block_text.proofs.NumberedLines.{run, run-append}
 use Rattle.block_text.proofs.Results.{bind_ok, bind_err, by_test}
-use Rattle.block_text.proofs.Zips.{AllZip-append, zip_length}
+use Rattle.lists.proofs.Zips.{AllZip-append, zip_length}
 
 abbrev pub step_at : {Begun Value : Type 0} → Steps Begun Value → Progress Begun Value → Line → Result (Progress Begun Value) Flaw
 step_at steps p line = step steps p.values p.place line

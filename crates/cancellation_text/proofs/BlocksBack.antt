@@ -26,7 +26,7 @@ use Rattle.block_text.proofs.NumbersBack.{decimal_number, decimal_within}
 use Rattle.block_text.proofs.PartsBack.{IsWritten}
 use Rattle.block_text.proofs.TextLaws.{are_read_back}
 use Rattle.block_text.proofs.TextsBack.{literal}
-use Rattle.block_text.proofs.Zips.{zip_length}
+use Rattle.lists.proofs.Zips.{zip_length}
 use Rattle.certificate_text.specs.Blocks.{denominator_line, goal_lines}
 use Rattle.certificate_text.specs.Bounds.{letters_in}
 use Rattle.certificate_text.specs.Lines.{no_rows}

@@ -12,7 +12,7 @@ use Rattle.block_text.specs.Letters.{is_number, number_within}
 use Rattle.block_text.specs.Lines.{Line, said, begins, claim_line, number_behind, number_limit, integer_limit, integer_of}
 use Rattle.block_text.proofs.Owed.{IsStopped, misfit, passes, stopped_by}
 use Rattle.block_text.proofs.SaidLines.{IsNumberLine, number_said, number_unsaid}
-use Rattle.block_text.proofs.Zips.{zip_length}
+use Rattle.lists.proofs.Zips.{zip_length}
 use Rattle.certificate_text.specs.declared.place.Size.{Size}
 use Rattle.certificate_text.specs.Lines.{RowTokens, row_limit, lemma_scale_of, goal_scale_of, is_row, is_value}
 use Rattle.certificate_text.specs.Blocks.{ScaledTokens, row_line, denominator_line, goal_lines}

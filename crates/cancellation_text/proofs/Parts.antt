@@ -16,7 +16,7 @@ use Rattle.block_text.specs.Letters.{is_number, number_within}
 use Rattle.block_text.specs.Lines.{Line, number_limit, integer_limit, integer_of, claim_line}
 use Rattle.block_text.proofs.Owed.{Begins}
 use Rattle.block_text.proofs.Standing.{everywhere}
-use Rattle.block_text.proofs.Zips.{zip_push}
+use Rattle.lists.proofs.Zips.{zip_push}
 use Rattle.certificate_text.specs.Lines.{RowTokens, row_limit, is_value}
 use Rattle.certificate_text.specs.Blocks.{ScaledTokens, denominator_line, goal_lines, IsScaled}
 use Rattle.certificate_text.specs.Bounds.{IsWithin, IsScaledOf}

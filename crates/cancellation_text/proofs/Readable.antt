@@ -19,11 +19,11 @@ use Rattle.block_text.specs.Steps.{all_values}
 use Rattle.block_text.proofs.EachText.{read_values_are, values_are}
 use Rattle.block_text.proofs.LetterRange.{letter_in_range}
 use Rattle.block_text.proofs.Results.{option_map_some}
-use Rattle.block_text.proofs.Zips.{zip_length}
+use Rattle.lists.proofs.Zips.{zip_length, zip_right}
 use Rattle.certificate_text.specs.Blocks.{ScaledTokens}
 use Rattle.certificate_text.specs.Bounds.{IsLemmaRowOf, IsScaledOf}
 use Rattle.certificate_text.specs.Evidence.{IsLemmaRowOver}
-use Rattle.certificate_text.proofs.Checkable.{positive_in_range, zip_all, scaled_checkable}
+use Rattle.certificate_text.proofs.Checkable.{positive_in_range, scaled_checkable}
 use Rattle.std.proofs.lemmas.List.Elements.{All-weaker}
 use Rattle.cancellation_text.specs.Blocks.{CalledTokens, ItemTokens, lemma, cancel, CancellationTokens, known_letter, called_on, called_letters}
 use Rattle.cancellation_text.specs.Bounds.{Bound, rows, item_rows, KeepsOne, IsItemOf, IsCancellationOf}
@@ -83,7 +83,7 @@ module _ (ds : List Declaration) where
     denominator = positive_in_range b.denominator proof.denominator says.denominator;
     monic = subst (All (IsLetterOf ds)) says.monic (called_in_range Left b.called);
     epic = subst (All (IsLetterOf ds)) says.epic (called_in_range Right b.called);
-    items = zip_all (IsItemOf ds) (IsReadableItem ds) item_readable b.items proof.items says.items;
+    items = zip_right (IsItemOf ds) (IsReadableItem ds) item_readable b.items proof.items says.items;
     goal = scaled_readable b.goal proof.goal says.goal;
     few_items = omega (arith, (keeps rows).0, zip_length (IsItemOf ds) b.items proof.items says.items);
     few_rows = omega (arith, (keeps rows).1, length-append (rows_of b.items) b.goal.rows, rows_count b.items proof.items says.items, zip_length (IsLemmaRowOf ds) b.goal.rows proof.goal.rows says.goal.rows);

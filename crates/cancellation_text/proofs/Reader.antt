@@ -11,7 +11,7 @@ use Rattle.block_text.specs.Lines.{Line, number_limit, integer_of}
 use Rattle.block_text.proofs.Bounds.{bound_of}
 use Rattle.block_text.proofs.Owed.{IsWhole, IsReader, reader_by_head}
 use Rattle.block_text.proofs.TextLaws.{are_told}
-use Rattle.block_text.proofs.Zips.{AllZip-unique}
+use Rattle.lists.proofs.Zips.{AllZip-unique}
 use Rattle.certificate_text.proofs.OneCertificate.{same_value, same_result, same_scaled}
 use Rattle.cancellation_text.specs.declared.place.Opened.{Opened}
 use Rattle.cancellation_text.specs.declared.place.Stage.{Stage}

@@ -29,7 +29,7 @@ use Rattle.certificate_text.specs.Reading.{next as step, begun, finish, scaled, 
 use Rattle.block_text.proofs.NumberedLines.{run, run-append}
 use Rattle.block_text.proofs.Owed.{read_inside, read_block, read_inside-run}
 use Rattle.block_text.proofs.Meets.{Meets, reads, then_meets, meets-weaker, asked_meets, unless_meets}
-use Rattle.block_text.proofs.Zips.{AllZip-weaker}
+use Rattle.lists.proofs.Zips.{AllZip-weaker}
 use Rattle.certificate_text.proofs.RowLines.{row_line_read, lemma_row_line_read}
 use Rattle.certificate_text.proofs.OpenBlocks.{IsMadeBy, plain_row, lemma_made}
 use Rattle.certificate_text.proofs.RowValues.{RowsFit, with_rows, with_rows-append, rows_fit_parts, TakesRow, rows_meet}

@@ -30,7 +30,7 @@ use Rattle.certificate_text.specs.Blocks.{ScaledTokens, LemmaTokens, PlainTokens
 use Rattle.certificate_text.specs.Bounds.{Bound, rows, rows_in, KeepsOne, IsLemmaRowOf, IsScaledOf, IsPlainOf, IsLemmasOf, IsCertificateOf}
 use Rattle.certificate_text.specs.Reading.{IsPlain, certificate_steps}
 use Rattle.block_text.proofs.EachText.{values_are, read_values_are}
-use Rattle.block_text.proofs.Zips.{zip_length}
+use Rattle.lists.proofs.Zips.{zip_length, zip_right}
 use Rattle.certificate_text.proofs.Reader.{reader}
 
 -- numbers
@@ -71,27 +71,20 @@ values_are_good ds r row read_left =
       };
     })))))
 
--- what holds of what each says holds of all
-pub zip_all : {X Y : Type 0} (R : X → Y → Type 0) (P : Y → Type 0) → ((x : X) (y : Y) → R x y → P y) → (xs : List X) (ys : List Y) → AllZip R xs ys → All P ys
-zip_all R P each [] [] zipped = All-nil P
-zip_all R P each [] (y ∷ ys) zipped = absurd zipped
-zip_all R P each (x ∷ xs) [] zipped = absurd zipped
-zip_all R P each (x ∷ xs) (y ∷ ys) zipped = All-cons P y ys (each x y zipped.0) (zip_all R P each xs ys zipped.1)
-
 module _ (ds : List Declaration) where
   plain_checkable : (b : PlainTokens) (c : Certificate) → length b.rows ≤ row_limit → IsPlainOf ds b c → IsCheckable ds c
   plain_checkable b c few says = record {
     few = omega (arith, few, zip_length (λ r row. row_values ds r ≡ Ok row) b.rows c.rows says.rows);
     denominator = positive_in_range b.denominator c.denominator says.denominator;
-    coefficients = zip_all _ (λ row. IsCoefficient row.coef) (λ r row said. (values_are_good ds r row said).coefficient) b.rows c.rows says.rows;
-    letters = zip_all _ (IsRowOver ds) (λ r row said. (values_are_good ds r row said).letters) b.rows c.rows says.rows;
+    coefficients = zip_right _ (λ row. IsCoefficient row.coef) (λ r row said. (values_are_good ds r row said).coefficient) b.rows c.rows says.rows;
+    letters = zip_right _ (IsRowOver ds) (λ r row said. (values_are_good ds r row said).letters) b.rows c.rows says.rows;
   }
 
   pub scaled_checkable : (s : ScaledTokens) (l : Lemma) → IsScaledOf ds s l → IsCheckableLemma ds l
   scaled_checkable s l says = record {
     scale = positive_in_range s.scale l.scale says.scale;
-    coefficients = zip_all (IsLemmaRowOf ds) (λ row. IsCoefficient row.coef) (λ r row said. rw said.2 (values_are_good ds r said.0 said.1).coefficient) s.rows l.rows says.rows;
-    letters = zip_all (IsLemmaRowOf ds) (IsLemmaRowOver ds) (λ r row said. let good = (values_are_good ds r said.0 said.1).letters in rw said.2 (record { left = good.left; right = good.right })) s.rows l.rows says.rows;
+    coefficients = zip_right (IsLemmaRowOf ds) (λ row. IsCoefficient row.coef) (λ r row said. rw said.2 (values_are_good ds r said.0 said.1).coefficient) s.rows l.rows says.rows;
+    letters = zip_right (IsLemmaRowOf ds) (IsLemmaRowOver ds) (λ r row said. let good = (values_are_good ds r said.0 said.1).letters in rw said.2 (record { left = good.left; right = good.right })) s.rows l.rows says.rows;
   }
 
   abbrev Each : LemmaTokens → Lemma → Type 0
@@ -113,7 +106,7 @@ module _ (ds : List Declaration) where
     few_rows =
         omega (arith, few, length-append (flat_map (λ l. l.scaled.rows) b.lemmas) b.goal.rows, rows_count b.lemmas c.lemmas says.lemmas, zip_length (IsLemmaRowOf ds) b.goal.rows c.goal.rows says.goal.rows);
     denominator = positive_in_range b.denominator c.denominator says.denominator;
-    lemmas = zip_all Each (IsCheckableLemma ds) (λ l lemma scaled. scaled_checkable l.scaled lemma scaled) b.lemmas c.lemmas says.lemmas;
+    lemmas = zip_right Each (IsCheckableLemma ds) (λ l lemma scaled. scaled_checkable l.scaled lemma scaled) b.lemmas c.lemmas says.lemmas;
     goal = scaled_checkable b.goal c.goal says.goal;
   }
 

@@ -22,7 +22,7 @@ use Rattle.block_text.proofs.Results.{by_test, bind_err, asked_ok, asked_err}
 use Rattle.block_text.proofs.SaidLines.{number_unsaid}
 use Rattle.certificate_text.proofs.LineTrees.{lemma_is, goal_is}
 use Rattle.certificate_text.proofs.RowTrees.{before, RowsWithin, Pass, HaveSize, integer_is_within}
-use Rattle.block_text.proofs.Zips.{zip_length}
+use Rattle.lists.proofs.Zips.{zip_length}
 use Rattle.block_text.proofs.Owed.{IsStopped, passes, stopped_by}
 use Rattle.certificate_text.specs.Evidence.{certificate_kind}
 use Rattle.certificate_text.proofs.OpenBlocks.{block_of, lead_outside, lead_block, lines_are, more_lines, scaled_by, lemma_made, IsHeaded, IsClaimed, IsOpened, Lead, lead_lines, IsNext, rows_of, rows_are, begin_shortest, shortest}

@@ -26,7 +26,7 @@ use Rattle.block_text.proofs.Results.{by_test, bind_ok, asked_ok, ok_has}
 use Rattle.block_text.proofs.SaidLines.{IsNumberLine, number_said}
 use Rattle.certificate_text.proofs.LineTrees.{lemma_is, goal_is, IsRowOf, row_is}
 use Rattle.certificate_text.proofs.RowTrees.{Pass, HaveSize, no_rows_size, IsAdded, added, unvalued, full, is_added, integer_is_within}
-use Rattle.block_text.proofs.Zips.{zip_push, zip_length}
+use Rattle.lists.proofs.Zips.{zip_push, zip_length}
 use Rattle.certificate_text.proofs.OpenBlocks.{IsMadeBy, IsHead, scaled_by, front_of, lemma_made, IsHeaded, IsClaimed, IsOpened, IsLed, IsInside, IsOpen, Lead, lemma_tokens, lead_lines, IsNext, IsFew, rows_of, are_lemmas-push}
 
 -- two lists of lines with one more line

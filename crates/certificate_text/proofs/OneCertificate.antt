@@ -13,7 +13,7 @@ use Rattle.certificate_text.specs.Lines.{RowTokens, row_values, over_lemma}
 use Rattle.block_text.specs.Letters.{number_within}
 use Rattle.certificate_text.specs.Blocks.{ScaledTokens, PlainTokens, LemmasTokens, BlockTokens, plain, lemmas}
 use Rattle.certificate_text.specs.Bounds.{IsLemmaRowOf, IsScaledOf, IsPlainOf, IsLemmasOf, IsCertificateOf}
-use Rattle.block_text.proofs.Zips.{AllZip-unique}
+use Rattle.lists.proofs.Zips.{AllZip-unique}
 
 pub same_value : {A : Type 0} (o : Option A) (x y : A) → o ≡ Some x → o ≡ Some y → x ≡ y
 same_value o x y left right = cc

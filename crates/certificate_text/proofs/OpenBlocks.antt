@@ -26,7 +26,7 @@ use Rattle.certificate_text.specs.Bounds.{Bound, names, numbers, words, rows, le
 use Rattle.certificate_text.proofs.LineTrees.{IsRowOf}
 use Rattle.certificate_text.proofs.RowTrees.{before, Pass, RowsWithin, HaveSize, no_rows_keep, integer_is_within}
 use Rattle.block_text.proofs.Owed.{Begins, IsWhole, IsStopped, passes}
-use Rattle.block_text.proofs.Zips.{zip_push}
+use Rattle.lists.proofs.Zips.{zip_push}
 use Rattle.block_text.proofs.Standing.{everywhere}
 use Rattle.certificate_text.specs.Evidence.{certificate_kind}
 

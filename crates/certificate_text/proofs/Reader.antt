@@ -12,7 +12,7 @@ use Rattle.block_text.specs.Lines.{Line, claim_line, begins, claim_of}
 use Rattle.block_text.specs.Blocks.{is_other_head}
 use Rattle.block_text.proofs.Bounds.{bound_of}
 use Rattle.block_text.proofs.Owed.{Begins, IsWhole, IsStopped, misfit, IsReader}
-use Rattle.block_text.proofs.Zips.{AllZip-weaker}
+use Rattle.lists.proofs.Zips.{AllZip-weaker}
 use Rattle.block_text.specs.Fault.{◌>>=◌}
 use Rattle.block_text.proofs.Results.{by_test, bind_assoc, ok_has}
 use Rattle.certificate_text.specs.declared.place.Size.{Size}

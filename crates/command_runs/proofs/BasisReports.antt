@@ -16,7 +16,7 @@ use Rattle.block_text.specs.Blocks.{own_in, is_other_head}
 use Rattle.block_text.specs.Texts.{HasBlocks, none}
 use Rattle.block_text.proofs.ContentBack.{no_text, whole_append}
 use Rattle.block_text.proofs.PartsBack.{text_without_blocks, text_of_block, text_of_other, joined, inside_is_before_end, comment_is_text, other_is_text}
-use Rattle.block_text.proofs.Zips.{zip_length}
+use Rattle.lists.proofs.Zips.{zip_length}
 use Rattle.certificate_text.specs.Back.{part_text}
 use Rattle.certificate_text.specs.Blocks.{head_line as certificate_head}
 use Rattle.adjoint_rules.specs.declared.basis.Basis.{Basis}

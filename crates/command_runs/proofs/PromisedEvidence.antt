@@ -23,7 +23,7 @@ use Rattle.statement_names.specs.Numbered.{declarations_of}
 use Rattle.abbreviations.specs.Written.{assumptions_of}
 use Rattle.block_text.specs.Lines.{block_limit}
 use Rattle.block_text.specs.Blocks.{own_in, on_block, on_count, Keeps}
-use Rattle.block_text.proofs.Zips.{zip_length}
+use Rattle.lists.proofs.Zips.{zip_length}
 use Rattle.model_text.specs.Models.{model_kind}
 use Rattle.statement_meaning.specs.Claims.{read_in, AssumptionsHold, IsClaim, ClaimHolds}
 use Rattle.statement_meaning.specs.Laws.{reading, IsRead}

@@ -1,5 +1,4 @@
 pub mod Places
-pub mod Zips
 pub mod Stops
 pub mod Judging
 pub mod BlockTexts

@@ -12,7 +12,7 @@ use Rattle.block_text.specs.Lines.{Line, is_end, end_line, number_limit, integer
 use Rattle.block_text.specs.PolynomialBack.{IsPolynomialLine}
 use Rattle.block_text.proofs.PartsBack.{text_of_block}
 use Rattle.block_text.proofs.PolynomialLaws.{polynomial_there}
-use Rattle.block_text.proofs.Zips.{AllZip-unique}
+use Rattle.lists.proofs.Zips.{AllZip-unique}
 use Rattle.certificate_text.specs.Lines.{RowTokens, row_of, row_values}
 use Rattle.certificate_text.specs.Blocks.{row_line, IsPlainRow}
 use Rattle.certificate_text.proofs.RowLines.{row_line_read}

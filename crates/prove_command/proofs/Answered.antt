@@ -36,7 +36,7 @@ use Rattle.prove_command.specs.Says.{VerdictMeans, PrintsMeant, SaysDecided, Rep
 use Rattle.stated_problem.proofs.Owed.{OwesEnding, OwesOver, owed_over}
 use Rattle.stated_problem.proofs.Over.{over_stated, over_statement}
 use Rattle.report_text.proofs.Statuses.{verdicts_status}
-use Rattle.command_shape.proofs.Zips.{zip_once}
+use Rattle.lists.proofs.Zips.{AllZip-unique}
 use Rattle.report_readback.specs.OwnEvidence.{IsItsOwnEvidence}
 use Rattle.report_readback.proofs.Declared.{declared_names_are_names}
 use Rattle.prove_command.proofs.OwnEvidence.{decided_is_evidence}
@@ -52,7 +52,7 @@ module _ (problem : Problem) (asked : Asked) where
   outcomes_once : (one other : List Outcome) → AreOutcomesOf (setting_of problem asked.budget) asked.form problem (claim_numbers problem) one
       → AreOutcomesOf (setting_of problem asked.budget) asked.form problem (claim_numbers problem) other → one ≡ other
   outcomes_once one other first second =
-      zip_once (λ n o. IsOutcomeOf (setting_of problem asked.budget) asked.form n (claim_at problem n) o) outcome_once (claim_numbers problem) one other first second
+      AllZip-unique (λ n o. IsOutcomeOf (setting_of problem asked.budget) asked.form n (claim_at problem n) o) outcome_once (claim_numbers problem) one other first second
 
   rules_once : (one other : List Poly) → AreLastRules (setting_of problem asked.budget) asked.form problem (claim_numbers problem) one
       → AreLastRules (setting_of problem asked.budget) asked.form problem (claim_numbers problem) other → one ≡ other

@@ -17,7 +17,7 @@ use Rattle.report_text.specs.Report.{IsVerdictOver}
 use Rattle.prove_command.specs.declared.prove.Asked.{Asked}
 use Rattle.prove_command.specs.Answers.{IsVerdictOn, AreVerdictsOn}
 use Rattle.prove_command.proofs.Outcomes.{OnHalted, broken, left, OnOutcome, by_outcome, verdicts_follow}
-use Rattle.command_shape.proofs.Zips.{zip_all}
+use Rattle.lists.proofs.Zips.{zip_right}
 
 module _ (problem : Problem) (asked : Asked) where
   abbrev Over : Verdict → Type 0
@@ -40,5 +40,5 @@ module _ (problem : Problem) (asked : Asked) where
   pub verdicts_over : (claims : List ℕ) (os : List Outcome) (vs : List Verdict) → AreOutcomesOf (setting_of problem asked.budget) asked.form problem claims os
       → AreVerdictsOn problem asked claims os vs → All (IsVerdictOver problem.parts.quiver) vs
   verdicts_over claims os vs outcomes verdicts =
-      zip_all (λ claim v. Over v) Over (λ claim v over. over) claims vs
+      zip_right (λ claim v. Over v) Over (λ claim v over. over) claims vs
       (verdicts_follow problem asked (λ n o. IsOutcomeOf (setting_of problem asked.budget) asked.form n (claim_at problem n) o) (λ claim v. Over v) verdict_over claims os vs outcomes verdicts)

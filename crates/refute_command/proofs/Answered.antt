@@ -21,7 +21,7 @@ use Rattle.refute_command.specs.Says.{SearchMeans, PrintsSearched, SaysSearched}
 use Rattle.stated_problem.proofs.Owed.{OwesEnding, owed_over}
 use Rattle.stated_problem.proofs.Over.{over_stated}
 use Rattle.report_text.proofs.Statuses.{verdicts_status}
-use Rattle.command_shape.proofs.Zips.{zip_once, zip_ends, zip_weaker, zip_all}
+use Rattle.lists.proofs.Zips.{AllZip-unique, zip_ends, AllZip-weaker, zip_right}
 
 -- one verdict on each claim
 module _ (problem : Problem) (seed : ℕ) where
@@ -45,7 +45,7 @@ module _ (problem : Problem) (seed : ℕ) where
   verdict_over claim v (not_refuted none is) = subst (IsVerdictOver problem.parts.quiver) (sym is) tt
 
   pub searched_over : (numbers : List ℕ) (vs : List Verdict) → AllZip (IsSearchedOn problem seed) numbers vs → All (IsVerdictOver problem.parts.quiver) vs
-  searched_over numbers vs zipped = zip_all (IsSearchedOn problem seed) (IsVerdictOver problem.parts.quiver) verdict_over numbers vs zipped
+  searched_over numbers vs zipped = zip_right (IsSearchedOn problem seed) (IsVerdictOver problem.parts.quiver) verdict_over numbers vs zipped
 
   verdict_means : (claim : ℕ) (v : Verdict) → IsSearchedOn problem seed claim v → SearchMeans problem claim v
   verdict_means claim v (refuted m least is) = subst (SearchMeans problem claim) (sym is) (least_means problem claim seed m least)
@@ -59,7 +59,7 @@ search_ends seed problem =
 
 search_once : (seed : ℕ) (ending ending' : Ending) (problem : Problem) → AnswersSearch seed problem ending → AnswersSearch seed problem ending' → ending ≡ ending'
 search_once seed ending ending' problem one other =
-    let same = zip_once (IsSearchedOn problem seed) (verdict_once problem seed) (claim_numbers problem) one.verdicts other.verdicts one.each other.each in
+    let same = AllZip-unique (IsSearchedOn problem seed) (verdict_once problem seed) (claim_numbers problem) one.verdicts other.verdicts one.each other.each in
     one.says ∙ (λ i. record { status = status_of (same i); report = report_of problem.parts.quiver [] (same i) }) ∙ sym other.says
 
 -- the report of a statement's search is its own evidence
@@ -72,7 +72,7 @@ search_is_evidence seed statement ending problem is answer =
 search_meant : (seed : ℕ) (statement : List ℕ) (ending : Ending) (problem : Problem) → IsStated statement problem → AnswersSearch seed problem ending → PrintsSearched seed problem ending
 search_meant seed statement ending problem is answer = record {
   answer = answer;
-  each = zip_weaker (IsSearchedOn problem seed) (SearchMeans problem) (verdict_means problem seed) (claim_numbers problem) answer.verdicts answer.each;
+  each = AllZip-weaker (IsSearchedOn problem seed) (SearchMeans problem) (verdict_means problem seed) (claim_numbers problem) answer.verdicts answer.each;
   own_evidence = search_is_evidence seed statement ending problem is answer;
 }
 

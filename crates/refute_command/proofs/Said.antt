@@ -6,7 +6,7 @@ use Rattle.model_candidates.specs.Candidates.{IsLeastBreaking, NoneBreaks}
 use Rattle.model_search.specs.declared.found.Found.{Found}
 use Rattle.model_search.specs.LeastBreaking.{IsFoundFor}
 use Rattle.report_text.specs.declared.verdict.Verdict.{Verdict}
-use Rattle.command_shape.proofs.Zips.{zip_push}
+use Rattle.lists.proofs.Zips.{zip_push}
 use Rattle.refute_command.specs.Answers.{IsSearchedOn}
 
 zip_both : {A B : Type 0} (R S : A → B → Type 0) (xs : List A) (ys : List B) → AllZip R xs ys → AllZip S xs ys → AllZip (λ x y. R x y × S x y) xs ys

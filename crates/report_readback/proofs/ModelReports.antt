@@ -17,7 +17,7 @@ use Rattle.block_text.proofs.ContentBack.{no_text, whole_append}
 use Rattle.block_text.specs.Blocks.{own_in}
 use Rattle.block_text.specs.Texts.{none}
 use Rattle.block_text.proofs.PartsBack.{text_without_blocks, joined, inside_is_before_end, comment_is_text, other_is_text}
-use Rattle.block_text.proofs.Zips.{zip_length}
+use Rattle.lists.proofs.Zips.{zip_length}
 use Rattle.model_text.specs.ModelBounds.{model_value}
 use Rattle.model_text.specs.Models.{other_words, model_kind, HasModels, IsFirstFault}
 use Rattle.model_text.specs.Back.{IsWritableModel}

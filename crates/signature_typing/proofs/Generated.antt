@@ -18,7 +18,8 @@ use Rattle.nc_polynomial.proofs.CollectedTerms.{coefficient_of-collected}
 use Rattle.signature_typing.specs.Types.{Parts}
 use Rattle.adjoint_rules.specs.Problem.{polynomials, numbers, IsPosed, IsClosed, generators_in}
 use Rattle.adjoint_rules.proofs.Generators.{posed_quiver}
-use Rattle.adjoint_rules.proofs.NewAdjoints.{AllZip-append, each_same}
+use Rattle.adjoint_rules.proofs.NewAdjoints.{each_same}
+use Rattle.lists.proofs.Zips.{AllZip-append}
 use Rattle.quiver.specs.Declarations.{quiver_of}
 use Rattle.expressions.proofs.TwoAdjoints.{canonical-adjoint}
 use Rattle.signature_typing.proofs.Results.{canonical_by}

@@ -11,7 +11,8 @@ use Rattle.ambiguities.specs.declared.ambiguity.Ambiguity.{Ambiguity}
 use Rattle.traced_completion.specs.Results.{and_then, each_in_turn, Explains}
 use Rattle.traced_completion.specs.Works.{First, first_of}
 use Rattle.traced_completion.specs.Reductions.{plain_first, IsKeptFirst, IsAnswer}
-use Rattle.traced_completion.proofs.InOrder.{values, IsAnswerTo, AreAnswers, values_answer, zip-weaker}
+use Rattle.traced_completion.proofs.InOrder.{values, IsAnswerTo, AreAnswers, values_answer}
+use Rattle.lists.proofs.Zips.{AllZip-weaker}
 
 module _ (letters : ℕ) (compare : Compare) (steps : ℕ) (rules : List Rule) (taken : List Ambiguity) (answers : List (Result Kept ReduceFault)) (each : AllZip (IsAnswer letters compare steps rules) taken answers) where
   abbrev Answered : Result (List Kept) ReduceFault → Type 0
@@ -20,7 +21,7 @@ module _ (letters : ℕ) (compare : Compare) (steps : ℕ) (rules : List Rule) (
   all_answer : Answered (values answers)
   all_answer =
       values_answer (first_of compare steps rules) plain_first (λ f. IsKeptFirst letters (length rules) (plain_first f)) taken answers
-      (zip-weaker (IsAnswer letters compare steps rules) (IsAnswerTo (first_of compare steps rules) plain_first (λ f. IsKeptFirst letters (length rules) (plain_first f)))
+      (AllZip-weaker (IsAnswer letters compare steps rules) (IsAnswerTo (first_of compare steps rules) plain_first (λ f. IsKeptFirst letters (length rules) (plain_first f)))
       (λ which answer is. record { exact = is.exact; kept = is.kept }) taken answers each)
 
   abbrev pub firsts : Result (List First) ReduceFault

@@ -71,9 +71,3 @@ module _ {A B C : Type 0} (f : A → Result B ReduceFault) (view : C → B) (Kep
   values_answer (x ∷ xs) [] each = absurd each
   values_answer (x ∷ xs) (Ok y ∷ answers) each = after_value x y xs (values answers) each.0.exact each.0.kept (values_answer xs answers each.1)
   values_answer (x ∷ xs) (Err e ∷ answers) each = record { exact = explains-head f x xs e each.0.exact; kept = tt }
-
-pub zip-weaker : {X Y : Type 0} (P Q : X → Y → Type 0) → ((x : X) (y : Y) → P x y → Q x y) → (xs : List X) (ys : List Y) → AllZip P xs ys → AllZip Q xs ys
-zip-weaker P Q weaker [] [] each = tt
-zip-weaker P Q weaker [] (y ∷ ys) each = absurd each
-zip-weaker P Q weaker (x ∷ xs) [] each = absurd each
-zip-weaker P Q weaker (x ∷ xs) (y ∷ ys) each = (weaker x y each.0, zip-weaker P Q weaker xs ys each.1)

@@ -6,7 +6,7 @@ use Rattle.definitions.specs.Generators.{new_adjoint}
 use Rattle.nc_polynomial.specs.declared.poly.Poly.{Poly}
 use Rattle.quiver.specs.Declarations.{quiver_of}
 use Rattle.adjoint_rules.specs.Problem.{polynomials}
-use Rattle.adjoint_rules.proofs.NewAdjoints.{AllZip-append}
+use Rattle.lists.proofs.Zips.{AllZip-append}
 use Rattle.adjoint_rules.proofs.Ranges.{flat_map-take_more}
 use Rattle.adjoint_rules.proofs.adjoint.push_adjoints.Goals.{in-Some+in_ok-push, in_default}
 use Rattle.adjoint_rules.proofs.adjoint.push_adjoints.Goals as goal

@@ -4,7 +4,8 @@ use Rattle.std.proofs.lemmas.List.{length-append, length-map}
 use Rattle.definitions.specs.Poly.{SamePolynomial}
 use Rattle.adjoint_rules.specs.Problem.{polynomials, IsClosed, generators_in}
 use Rattle.adjoint_rules.specs.Parts.{adjoints_in, units_in}
-use Rattle.adjoint_rules.proofs.NewAdjoints.{AllZip-append, each_same}
+use Rattle.adjoint_rules.proofs.NewAdjoints.{each_same}
+use Rattle.lists.proofs.Zips.{AllZip-append}
 use Rattle.adjoint_rules.proofs.problem.generators_of.Goals as goal
 use Rattle.adjoint_rules.proofs.problem.generators_of.Goals.{After-len}
 
