@@ -112,7 +112,7 @@ module _ (gs : List Poly) where
         ⊎ (DividesEach (unsigned_abs l.scale) sum × (((e ≡ refusal.LemmaSize (length ps + 1)) × (sized sum ≡ Ok sum → ⊥))
         ⊎ ((sized sum ≡ Ok sum) × ((e ≡ refusal.Kept (before + length l.rows)) × (IsKept → ⊥)))))))
 
-    rows_told : (e : Refusal) → RefusesLemmaRows gs ps before l.rows e → RefusesLemma gs ps before l e
+    pub rows_told : (e : Refusal) → RefusesLemmaRows gs ps before l.rows e → RefusesLemma gs ps before l e
     rows_told (refusal.NoSuchGenerator row) h = h
     rows_told (refusal.NoSuchLemma row) h = h
     rows_told (refusal.Overflow row o) h = h

@@ -1,7 +1,7 @@
 pub mod Operations
 pub mod Rows
-pub mod RowRefusals
 pub mod Acceptance
+pub mod RowRefusals
 pub mod Running
 pub mod Table
 pub mod Difference

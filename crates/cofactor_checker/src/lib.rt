@@ -9,7 +9,6 @@ mod evidence;
 mod goal;
 mod laws;
 mod lemma_certificate;
-mod lemma_rows;
 mod lemmas;
 mod polynomial;
 mod refusal;
