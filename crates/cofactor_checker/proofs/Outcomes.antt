@@ -1,10 +1,9 @@
 -- what the steps of a check mean for its outcome
-use Rattle.std.proofs.Common.{◌≡◌, ℕ, ℤ, pos, ◌*ℤ◌, ◌≤ℤ◌, List, length, slice_get, Some, None, inr, sym, ap, ◌∙◌, arith}
+use Rattle.std.proofs.Common.{◌≡◌, ℕ, ℤ, pos, ◌*ℤ◌, ◌≤ℤ◌, List, None, inr, sym, ap, ◌∙◌, arith}
 use Rattle.std.proofs.lemmas.Int.{ints}
-use Rattle.std.proofs.lemmas.Option.{slice_get_within}
 use Rattle.coef_int.specs.Operations.{first_overflow}
 use Rattle.definitions.specs.Poly.{coefficient_of, poly_multiple, SamePolynomial}
-use Rattle.definitions.specs.Combination.{Row, IsCombination}
+use Rattle.definitions.specs.Combination.{IsCombination}
 use Rattle.definitions.proofs.Coefficients.{coefficient_of-multiple}
 use Rattle.std.specs.BTreeMap.{BTreeMap}
 use Rattle.nc_polynomial.specs.Collected.{coefficient_in}
@@ -15,16 +14,11 @@ use Rattle.traced_rows.specs.declared.certificate.Certificate.{Certificate}
 use Rattle.traced_rows.specs.Rows.{rows_of}
 use Rattle.cofactor_checker.specs.Acceptance.{claim_of, IsPosed, Begins, Accepts, Refuses}
 use Rattle.cofactor_checker.specs.Difference.{IsLeastDifference}
-use Rattle.cofactor_checker.specs.Rows.{RowPasses, RowsPass}
 use Rattle.cofactor_checker.specs.RowRefusals.{RefusesRow}
 use Rattle.cofactor_checker.specs.Running.{IsSumOf}
 use Rattle.cofactor_checker.proofs.RowSums.{Names}
 use Rattle.cofactor_checker.specs.declared.refusal.Refusal.{Refusal}
 use Rattle.cofactor_checker.specs.declared.refusal.Refusal.TheVariants as refusal
-
--- a row that is there passes, where all do
-pub passes_there : {generators : List (List (ℤ × List ℕ))} (rows : List Row) → RowsPass generators rows (length rows) → (i : ℕ) (r : Row) → slice_get rows i ≡ Some r → RowPasses generators rows i r
-passes_there rows pass i r there = pass.at i r (slice_get_within rows i r there) there
 
 -- the certificate names the claim, and its denominator is at least 1
 module _ {claims : List Poly} {c : Certificate} {p : Poly} (names : Names claims c.claim p) (least : pos 1 ≤ℤ c.denominator) where

@@ -1,5 +1,5 @@
 -- generators and lemmas in one list
-use Rattle.std.proofs.Common.{◌≡◌, ℕ, zero, suc, ◌+◌, ◌-◌, ◌<◌, ◌≤◌, ℤ, List, [], ◌∷◌, ◌++◌, length, get_or, slice_get, Some, ◌⊎◌, inl, inr, sym, refl, ap, ap₂, ◌∙◌, arith}
+use Rattle.std.proofs.Common.{◌≡◌, ℕ, zero, suc, ◌+◌, ◌-◌, ◌<◌, ◌≤◌, ℤ, List, [], ◌∷◌, ◌++◌, length, get_or, slice_get, Some, ◌⊎◌, inl, inr, sym, refl, ap, ◌∙◌, arith}
 use Rattle.std.proofs.lemmas.Bool.{cases_lt}
 use Rattle.std.proofs.lemmas.Bool.Decides.{nat_tests}
 use Rattle.std.proofs.lemmas.List.{get_or_append_left, get_or-append-add}
@@ -10,7 +10,7 @@ use Rattle.traced_rows.specs.LemmaRows.{cert_poly}
 use Rattle.traced_rows.specs.declared.evidence.CertFrom.{CertFrom}
 use Rattle.traced_rows.specs.declared.evidence.CertFrom.TheVariants as cert
 use Rattle.cofactor_checker.specs.Rows.{IsNumberUpTo}
-use Rattle.cofactor_checker.proofs.RowSums.{generator_at_numbered, length-polynomials}
+use Rattle.cofactor_checker.proofs.RowSums.{generator_at_numbered}
 use Rattle.cofactor_checker.specs.PlainRows.{place_of}
 
 pub place-generator : (g l n : ℕ) → n ≤ g → place_of g l (cert.Generator n) ≡ n

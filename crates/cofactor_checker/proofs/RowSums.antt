@@ -1,14 +1,12 @@
 -- the running sum behind some rows
-use Rattle.std.proofs.Common.{◌≡◌, ℕ, zero, suc, ◌+◌, ◌-◌, ◌<◌, ◌≤◌, ℤ, pos, ◌+ℤ◌, List, [], ◌∷◌, ◌++◌, length, map, take, slice_get, Some, None, unwrap_or, ◌⊎◌, inl, inr, sym, refl, ap, ◌∙◌, subst, arith}
+use Rattle.std.proofs.Common.{◌≡◌, ℕ, zero, suc, ◌+◌, ◌-◌, ◌<◌, ◌≤◌, ℤ, pos, ◌+ℤ◌, List, [], ◌∷◌, ◌++◌, length, map, take, slice_get, Some, None, ◌⊎◌, inl, inr, sym, refl, ap, ◌∙◌, subst, arith}
 use Rattle.std.specs.BTreeMap.{BTreeMap}
-use Rattle.std.specs.HashMap.{get, hash_map_len, IsUnique, IsEmpty}
+use Rattle.std.specs.HashMap.{hash_map_len, IsUnique}
 use Rattle.std.proofs.lemmas.List.{take_all, take_more, length-map}
 use Rattle.std.proofs.lemmas.Bool.{cases_eq}
 use Rattle.std.specs.Option.{option_map}
 use Rattle.std.proofs.lemmas.Option.{slice_get_within, get_or_from_slice_get, slice_get-map}
 use Rattle.std.proofs.Math.IntN.{+ℤ_comm, +ℤ_assoc}
-use Rattle.std.specs.Map.{lookup}
-use Rattle.coef_int.specs.Range.{IsCoefficient}
 use Rattle.coef_int.specs.declared.Overflow.{Overflow}
 use Rattle.coef_int.specs.Operations.{first_overflow}
 use Rattle.definitions.specs.Poly.{word_eq, coefficient_of}
@@ -112,21 +110,6 @@ module _ {generators : List (List (ℤ × List ℕ))} {X : Type 0} {as_row : X �
             by (inl last) = let there = row_there in let same : s ≡ r = cc in subst (λ k. RowPasses generators rows k s) (sym last) (subst (RowPasses generators rows i) (sym same) here)
             by (inr earlier) = next.so_far.passed.at j s (omega arith) at
 
--- before the first row
-pub begins : (generators : List (List (ℤ × List ℕ))) (rows : List Row) (m : Table) → IsEmpty m → SumsUpTo generators rows m 0
-begins generators rows m empty = record {
-  kept = record {
-    nonzero = λ w there. let none = absent w in (cc);
-    in_range = λ w. subst IsCoefficient (sym (ap (λ o. unwrap_or o (pos 0)) (absent w))) (omega arith);
-  };
-  sum = λ w. ap (λ o. unwrap_or o (pos 0)) (absent w);
-  passed = record { at = λ i r below there. absurd (omega arith) };
-}
-  where
-    absent : (w : List ℕ) → get word_eq m w ≡ None
-    absent w = ap (lookup (word_eq w)) empty
-
--- behind the last one
 module _ {generators : List (List (ℤ × List ℕ))} {rows : List Row} {m : Table} {i : ℕ} (so_far : SumsUpTo generators rows m i) (all : length rows ≤ i) where
   pub whole_sum : (sum : BTreeMap (List ℕ) ℤ) → ((w : List ℕ) → coefficient_in sum w ≡ coefficient_at m w) → IsSumOf sum (row_sum generators rows)
   whole_sum sum same = record { at = λ w. same w ∙ so_far.sum w ∙ ap (λ rs. coefficient_of (row_sum generators rs) w) (take_all i rows all) }

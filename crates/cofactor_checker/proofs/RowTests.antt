@@ -15,7 +15,7 @@ use Rattle.traced_rows.specs.Rows.{row_of, rows_of}
 use Rattle.lists.proofs.Decided.{IsDecided, decided_by, both_decided, le_decided}
 use Rattle.lists.proofs.FirstFailure.{HasOneOutcome, PassUpTo, FailsFirst, one_test, value_test, then_test, item_test, tests_up_to, reworded}
 use Rattle.cofactor_checker.specs.Operations.{row_operations}
-use Rattle.cofactor_checker.specs.Rows.{term_count, sum_limit, IsNumberUpTo, RowPasses, RowsPass, Reaches, LacksGenerator, Overflows, Outgrows}
+use Rattle.cofactor_checker.specs.Rows.{term_count, sum_limit, IsNumberUpTo, RowPasses, RowsPass, Reaches, LacksGenerator}
 use Rattle.cofactor_checker.specs.RowRefusals.{RefusesRow, StopsAt, lacks, overflows, outgrows, memory, tell_generator, tell_lacking}
 use Rattle.cofactor_checker.specs.PlainRows.{plain_row, plain_rows, plain_sum, IsGenerator, IsLemma}
 use Rattle.cofactor_checker.specs.Lemmas.{LemmaRowsPass, RefusesLemmaRows}

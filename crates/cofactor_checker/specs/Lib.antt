@@ -8,6 +8,7 @@ pub mod Difference
 pub mod PlainRows
 pub mod Lemmas
 pub mod LemmaAcceptance
+pub mod Starts
 pub mod Goals
 pub mod Evidence
 pub mod Laws

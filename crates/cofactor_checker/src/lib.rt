@@ -14,6 +14,7 @@ mod polynomial;
 mod refusal;
 mod rows;
 mod scales;
+mod start;
 mod sum;
 mod table;
 
@@ -30,4 +31,5 @@ pub use lemmas::KEPT_LIMIT;
 pub use polynomial::make_polynomial;
 pub use refusal::Refusal;
 pub use rows::{SUM_LIMIT, numbered};
-pub use scales::divides;
+pub use scales::{Scaled, divides};
+pub use start::posed_claim;
