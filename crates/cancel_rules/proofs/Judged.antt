@@ -1,5 +1,5 @@
 -- Each proof has exactly one outcome: it is accepted, or one of its tests is the first that fails.
-use Rattle.std.proofs.Common.{◌≡◌, ◌⊎◌, inl, inr, ℕ, ◌+◌, ◌≤◌, ℤ, List, [], ◌∷◌, ◌++◌, length, All, refl, sym, subst, ap, arith}
+use Rattle.std.proofs.Common.{◌≡◌, ◌⊎◌, inl, inr, ℕ, ◌+◌, ◌≤◌, ℤ, List, [], ◌∷◌, ◌++◌, length, All, Result, Ok, Err, IfErr, refl, sym, subst, ap, arith}
 use Rattle.std.specs.List.{Contains}
 use Rattle.std.proofs.lemmas.Bool.{cases_eq}
 use Rattle.std.proofs.lemmas.List.Elements.{Contains-append_right, Contains-append_cases, Contains-push_cases}
@@ -248,3 +248,8 @@ cancellation_refusal_is_unique q claims generators proof = (cancellation_outcome
 
 pub accepted_cancellation_is_not_refused : AcceptedCancellationIsNotRefused
 accepted_cancellation_is_not_refused q claims generators proof e accepted = (cancellation_outcome q claims generators proof).not_refused accepted e
+
+-- so what is refused of an accepted one is want of memory
+pub complete : {A : Type 0} (q : Quiver) (claims generators : List Poly) (proof : Cancellation) (r : Result A CancelRefusal) → IfErr r (RefusesCancellation q claims generators proof) → AcceptsCancellation q claims generators proof → IfErr r IsMemory
+complete q claims generators proof (Ok a) refused accepted = tt
+complete q claims generators proof (Err e) refused accepted = accepted_cancellation_is_not_refused q claims generators proof e accepted refused

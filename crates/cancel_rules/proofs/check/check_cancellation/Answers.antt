@@ -14,10 +14,10 @@ use Rattle.cancel_rules.specs.declared.cancellation.Cancellation.{Cancellation}
 use Rattle.cancel_rules.specs.declared.refusal.CancelRefusal.TheVariants.{Common}
 use Rattle.cancel_rules.specs.Cancellations.{declared_for}
 use Rattle.cancel_rules.specs.Items.{row_total}
-use Rattle.cancel_rules.specs.Acceptance.{claim_named, all_items, CancelBegins, HasItems, AcceptsCancellation, RefusesCancellation, IsReadableCancellation, IsMemory}
-use Rattle.cancel_rules.proofs.Outcomes.{refuses_from_beginning, refuses_from_items, refuses_from_goal, err_told, memory_only, memory_told}
+use Rattle.cancel_rules.specs.Acceptance.{claim_named, all_items, CancelBegins, HasItems, AcceptsCancellation, RefusesCancellation, IsReadableCancellation}
+use Rattle.cancel_rules.proofs.Outcomes.{refuses_from_beginning, refuses_from_items, refuses_from_goal, err_told, memory_told}
 use Rattle.cancel_rules.proofs.Shown.{accepted_cancellation_leads}
-use Rattle.cancel_rules.proofs.Judged.{begun, told_start, cancellation_outcome}
+use Rattle.cancel_rules.proofs.Judged.{begun, told_start, complete}
 use Rattle.cancel_rules.proofs.check.check_cancellation.Goals as goal
 use Rattle.cancel_rules.proofs.check.check_cancellation.Goals.{In_err-claim, In_ok-claim, In_err-made, In_ok-made, In_err-check_goal, In_ok-check_goal}
 
@@ -46,10 +46,7 @@ returns-in_err-claim-clause-refuses c =
     err_told _ c.from_residual.result c.in_err-claim.field-0.0 c.from_residual.ensures.1 (begun_wrong passed.In_err-claim)
 
 pub returns-in_err-claim-clause-complete : goal.returns-in_err-claim-clause-complete
-returns-in_err-claim-clause-complete c = λ accepted.
-    let passed = goal.at.returns-in_err-claim-clause-complete c in
-    err_told IsMemory c.from_residual.result c.in_err-claim.field-0.0 c.from_residual.ensures.1
-    ((cancellation_outcome (quiver_of c.args.problem.now.parts.quiver) (polynomials c.args.problem.now.parts.claims) (polynomials c.args.problem.now.generators) c.args.proof.now).not_refused accepted (Common c.in_err-claim.field-0.0) (begun_wrong passed.In_err-claim))
+returns-in_err-claim-clause-complete c = complete (quiver_of c.args.problem.now.parts.quiver) (polynomials c.args.problem.now.parts.claims) (polynomials c.args.problem.now.generators) c.args.proof.now c.from_residual.result (returns-in_err-claim-clause-refuses c)
 
 -- the tables of letters
 pub returns-in_err-marks-clause-refuses : goal.returns-in_err-marks-clause-refuses
@@ -57,7 +54,7 @@ returns-in_err-marks-clause-refuses c =
     memory_told (quiver_of c.args.problem.now.parts.quiver) (polynomials c.args.problem.now.parts.claims) (polynomials c.args.problem.now.generators) c.args.proof.now c.from_residual-in_err-marks.result c.from_residual-in_err-marks.ensures.1
 
 pub returns-in_err-marks-clause-complete : goal.returns-in_err-marks-clause-complete
-returns-in_err-marks-clause-complete c = λ accepted. memory_only c.from_residual-in_err-marks.result c.from_residual-in_err-marks.ensures.1
+returns-in_err-marks-clause-complete c = complete (quiver_of c.args.problem.now.parts.quiver) (polynomials c.args.problem.now.parts.claims) (polynomials c.args.problem.now.generators) c.args.proof.now c.from_residual-in_err-marks.result (returns-in_err-marks-clause-refuses c)
 
 pub declared_marks-requires-clause-monic : goal.declared_marks-requires-clause-monic
 declared_marks-requires-clause-monic c = rw c.letters.ensures.count c.requires.monic
@@ -78,10 +75,7 @@ returns-in_err-made-clause-refuses c =
     rw back (item_wrong passed.In_err-made (starts passed.In_ok-claim))
 
 pub returns-in_err-made-clause-complete : goal.returns-in_err-made-clause-complete
-returns-in_err-made-clause-complete c = λ accepted.
-    let passed = goal.at.returns-in_err-made-clause-complete c in
-    let back : c.from_residual-in_err-made.result ≡ Err c.in_err-made.field-0.0 = search rules in
-    rw back ((cancellation_outcome (quiver_of c.args.problem.now.parts.quiver) (polynomials c.args.problem.now.parts.claims) (polynomials c.args.problem.now.generators) c.args.proof.now).not_refused accepted c.in_err-made.field-0.0 (item_wrong passed.In_err-made (starts passed.In_ok-claim)))
+returns-in_err-made-clause-complete c = complete (quiver_of c.args.problem.now.parts.quiver) (polynomials c.args.problem.now.parts.claims) (polynomials c.args.problem.now.generators) c.args.proof.now c.from_residual-in_err-made.result (returns-in_err-made-clause-refuses c)
 
 -- the goal
 items : (c : In_ok-made) → CancelBegins (polynomials c.args.problem.now.parts.claims) c.args.proof.now → HasItems (quiver_of c.args.problem.now.parts.quiver) (polynomials c.args.problem.now.parts.claims) (polynomials c.args.problem.now.generators) c.args.proof.now
@@ -105,11 +99,7 @@ returns-in_err-check_goal-clause-refuses c =
     err_told _ c.from_residual-in_err-check_goal.result c.in_err-check_goal.field-0.0 c.from_residual-in_err-check_goal.ensures.1 (goal_wrong passed.In_err-check_goal (items passed.In_ok-made (starts passed.In_ok-claim)))
 
 pub returns-in_err-check_goal-clause-complete : goal.returns-in_err-check_goal-clause-complete
-returns-in_err-check_goal-clause-complete c = λ accepted.
-    let passed = goal.at.returns-in_err-check_goal-clause-complete c in
-    err_told IsMemory c.from_residual-in_err-check_goal.result c.in_err-check_goal.field-0.0 c.from_residual-in_err-check_goal.ensures.1
-    ((cancellation_outcome (quiver_of c.args.problem.now.parts.quiver) (polynomials c.args.problem.now.parts.claims) (polynomials c.args.problem.now.generators) c.args.proof.now).not_refused accepted (Common c.in_err-check_goal.field-0.0)
-    (goal_wrong passed.In_err-check_goal (items passed.In_ok-made (starts passed.In_ok-claim))))
+returns-in_err-check_goal-clause-complete c = complete (quiver_of c.args.problem.now.parts.quiver) (polynomials c.args.problem.now.parts.claims) (polynomials c.args.problem.now.generators) c.args.proof.now c.from_residual-in_err-check_goal.result (returns-in_err-check_goal-clause-refuses c)
 
 accepts : (c : In_ok-check_goal) → HasItems (quiver_of c.args.problem.now.parts.quiver) (polynomials c.args.problem.now.parts.claims) (polynomials c.args.problem.now.generators) c.args.proof.now
     → AcceptsCancellation (quiver_of c.args.problem.now.parts.quiver) (polynomials c.args.problem.now.parts.claims) (polynomials c.args.problem.now.generators) c.args.proof.now
