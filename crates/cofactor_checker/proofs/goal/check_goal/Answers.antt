@@ -1,6 +1,5 @@
-use Rattle.std.proofs.Common.{rules, ◌≡◌, Err, subst, sym, refl, to_z, of_z, All}
+use Rattle.std.proofs.Common.{rules, ◌≡◌, Err, refl, to_z, of_z}
 use mir.Syntax.{w128}
-use Rattle.coef_int.specs.Range.{IsCoefficient}
 use Rattle.adjoint_rules.specs.Problem.{polynomials}
 use Rattle.cofactor_checker.specs.Running.{IsSumOf}
 use Rattle.cofactor_checker.specs.PlainRows.{plain_sum}
@@ -39,12 +38,3 @@ returns-clause-refused c =
     let want_is : to_z w128 (of_z w128 d.want) ≡ d.want = search rules in
     let got_is : to_z w128 (of_z w128 d.got) ≡ d.got = search rules in
     rw (want_is, got_is) (record { rows = passed passed_to.In_ok-sum; difference = sums_differ c.args.goal.now.scale (sum passed_to.In_ok-sum) refl (search rules) })
-
-pub add_rows-requires-clause-count : goal.add_rows-requires-clause-count
-add_rows-requires-clause-count c = rw (c.as_slice-rows.ensures) c.requires.count
-
-pub add_rows-requires-clause-coefficients : goal.add_rows-requires-clause-coefficients
-add_rows-requires-clause-coefficients c = subst (λ rows. All (λ r. IsCoefficient r.coef) rows) (sym c.as_slice-rows.ensures) c.requires.ranged.rows
-
-pub least_difference-requires-clause-running : goal.least_difference-requires-clause-running
-least_difference-requires-clause-running c = c.in_ok-sum.ensures.running

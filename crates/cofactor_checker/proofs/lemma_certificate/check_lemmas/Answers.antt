@@ -1,4 +1,4 @@
-use Rattle.std.proofs.Common.{rules, ◌≡◌, Err, ap, ◌∙◌, arith, to_z, of_z}
+use Rattle.std.proofs.Common.{rules, ◌≡◌, Err, ap, ◌∙◌, to_z, of_z}
 use mir.Syntax.{w128}
 use Rattle.adjoint_rules.specs.Problem.{polynomials}
 use Rattle.cofactor_checker.specs.Goals.{ReachesClaim, RefusesGoal}
@@ -57,9 +57,6 @@ returns-clause-accepts c =
     let reached : ReachesClaim gs (all_polynomials gs certificate) certificate.goal (goal_claim (polynomials c.args.claims.now) certificate) =
     rw (← same, ← c.as_slice-lemmas.ensures, ← c.in_ok-claim.ensures.claim) c.in_ok-check_goal.ensures.reaches in
     record { adds_up = record { lemmas = lemmas passed.In_ok-made (starts passed.In_ok-claim); rows = reached.rows }; sum = reached.sum }
-
-pub make_lemmas-requires-clause-few_rows : goal.make_lemmas-requires-clause-few_rows
-make_lemmas-requires-clause-few_rows c = rw c.as_slice-items.ensures (omega (arith, c.requires.few_rows))
 
 pub check_goal-requires-clause-count : goal.check_goal-requires-clause-count
 check_goal-requires-clause-count c =

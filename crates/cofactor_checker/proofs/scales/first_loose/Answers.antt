@@ -1,11 +1,8 @@
 use Rattle.std.proofs.Common.{rules, ◌≡◌, All, length, take, refl, sym, subst, arith, to_z, of_z}
 use mir.Syntax.{w128}
 use Rattle.std.proofs.lemmas.Option.{slice_get_read}
-use Rattle.cofactor_checker.proofs.Each.{all_more, all_whole, at_item, clash}
+use Rattle.cofactor_checker.proofs.Each.{all_more, all_whole, clash}
 use Rattle.cofactor_checker.proofs.scales.first_loose.Goals as goal
-
-pub is_tight-requires : goal.is_tight-requires
-is_tight-requires g c = at_item g.I.Scaled.positive c.args.items.now c.loop-item.item-index c.item-item.result c.loop-item-test.true c.item-item.is c.requires.scales
 
 pub returns-then-not-is_tight-clause-loose : goal.returns-then-not-is_tight-clause-loose
 returns-then-not-is_tight-clause-loose g c =
