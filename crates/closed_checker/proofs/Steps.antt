@@ -1,8 +1,9 @@
 -- One letter of the walk, and its end, as the code takes them.
-use Rattle.std.proofs.Common.{◌≡◌, ℕ, suc, ◌+◌, ◌-◌, ◌<◌, ◌≤◌, not, nat_eq, List, [], ◌∷◌, ◌++◌, length, take, drop, get_or, filter, sym, ap, ◌∙◌, subst, arith}
+use Rattle.std.proofs.Common.{◌≡◌, ℕ, suc, ◌+◌, ◌-◌, ◌<◌, not, nat_eq, List, [], length, take, drop, get_or, filter, ap, ◌∙◌, subst, arith}
 use Rattle.std.specs.List.{All, AllPairs}
 use Rattle.std.specs.List.Sorted.{IsNonDecreasingBy}
-use Rattle.std.proofs.lemmas.List.{length-take-le, length-drop, get_or-drop, take_more, take_all}
+use Rattle.std.proofs.lemmas.Bool.Decides.{Decides-eqb}
+use Rattle.std.proofs.lemmas.List.{length-take-le, length-drop, take_more, take_all}
 use Rattle.ambiguities.specs.declared.ambiguity.Kind.TheVariants.{Overlap, Inclusion}
 use Rattle.ambiguities.specs.declared.ambiguity.Ambiguity.{Ambiguity}
 use Rattle.ambiguities.specs.Listed.{ListsExactly}
@@ -12,7 +13,7 @@ use Rattle.closed_checker.specs.Table.{StandsBefore, rank_at}
 use Rattle.closed_checker.proofs.Fronts.{BeginsWith}
 use Rattle.closed_checker.specs.Finding.{IsAdded, IsWith, IsOfFirst}
 use Rattle.closed_checker.proofs.Tables.{ranks-ascend}
-use Rattle.closed_checker.proofs.Walking.{IsGoing, IsEnded, IsLonger, IsIncluded, walk-narrow, walk-ended, walk-longer, included-more, at_first, cut_off, at_end}
+use Rattle.closed_checker.proofs.Walking.{IsGoing, IsEnded, IsLonger, IsIncluded, walk-narrow, walk-part, some_rank, included-more, at_first, cut_off, at_end}
 
 -- The table is sorted, no word of it is empty, and the place is one of the first word.
 pub record IsPlace (table : List Lead) (first : Lead) (place : ℕ) : Type 0 where
@@ -39,7 +40,7 @@ module _ {table : List Lead} {first : Lead} {place : ℕ} (at : IsPlace table fi
           (exactly-all StandsBefore (IsLonger table (take depth rest)) (λ (l : Lead). BeginsWith (take depth rest) l.letters) longer walked (λ l is. is.begins)))
 
       module _ {going : List Lead} (is : going ≡ filter (λ (l : Lead). nat_eq (rank_at depth l.letters) (suc (get_or rest depth 0))) longer) where
-        going-exact : ListsExactly StandsBefore (IsGoing table (take (depth + 1) rest)) going
+        going-exact : ListsExactly StandsBefore (IsGoing table (take (depth + 1) rest) (λ n. Unit {0})) going
         going-exact =
             rw (is, take_more rest depth 0 further)
             (walk-narrow table (take depth rest) depth front-length longer (get_or rest depth 0) walked)
@@ -47,11 +48,11 @@ module _ {table : List Lead} {first : Lead} {place : ℕ} (at : IsPlace table fi
         pub going-ranks : IsNonDecreasingBy (λ (l : Lead). rank_at (depth + 1) l.letters) going
         going-ranks = subst (λ n. IsNonDecreasingBy (λ (l : Lead). rank_at n l.letters) going) more-length
             (ranks-ascend (take (depth + 1) rest) going going-exact.ascending
-            (exactly-all StandsBefore (IsGoing table (take (depth + 1) rest)) (λ (l : Lead). BeginsWith (take (depth + 1) rest) l.letters) going going-exact (λ l is. is.begins)))
+            (exactly-all StandsBefore (IsGoing table (take (depth + 1) rest) (λ n. Unit {0})) (λ (l : Lead). BeginsWith (take (depth + 1) rest) l.letters) going going-exact (λ l is. is.begins)))
 
         module _ {ended : List Lead} (are : ended ≡ filter (λ (l : Lead). nat_eq (rank_at (depth + 1) l.letters) 0) going) where
           ended-exact : ListsExactly StandsBefore (IsEnded table (take (depth + 1) rest)) ended
-          ended-exact = rw are (walk-ended table (take (depth + 1) rest) (depth + 1) more-length going going-exact)
+          ended-exact = rw are (walk-part table (take (depth + 1) rest) (depth + 1) more-length going (λ n. nat_eq n 0) (λ n. n ≡ 0) (λ n. Decides-eqb n 0) going-exact)
 
           pub ended-sorted : AllPairs StandsBefore ended
           ended-sorted = ended-exact.ascending
@@ -62,7 +63,7 @@ module _ {table : List Lead} {first : Lead} {place : ℕ} (at : IsPlace table fi
 
         pub walked-more : {more : List Lead} → more ≡ filter (λ (l : Lead). not (nat_eq (rank_at (depth + 1) l.letters) 0)) going
             → ListsExactly StandsBefore (IsLonger table (take (depth + 1) rest)) more
-        walked-more are = rw are (walk-longer table (take (depth + 1) rest) (depth + 1) more-length going going-exact)
+        walked-more are = rw are (walk-part table (take (depth + 1) rest) (depth + 1) more-length going (λ n. not (nat_eq n 0)) (λ n. 0 < n) some_rank going-exact)
 
       -- no word goes on
       pub none-longer : longer ≡ [] → {old new : List Ambiguity} → IsAdded (IsIncluded table first place depth) old new → IsAdded (IsOfFirst table first (λ p. p ≡ place)) old new

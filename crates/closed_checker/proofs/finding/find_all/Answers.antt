@@ -1,8 +1,9 @@
 use Rattle.std.proofs.Common.{rules, ◌≡◌, ◌<◌, [], length, take, get_or, sym, subst, arith}
 use Rattle.std.proofs.lemmas.List.{take_all}
+use Rattle.ambiguities.specs.declared.ambiguity.Ambiguity.{Ambiguity}
 use Rattle.closed_checker.specs.Finding.{IsAdded, IsOfFirst, IsOfFirsts}
 use Rattle.closed_checker.proofs.Picked.{added-whole}
-use Rattle.closed_checker.proofs.Walking.{firsts-more}
+use Rattle.closed_checker.proofs.Walking.{one-more}
 use Rattle.closed_checker.proofs.finding.find_all.Goals as goal
 
 pub loop-first-preserved : goal.loop-first-preserved
@@ -13,7 +14,7 @@ loop-first-preserved c =
     let inside : n < length table = omega arith in
     let here : get_or table n l ≡ l = sym c.first-item.is in
     let made : IsAdded (IsOfFirst table l (λ p. Unit {0})) c.loop-first.found c.push_first.new.found = search rules in
-    firsts-more table c.requires.sorted n l [] c.loop-first.found c.push_first.new.found inside here c.loop-first.invariant made
+    one-more table c.requires.sorted (λ x. IsOfFirst table x (λ p. Unit {0})) (λ (a : Ambiguity). a.i) (λ x a of. of.first_numbered) n l [] c.loop-first.found c.push_first.new.found inside here c.loop-first.invariant made
 
 pub returns : goal.returns
 returns c =

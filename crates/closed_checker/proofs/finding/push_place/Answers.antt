@@ -1,4 +1,4 @@
-use Rattle.std.proofs.Common.{rules, ◌≡◌, ◌-◌, ◌<◌, suc, nat_eq, get_or, filter, [], length, take, drop, arith}
+use Rattle.std.proofs.Common.{rules, ◌≡◌, ◌-◌, ◌<◌, suc, nat_eq, get_or, filter, length, take, drop, arith}
 use Rattle.std.proofs.lemmas.List.{nil_from_length}
 use Rattle.closed_checker.specs.declared.table.Lead.{Lead}
 use Rattle.closed_checker.specs.Table.{rank_at}

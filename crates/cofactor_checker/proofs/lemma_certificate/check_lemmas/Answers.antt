@@ -57,8 +57,3 @@ returns-clause-accepts c =
     let reached : ReachesClaim gs (all_polynomials gs certificate) certificate.goal (goal_claim (polynomials c.args.claims.now) certificate) =
     rw (← same, ← c.as_slice-lemmas.ensures, ← c.in_ok-claim.ensures.claim) c.in_ok-check_goal.ensures.reaches in
     record { adds_up = record { lemmas = lemmas passed.In_ok-made (starts passed.In_ok-claim); rows = reached.rows }; sum = reached.sum }
-
-pub check_goal-requires-clause-count : goal.check_goal-requires-clause-count
-check_goal-requires-clause-count c =
-    let before : c.in_ok-made.made.rows ≡ row_count c.args.certificate.now.lemmas = c.in_ok-made.ensures.rows ∙ ap row_count c.as_slice-items.ensures in
-    rw before c.requires.few_rows

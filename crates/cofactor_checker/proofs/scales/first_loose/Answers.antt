@@ -1,7 +1,7 @@
 use Rattle.std.proofs.Common.{rules, ◌≡◌, All, length, take, refl, sym, subst, arith, to_z, of_z}
 use mir.Syntax.{w128}
 use Rattle.std.proofs.lemmas.Option.{slice_get_read}
-use Rattle.cofactor_checker.proofs.Each.{all_more, all_whole, clash}
+use Rattle.cofactor_checker.proofs.Each.{all_whole, clash}
 use Rattle.cofactor_checker.proofs.scales.first_loose.Goals as goal
 
 pub returns-then-not-is_tight-clause-loose : goal.returns-then-not-is_tight-clause-loose
@@ -16,14 +16,6 @@ returns-then-not-is_tight-clause-loose g c =
       earlier = subst (λ z. All (g.I.Scaled.tight z) (take i items)) is c.loop-item.invariant.tight;
       fails = λ tight. clash c.is_tight.result (c.is_tight.ensures.1 (subst (λ z. g.I.Scaled.tight z c.item-item.result) (sym is) tight)) c.if-not-is_tight.true;
     }, omega arith)
-
-pub loop-item-preserved : goal.loop-item-preserved
-loop-item-preserved g c =
-    let z = to_z w128 (of_z w128 c.args.denominator) in
-    record {
-      numbered = omega arith;
-      tight = all_more (g.I.Scaled.tight z) c.args.items.now c.loop-item.item-index c.item-item.result c.loop-item-test.true c.item-item.is c.loop-item.invariant.tight (c.is_tight.ensures.0 c.if-not-is_tight.false);
-    }
 
 pub returns-clause-tight : goal.returns-clause-tight
 returns-clause-tight g c =

@@ -8,15 +8,9 @@ use Rattle.nc_polynomial.proofs.Results.{err_whole}
 use Rattle.cofactor_checker.specs.Operations.{adding_operations}
 use Rattle.cofactor_checker.specs.Running.{IsStoppedBy}
 use Rattle.cofactor_checker.specs.Table.{coefficient_at, Adds}
-use Rattle.cofactor_checker.proofs.Adding.{AddsUpTo, IsNextTerm, begins, ends, product_fails, sum_stopped, goes_on}
+use Rattle.cofactor_checker.proofs.Adding.{AddsUpTo, IsNextTerm, ends, product_fails, sum_stopped, goes_on}
 use Rattle.cofactor_checker.proofs.sum.add_row.Goals as goal
 use Rattle.cofactor_checker.proofs.sum.add_row.Goals.{After-term-item, After-loop-term}
-
-pub loop-term-init : goal.loop-term-init
-loop-term-init c = record {
-  kept = c.requires.kept;
-  added = begins c.args.sum.now (to_z w128 (of_z w128 c.args.coefficient)) c.args.left.now c.args.terms.now c.args.right.now;
-}
 
 -- the term is next
 next : (c : After-term-item) → IsNextTerm c.args.sum.now c.loop-term.sum c.args.coefficient c.args.left.now c.args.terms.now c.args.right.now c.loop-term.term-index c.term-item.result
@@ -61,9 +55,3 @@ whole c =
     let is : to_z w128 (of_z w128 c.args.coefficient) ≡ c.args.coefficient = search rules in
     let added = subst (λ z. AddsUpTo c.args.sum.now c.loop-term.sum z c.args.left.now c.args.terms.now c.args.right.now c.loop-term.term-index) is c.loop-term.invariant.added in
     ends c.args.sum.now c.loop-term.sum c.args.coefficient c.args.left.now c.args.terms.now c.args.right.now c.loop-term.term-index added c.loop-term-test.false
-
-pub returns-clause-added : goal.returns-clause-added
-returns-clause-added c = (whole c).0
-
-pub returns-clause-exact : goal.returns-clause-exact
-returns-clause-exact c = (whole c).1
