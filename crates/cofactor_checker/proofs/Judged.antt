@@ -10,12 +10,12 @@ use Rattle.traced_rows.specs.declared.certificate.Certificate.{Certificate}
 use Rattle.traced_rows.specs.declared.evidence.Lemma.{Lemma}
 use Rattle.traced_rows.specs.declared.evidence.LemmaCertificate.{LemmaCertificate}
 use Rattle.traced_rows.specs.declared.evidence.Evidence.TheVariants.{Plain, Lemmas}
-use Rattle.traced_rows.specs.Rows.{rows_of}
+use Rattle.traced_rows.specs.Rows.{row_of, rows_of}
 use Rattle.lists.proofs.Decided.{IsDecided, both_decided}
 use Rattle.lists.proofs.FirstFailure.{HasOneOutcome, FirstNot, each_decided, one_test, value_test, each_test, then_test, reworded}
 use Rattle.cofactor_checker.specs.declared.accepted.Accepted.{Accepted}
 use Rattle.cofactor_checker.specs.Rows.{IsNumberUpTo, RowsPass}
-use Rattle.cofactor_checker.specs.RowRefusals.{RefusesRow}
+use Rattle.cofactor_checker.specs.RowRefusals.{StopsAt, overflows, outgrows, tell_generator}
 use Rattle.cofactor_checker.specs.Lemmas.{LemmasPass, RefusesLemmaRows, RefusesLemmas, row_count}
 use Rattle.cofactor_checker.specs.Acceptance.{claim_of, Begins, Accepts, Refuses, IsMemory}
 use Rattle.cofactor_checker.specs.LemmaAcceptance.{goal_claim, all_polynomials, HasScale, IsTight, IsPositive, HasShares, GoalBegins, IsFirstLoose, HasLooseGoal, AcceptsLemmas, RefusesBlock, RefusesLemmaCertificate}
@@ -27,7 +27,7 @@ use Rattle.cofactor_checker.specs.declared.refusal.Refusal.{Refusal}
 use Rattle.cofactor_checker.specs.declared.refusal.Refusal.TheVariants as refusal
 use Rattle.traced_rows.specs.declared.evidence.Evidence.{Evidence}
 use Rattle.cofactor_checker.proofs.Differences.{TellsDifference, difference_outcome}
-use Rattle.cofactor_checker.proofs.RowTests.{memory_decided, numbered_or, certificate_rows, goal_outcome}
+use Rattle.cofactor_checker.proofs.RowTests.{memory_decided, numbered_or, stops_lacking, certificate_rows, goal_outcome}
 use Rattle.cofactor_checker.proofs.LemmaTests.{divides_or, positive_or, below_one, lemmas_outcome}
 use Rattle.cofactor_checker.proofs.Outcomes.{refuses_from_row}
 use Rattle.cofactor_checker.proofs.LemmaOutcomes.{refuses_from_lemmas, refuses_from_goal}
@@ -48,27 +48,27 @@ module _ (claims gs : List Poly) (c : Certificate) where
       ((e ≡ refusal.NoSuchClaim) × (IsClaim → ⊥))
       ⊎ (IsClaim × (((e ≡ refusal.ZeroDenominator) × (pos 1 ≤ℤ c.denominator → ⊥))
       ⊎ ((pos 1 ≤ℤ c.denominator) × (((o : Overflow) × (e ≡ refusal.Overflow 0 o) × (first ≡ Some o))
-      ⊎ ((first ≡ None) × (RefusesRow gs (rows_of c.rows) e
+      ⊎ ((first ≡ None) × (StopsAt gs row_of tell_generator (λ n. n) c.rows e
       ⊎ (PassRows × TellsDifference (poly_multiple c.denominator (claim_of claims c)) (row_sum gs (rows_of c.rows)) e)))))))
 
   told : (e : Refusal) → Tells e → Refuses claims gs c e
   told e (inl (is, none)) = subst (Refuses claims gs c) (sym is) none
   told e (inr (claim, inl (is, none))) = subst (Refuses claims gs c) (sym is) (record { claim = claim; denominator = below_one c.denominator none })
   told e (inr (claim, inr (least, inl (o, is, some)))) = subst (Refuses claims gs c) (sym is) (inl (record { before_rows = refl; posed = record { claim = claim; denominator = least }; products = some }))
-  told e (inr (claim, inr (least, inr (fits, inl h)))) = refuses_from_row gs (record { posed = record { claim = claim; denominator = least }; products = fits }) e h
+  told e (inr (claim, inr (least, inr (fits, inl h)))) = let begun : Begins claims c = record { posed = record { claim = claim; denominator = least }; products = fits } in refuses_from_row begun e h
   told e (inr (claim, inr (least, inr (fits, inr (rows, d))))) =
       subst (Refuses claims gs c) (sym d.is) (record { adds_up = record { begins = record { posed = record { claim = claim; denominator = least }; products = fits }; rows = rows }; difference = d.least })
 
-  of_row : Begins claims c → (e : Refusal) → RefusesRow gs (rows_of c.rows) e → Tells e
+  of_row : Begins claims c → (e : Refusal) → StopsAt gs row_of tell_generator (λ n. n) c.rows e → Tells e
   of_row begins e h = inr (begins.posed.claim, inr (begins.posed.denominator, inr (begins.products, inl h)))
 
   tells : (e : Refusal) → Refuses claims gs c e → (IsMemory e → ⊥) → Tells e
   tells refusal.NoSuchClaim h not = inl (refl, h)
   tells refusal.ZeroDenominator h not = inr (h.claim, inl (refl, λ least. let less = h.denominator in omega (arith, ints, least, less)))
   tells (refusal.Overflow row o) (inl h) not = inr (h.posed.claim, inr (h.posed.denominator, inl (o, ap (λ n. refusal.Overflow n o) h.before_rows, h.products)))
-  tells (refusal.Overflow row o) (inr h) not = of_row h.0 (refusal.Overflow row o) h.1
-  tells (refusal.NoSuchGenerator row) h not = of_row h.0 (refusal.NoSuchGenerator row) h.1
-  tells (refusal.Size row) h not = of_row h.0 (refusal.Size row) h.1
+  tells (refusal.Overflow row o) (inr h) not = of_row h.0 (refusal.Overflow row o) (overflows row o refl h.1)
+  tells (refusal.NoSuchGenerator row) h not = of_row h.0 (refusal.NoSuchGenerator row) (stops_lacking gs c.rows row h.1)
+  tells (refusal.Size row) h not = of_row h.0 (refusal.Size row) (outgrows row refl h.1)
   tells (refusal.Differs word want got) h not =
       let begins = h.adds_up.begins in
       inr (begins.posed.claim, inr (begins.posed.denominator, inr (begins.products, inr (h.adds_up.rows, record { word = word; want = want; got = got; is = refl; least = h.difference }))))

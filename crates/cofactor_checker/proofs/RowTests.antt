@@ -16,7 +16,7 @@ use Rattle.lists.proofs.Decided.{IsDecided, decided_by, both_decided, le_decided
 use Rattle.lists.proofs.FirstFailure.{HasOneOutcome, PassUpTo, FailsFirst, one_test, value_test, then_test, item_test, tests_up_to, reworded}
 use Rattle.cofactor_checker.specs.Operations.{row_operations}
 use Rattle.cofactor_checker.specs.Rows.{term_count, sum_limit, IsNumberUpTo, RowPasses, RowsPass, Reaches, LacksGenerator}
-use Rattle.cofactor_checker.specs.RowRefusals.{RefusesRow, StopsAt, lacks, overflows, outgrows, memory, tell_generator, tell_lacking}
+use Rattle.cofactor_checker.specs.RowRefusals.{StopsAt, lacks, overflows, outgrows, memory, tell_generator, tell_lacking}
 use Rattle.cofactor_checker.specs.PlainRows.{plain_row, plain_rows, plain_sum, IsGenerator, IsLemma}
 use Rattle.cofactor_checker.specs.Lemmas.{LemmaRowsPass, RefusesLemmaRows}
 use Rattle.cofactor_checker.specs.Acceptance.{IsMemory}
@@ -136,32 +136,18 @@ module _ (all : List Poly) {X : Type 0} (as_row : X → Row) (tell : ℕ → X �
 
 -- the rows of a certificate
 module _ (generators : List Poly) (rows : List CertRow) where
-  abbrev StopsRow : Refusal → Type 0
-  StopsRow = StopsAt generators row_of tell_generator (λ n. n) rows
-
-  told : (e : Refusal) → StopsRow e → RefusesRow generators (rows_of rows) e
-  told e (lacks n x is h there) = subst (RefusesRow generators (rows_of rows)) (sym is) h
-  told e (overflows n o is h) = subst (RefusesRow generators (rows_of rows)) (sym is) h
-  told e (outgrows n is h) = subst (RefusesRow generators (rows_of rows)) (sym is) h
-  told (refusal.Memory failed) (memory free) = tt
-  told other (memory free) = absurd free
-
   -- none stand before
-  pub told_row : (e : Refusal) → StopsAt generators row_of tell_generator (λ n. 0 + n) rows e → RefusesRow generators (rows_of rows) e
-  told_row e h = told e (subst (λ f. StopsAt generators row_of tell_generator f rows e) (λ i n. add_idl n i) h)
+  pub from_start : (e : Refusal) → StopsAt generators row_of tell_generator (λ n. 0 + n) rows e → StopsAt generators row_of tell_generator (λ n. n) rows e
+  from_start e = subst (λ f. StopsAt generators row_of tell_generator f rows e) (λ i n. add_idl n i)
     where
       add_idl : (n : ℕ) → 0 + n ≡ n
       add_idl n = omega arith
 
-  stops : (e : Refusal) → RefusesRow generators (rows_of rows) e → (IsMemory e → ⊥) → StopsRow e
-  stops (refusal.NoSuchGenerator n) h not = let item = item_of generators row_of tell_generator (λ n row none. none) (λ n. n) rows h.before h.row h.reached.row in lacks n item.0 refl h item.1
-  stops (refusal.Overflow n o) h not = overflows n o refl h
-  stops (refusal.Size n) h not = outgrows n refl h
-  stops (refusal.Memory failed) h not = absurd (not tt)
-  stops other h not = absurd h
+  pub stops_lacking : (n : ℕ) → LacksGenerator generators (rows_of rows) n → StopsAt generators row_of tell_generator (λ n. n) rows (refusal.NoSuchGenerator n)
+  stops_lacking n h = let item = item_of generators row_of tell_generator (λ n row none. none) (λ n. n) rows h.before h.row h.reached.row in lacks n item.0 refl h item.1
 
-  pub certificate_rows : HasOneOutcome IsMemory (RowsPass generators (rows_of rows) (length (rows_of rows))) (RefusesRow generators (rows_of rows))
-  certificate_rows = reworded memory_decided (λ pass. pass) (λ pass. pass) (λ e h not. told e h) stops (rows_outcome generators row_of tell_generator (λ n row none. none) (λ n. n) rows)
+  pub certificate_rows : HasOneOutcome IsMemory (RowsPass generators (rows_of rows) (length (rows_of rows))) (StopsAt generators row_of tell_generator (λ n. n) rows)
+  certificate_rows = rows_outcome generators row_of tell_generator (λ n row none. none) (λ n. n) rows
 
 -- the rows of a lemma or of the goal
 no_memory : (from : CertFrom) (n : ℕ) → IsMemory (tell_lacking from n) → ⊥

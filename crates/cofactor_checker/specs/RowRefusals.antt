@@ -1,5 +1,5 @@
 -- The refusals that rows give, over generators alone or over generators and lemmas.
-use Rattle.std.specs.Prelude.{◌≡◌, ℕ, List, map, slice_get, Some, ⊤}
+use Rattle.std.specs.Prelude.{◌≡◌, ℕ, List, map, slice_get, Some}
 use Rattle.coef_int.specs.declared.Overflow.{Overflow}
 use Rattle.definitions.specs.Poly.{Poly}
 use Rattle.definitions.specs.Combination.{Row}
@@ -10,13 +10,6 @@ use Rattle.cofactor_checker.specs.Rows.{LacksGenerator, Overflows, Outgrows}
 use Rattle.cofactor_checker.specs.Acceptance.{IsMemory}
 use Rattle.cofactor_checker.specs.declared.refusal.Refusal.{Refusal}
 use Rattle.cofactor_checker.specs.declared.refusal.Refusal.TheVariants as refusal
-
-abbrev pub RefusesRow : List Poly → List Row → Refusal → Type 0
-RefusesRow generators rows (refusal.NoSuchGenerator row) = LacksGenerator generators rows row
-RefusesRow generators rows (refusal.Overflow row overflow) = Overflows generators rows row overflow
-RefusesRow generators rows (refusal.Size row) = Outgrows generators rows row
-RefusesRow generators rows (refusal.Memory failed) = ⊤
-RefusesRow generators rows other = ⊥
 
 -- what is told of a row of a certificate that is over no generator
 abbrev pub tell_generator : ℕ → CertRow → Refusal
