@@ -89,9 +89,6 @@ module _ (leads : List Lead) (sorted : AllPairs StandsBefore leads) (P : Lead �
 
 -- those with the words of a part
 module _ (seconds : List Lead) (sorted : AllPairs StandsBefore seconds) (i : ℕ) (kind : Kind) (place : ℕ) where
-  pub with-start : (old : List Ambiguity) → IsAdded (IsWith (take 0 seconds) i kind place) old old
-  with-start old = added-none (IsWith (take 0 seconds) i kind place) old (λ a with. omega (arith, with.among.1))
-
   module _ (n : ℕ) (l : Lead) (inside : n < length seconds) (here : get_or seconds n l ≡ l) (old mid : List Ambiguity) (before : IsAdded (IsWith (take n seconds) i kind place) old mid) where
     abbrev Meets : Lead → Ambiguity → Type 0
     Meets m a = MayMeet kind i m.number × (ambiguity_at i m.number kind place ≡ a)
@@ -144,15 +141,6 @@ module _ (table : List Lead) (front : List ℕ) (depth : ℕ) (is_depth : length
 
 -- from one place of a word on
 module _ (table : List Lead) (sorted : AllPairs StandsBefore table) (nonempty : All (λ (l : Lead). 0 < length l.letters) table) where
-  pub walk-start : ListsExactly StandsBefore (IsLonger table []) table
-  walk-start = record {
-    members = λ l. (
-      λ at. record { among = at; begins = refl; rank = rank_at-longer 0 l.letters (All-contains (λ (m : Lead). 0 < length m.letters) table l nonempty at) },
-      λ longer. longer.among,
-    );
-    ascending = sorted;
-  }
-
   module _ (first : Lead) (place : ℕ) (inside : place < length first.letters) where
     abbrev rest : List ℕ
     rest = drop place first.letters
@@ -355,12 +343,6 @@ module _ (table : List Lead) (sorted : AllPairs StandsBefore table) (nonempty : 
 
 -- all places of a word, and all words
 module _ (table : List Lead) where
-  pub included-none : (nonempty : All (λ (l : Lead). 0 < length l.letters) table) (first : Lead) (place : ℕ) (old : List Ambiguity)
-      → IsAdded (IsIncluded table first place 0) old old
-  included-none nonempty first place old =
-      added-none (IsIncluded table first place 0) old (λ a included. omega
-      (arith, included.short, All-contains (λ (l : Lead). 0 < length l.letters) table included.met.second nonempty included.met.among))
-
   module _ (first : Lead) where
     abbrev Below : ℕ → Ambiguity → Type 0
     Below n = IsOfFirst table first (λ p. p < n)
@@ -371,9 +353,6 @@ module _ (table : List Lead) where
     moved : (P Q : ℕ → Type 0) (a : Ambiguity) (of : IsOfFirst table first P a) → Q a.place → IsOfFirst table first Q a
     moved P Q a of at =
         record { second = of.second; among = of.among; first_numbered = of.first_numbered; second_numbered = of.second_numbered; meets = of.meets; at_place = at }
-
-    pub places-none : (old : List Ambiguity) → IsAdded (Below 0) old old
-    places-none old = added-none (Below 0) old (λ a of. omega (arith, of.at_place))
 
     pub places-more : (n : ℕ) (old mid new : List Ambiguity) → IsAdded (Below n) old mid → IsAdded (AtThat n) mid new → IsAdded (Below (n + 1)) old new
     places-more n old mid new before more =

@@ -46,9 +46,6 @@ push_all-requires c =
     let passed = goal.at.push_all-requires c in
     ended-sorted (at passed.Start) c.loop-depth.invariant.walked (further passed.After-is_empty) (going passed.After-narrow-going_on) c.split_ended.ensures.ended
 
-pub push_all-requires-then-place-gt0 : goal.push_all-requires-then-place-gt0
-push_all-requires-then-place-gt0 c = c.loop-depth.invariant.walked.ascending
-
 pub loop-depth-preserved : goal.loop-depth-preserved
 loop-depth-preserved c =
     let passed = goal.at.loop-depth-preserved c in
