@@ -1,28 +1,27 @@
 -- Each proof has exactly one outcome: it is accepted, or one of its tests is the first that fails.
-use Rattle.std.proofs.Common.{◌≡◌, ◌⊎◌, inl, inr, ℕ, ◌+◌, ◌≤◌, ℤ, List, [], ◌∷◌, ◌++◌, length, All, refl, sym, subst, ap, arith}
+use Rattle.std.proofs.Common.{◌≡◌, ◌⊎◌, inl, inr, ℕ, ◌+◌, ◌≤◌, ℤ, List, [], ◌∷◌, ◌++◌, length, All, Result, Ok, Err, IfErr, refl, sym, subst, ap, arith}
 use Rattle.std.specs.List.{Contains}
 use Rattle.std.proofs.lemmas.Bool.{cases_eq}
 use Rattle.std.proofs.lemmas.List.Elements.{Contains-append_right, Contains-append_cases, Contains-push_cases}
-use Rattle.coef_int.specs.Operations.{first_overflow}
 use Rattle.word_core.specs.declared.letter.Letter.{Letter}
 use Rattle.definitions.specs.Poly.{Poly}
 use Rattle.definitions.specs.Quiver.{Quiver}
 use Rattle.definitions.specs.Combination.{generator_at}
 use Rattle.definitions.specs.Soundness.{HasSignature}
-use Rattle.nc_polynomial.specs.Terms.{products}
 use Rattle.traced_rows.specs.declared.evidence.Lemma.{Lemma}
-use Rattle.lists.proofs.Decided.{IsDecided, decided_by, both_decided, le_decided}
+use Rattle.lists.proofs.Decided.{IsDecided, le_decided}
 use Rattle.lists.proofs.FirstFailure.{HasOneOutcome, each_decided, no_test, one_test, then_test, reworded}
 use Rattle.cofactor_checker.specs.Rows.{IsNumberUpTo}
 use Rattle.cofactor_checker.specs.Lemmas.{term_total, kept_limit}
 use Rattle.cofactor_checker.specs.LemmaAcceptance.{HasScale, IsTight}
+use Rattle.cofactor_checker.specs.Starts.{ArePositive, IsLoose, AreTight, Starts, TellsStart}
 use Rattle.cofactor_checker.specs.Goals.{RefusesGoal}
 use Rattle.cofactor_checker.specs.Acceptance as certificates
 use Rattle.cofactor_checker.specs.declared.refusal.Refusal.{Refusal}
 use Rattle.cofactor_checker.specs.declared.refusal.Refusal.TheVariants as common
 use Rattle.cofactor_checker.proofs.RowTests.{numbered_or, memory_decided, goal_outcome}
 use Rattle.cofactor_checker.proofs.LemmaTests.{divides_or, positive_or, lemma_outcome}
-use Rattle.cofactor_checker.proofs.Judged.{Starts, TellsStart, start_outcome}
+use Rattle.cofactor_checker.proofs.Judged.{start_outcome}
 use Rattle.cancel_rules.specs.declared.cancellation.Side.{Side}
 use Rattle.cancel_rules.specs.declared.cancellation.Item.{Item}
 use Rattle.cancel_rules.specs.declared.cancellation.Item.TheVariants as item
@@ -31,7 +30,7 @@ use Rattle.cancel_rules.specs.declared.refusal.CancelRefusal.{CancelRefusal}
 use Rattle.cancel_rules.specs.declared.refusal.CancelRefusal.TheVariants as refusal
 use Rattle.cancel_rules.specs.Cancellations.{declared_for}
 use Rattle.cancel_rules.specs.Items.{stripped, item_polynomial, row_total, rows_in, HasAtEnd, IsDeclaredLetter, IsTypedItem, ComesOff, InCommon, CancelPasses, RefusesCancel, ItemPasses, ItemsPass, RefusesItem, RefusesItems}
-use Rattle.cancel_rules.specs.Acceptance.{claim_named, all_items, OfLemma, HasPositiveScales, CancelIsPosed, CancelHasShares, CancelBegins, AcceptsCancellation, IsFirstLooseItem, CancelHasLooseGoal, RefusesBeginning, RefusesParts, RefusesCommon, RefusesCancellation, IsMemory}
+use Rattle.cancel_rules.specs.Acceptance.{claim_named, all_items, OfLemma, HasPositiveScales, CancelHasShares, CancelBegins, AcceptsCancellation, IsFirstLooseItem, CancelHasLooseGoal, RefusesBeginning, RefusesParts, RefusesCommon, RefusesCancellation, IsMemory}
 use Rattle.cancel_rules.specs.Laws.{CancellationIsJudged, CancellationRefusalIsUnique, AcceptedCancellationIsNotRefused}
 use Rattle.cancel_rules.proofs.Outcomes.{refuses_from_beginning, refuses_from_items, refuses_from_goal}
 use Rattle.cancel_rules.proofs.Typing.{has_signature_or}
@@ -157,18 +156,20 @@ of_lemma_or P test (item.Cancel letter end number) = inl tt
 
 -- the tests of a proof
 module _ (q : Quiver) (claims generators : List Poly) (proof : Cancellation) where
-  abbrev IsTightItem : Item → Type 0
-  IsTightItem = OfLemma (IsTight proof.denominator)
+  abbrev Positive : Type 0
+  Positive = ArePositive (OfLemma HasScale) proof.denominator proof.items proof.goal
+
+  abbrev Tight : Type 0
+  Tight = AreTight (OfLemma (IsTight proof.denominator)) proof.items (IsTight proof.denominator proof.goal)
+
+  abbrev Loose : ℕ → Type 0
+  Loose = IsLoose (OfLemma (IsTight proof.denominator)) proof.items (IsTight proof.denominator proof.goal)
 
   abbrev StartsSo : Type 0
-  StartsSo =
-      Starts IsTightItem proof.items (IsNumberUpTo (length claims) proof.claim) (HasPositiveScales proof) (IsTight proof.denominator proof.goal)
-      (first_overflow (products proof.goal.scale (claim_named claims proof)))
+  StartsSo = Starts (OfLemma HasScale) (λ d. OfLemma (IsTight d)) claims proof.claim proof.denominator proof.items proof.goal
 
   abbrev TellsBeginning : Refusal → Type 0
-  TellsBeginning =
-      TellsStart IsTightItem proof.items (IsNumberUpTo (length claims) proof.claim) (HasPositiveScales proof) (IsTight proof.denominator proof.goal)
-      (first_overflow (products proof.goal.scale (claim_named claims proof)))
+  TellsBeginning = TellsStart (OfLemma HasScale) (λ d. OfLemma (IsTight d)) claims proof.claim proof.denominator proof.items proof.goal
 
   abbrev RefusesItsGoal : Refusal → Type 0
   RefusesItsGoal = RefusesGoal generators (all_items generators proof) (row_total proof.items) proof.goal (claim_named claims proof)
@@ -176,29 +177,34 @@ module _ (q : Quiver) (claims generators : List Poly) (proof : Cancellation) whe
   abbrev TellsAll : CancelRefusal → Type 0
   TellsAll e = InCommon TellsBeginning e ⊎ (StartsSo × (RefusesItems q proof generators [] 0 proof.items e ⊎ (ItemsPass q proof generators [] proof.items × InCommon RefusesItsGoal e)))
 
-  positive_decided : IsDecided (HasPositiveScales proof)
-  positive_decided =
-      decided_by (λ h. record { denominator = h.0; items = h.1.0; goal = h.1.1 }) (λ is. (is.denominator, (is.items, is.goal)))
-      (both_decided (positive_or proof.denominator) (both_decided (each_decided (OfLemma HasScale) (of_lemma_or HasScale (λ l. positive_or l.scale)) proof.items) (positive_or proof.goal.scale)))
+  positive : Positive → HasPositiveScales proof
+  positive h = record { denominator = h.0; items = h.1.0; goal = h.1.1 }
 
-  shares : IsNumberUpTo (length claims) proof.claim → HasPositiveScales proof → All IsTightItem proof.items × IsTight proof.denominator proof.goal → CancelHasShares claims proof
-  shares claim positive tight = record { posed = record { claim = claim; positive = positive }; tight = record { items = tight.0; goal = tight.1 } }
+  are_positive : HasPositiveScales proof → Positive
+  are_positive h = (h.denominator, (h.items, h.goal))
 
-  begun : StartsSo → CancelBegins claims proof
-  begun (claim, (positive, (tight, fits))) = record { shares = shares claim positive tight; products = fits }
+  loose : (n : ℕ) → Loose n → IsFirstLooseItem proof.denominator proof.items n ⊎ CancelHasLooseGoal proof n
+  loose n (inl (first, numbered)) = inl (record { before = first.before; item = first.item; numbered = numbered; there = first.there; earlier = first.earlier; loose = first.fails })
+  loose n (inr (each, (numbered, fails))) = inr (record { numbered = numbered; items = each; loose = fails })
+
+  is_loose : (n : ℕ) → IsFirstLooseItem proof.denominator proof.items n ⊎ CancelHasLooseGoal proof n → Loose n
+  is_loose n (inl h) = inl (record { before = h.before; item = h.item; there = h.there; earlier = h.earlier; fails = h.loose }, h.numbered)
+  is_loose n (inr h) = inr (h.items, (h.numbered, h.loose))
+
+  shares : IsNumberUpTo (length claims) proof.claim → Positive → Tight → CancelHasShares claims proof
+  shares claim are tight = record { posed = record { claim = claim; positive = positive are }; tight = record { items = tight.0; goal = tight.1 } }
+
+  pub begun : StartsSo → CancelBegins claims proof
+  begun (claim, (are, (tight, fits))) = record { shares = shares claim are tight; products = fits }
 
   begins : CancelBegins claims proof → StartsSo
-  begins h = let s = h.shares in (s.posed.claim, (s.posed.positive, ((s.tight.items, s.tight.goal), h.products)))
+  begins h = let s = h.shares in (s.posed.claim, (are_positive s.posed.positive, ((s.tight.items, s.tight.goal), h.products)))
 
-  told_start : (e : Refusal) → TellsBeginning e → RefusesBeginning claims proof e
+  pub told_start : (e : Refusal) → TellsBeginning e → RefusesBeginning claims proof e
   told_start e (inl (is, none)) = subst (RefusesBeginning claims proof) (sym is) none
-  told_start e (inr (claim, inl (is, none))) = subst (RefusesBeginning claims proof) (sym is) (record { claim = claim; positive = none })
-  told_start e (inr (claim, inr (positive, inl (inl (first, is))))) =
-      subst (RefusesBeginning claims proof) (sym is)
-      (record { claim = claim; positive = positive }, inl (record { before = first.before; item = first.item; numbered = refl; there = first.there; earlier = first.earlier; loose = first.fails }))
-  told_start e (inr (claim, inr (positive, inl (inr (tight, (is, loose)))))) =
-      subst (RefusesBeginning claims proof) (sym is) (record { claim = claim; positive = positive }, inr (record { numbered = refl; items = tight; loose = loose }))
-  told_start e (inr (claim, inr (positive, inr (tight, (o, is, some))))) = subst (RefusesBeginning claims proof) (sym is) (record { before_rows = refl; shares = shares claim positive tight; products = some })
+  told_start e (inr (claim, inl (is, none))) = subst (RefusesBeginning claims proof) (sym is) (record { claim = claim; positive = λ h. none (are_positive h) })
+  told_start e (inr (claim, inr (are, inl (n, is, h)))) = subst (RefusesBeginning claims proof) (sym is) (record { claim = claim; positive = positive are }, loose n h)
+  told_start e (inr (claim, inr (are, inr (tight, (o, is, some))))) = subst (RefusesBeginning claims proof) (sym is) (record { before_rows = refl; shares = shares claim are tight; products = some })
 
   told_all : (e : CancelRefusal) → TellsAll e → RefusesCancellation q claims generators proof e
   told_all (refusal.Common e) (inl h) = refuses_from_beginning q claims generators proof e (told_start e h)
@@ -207,16 +213,11 @@ module _ (q : Quiver) (claims generators : List Poly) (proof : Cancellation) whe
   told_all (refusal.Common e) (inr (h, inr (pass, refused))) = refuses_from_goal q claims generators proof (record { begins = begun h; items = pass }) e refused
   told_all other (inr (h, inr (pass, refused))) = absurd refused
 
-  loose_tells : (n : ℕ) → CancelIsPosed claims proof → IsFirstLooseItem proof.denominator proof.items n ⊎ CancelHasLooseGoal proof n → TellsBeginning (common.LooseScale n)
-  loose_tells n posed (inl h) =
-      inr (posed.claim, inr (posed.positive, inl (inl (record { before = h.before; item = h.item; there = h.there; earlier = h.earlier; fails = h.loose }, ap common.LooseScale h.numbered))))
-  loose_tells n posed (inr h) = inr (posed.claim, inr (posed.positive, inl (inr (h.items, (ap common.LooseScale h.numbered, h.loose)))))
-
   start_tells : (e : Refusal) → RefusesBeginning claims proof e → TellsBeginning e
   start_tells common.NoSuchClaim h = inl (refl, h)
-  start_tells common.ZeroDenominator h = inr (h.claim, inl (refl, h.positive))
-  start_tells (common.LooseScale n) h = loose_tells n h.0 h.1
-  start_tells (common.Overflow row o) h = let s = h.shares in inr (s.posed.claim, inr (s.posed.positive, inr ((s.tight.items, s.tight.goal), (o, ap (λ n. common.Overflow n o) h.before_rows, h.products))))
+  start_tells common.ZeroDenominator h = inr (h.claim, inl (refl, λ are. h.positive (positive are)))
+  start_tells (common.LooseScale n) h = inr (h.0.claim, inr (are_positive h.0.positive, inl (n, refl, is_loose n h.1)))
+  start_tells (common.Overflow row o) h = let s = h.shares in inr (s.posed.claim, inr (are_positive s.posed.positive, inr ((s.tight.items, s.tight.goal), (o, ap (λ n. common.Overflow n o) h.before_rows, h.products))))
   start_tells other h = absurd h
 
   parts_tell : (e : CancelRefusal) → RefusesParts q claims generators proof e → TellsAll e
@@ -235,7 +236,7 @@ module _ (q : Quiver) (claims generators : List Poly) (proof : Cancellation) whe
   pub cancellation_outcome : HasOneOutcome IsMemory (AcceptsCancellation q claims generators proof) (RefusesCancellation q claims generators proof)
   cancellation_outcome =
       reworded is_memory_decided (λ h. record { items = record { begins = begun h.0; items = h.1.0 }; goal = h.1.1 }) (λ h. (begins h.items.begins, (h.items.items, h.goal))) (λ e h not. told_all e h) tells_all
-      (then_test (in_common (start_outcome IsTightItem proof.items _ _ _ _ (numbered_or (length claims) proof.claim) positive_decided (of_lemma_or (IsTight proof.denominator) (λ l. divides_or l.scale proof.denominator)) (divides_or proof.goal.scale proof.denominator)))
+      (then_test (in_common (start_outcome (OfLemma HasScale) (λ d. OfLemma (IsTight d)) claims proof.claim proof.denominator proof.items proof.goal (of_lemma_or HasScale (λ l. positive_or l.scale)) (of_lemma_or (IsTight proof.denominator) (λ l. divides_or l.scale proof.denominator))))
       (λ start. then_test (items_outcome q proof generators [] 0 proof.items)
       (λ pass. in_common (goal_outcome generators (all_items generators proof) (row_total proof.items) proof.goal (claim_named claims proof)))))
 
@@ -247,3 +248,8 @@ cancellation_refusal_is_unique q claims generators proof = (cancellation_outcome
 
 pub accepted_cancellation_is_not_refused : AcceptedCancellationIsNotRefused
 accepted_cancellation_is_not_refused q claims generators proof e accepted = (cancellation_outcome q claims generators proof).not_refused accepted e
+
+-- so what is refused of an accepted one is want of memory
+pub complete : {A : Type 0} (q : Quiver) (claims generators : List Poly) (proof : Cancellation) (r : Result A CancelRefusal) → IfErr r (RefusesCancellation q claims generators proof) → AcceptsCancellation q claims generators proof → IfErr r IsMemory
+complete q claims generators proof (Ok a) refused accepted = tt
+complete q claims generators proof (Err e) refused accepted = accepted_cancellation_is_not_refused q claims generators proof e accepted refused

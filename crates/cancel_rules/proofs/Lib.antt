@@ -9,6 +9,5 @@ pub mod Judged
 pub mod Letters
 pub mod Steps
 pub mod Marking
-pub mod Divides
 pub mod Signed
 pub mod Found

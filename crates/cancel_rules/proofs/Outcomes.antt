@@ -39,10 +39,6 @@ err_told P (Ok a) x told p = absurd told
 err_told P (Err e) x told p = subst P (sym told) p
 
 -- want of memory
-pub memory_only : {A : Type 0} (r : Result A CancelRefusal) → IsErrAnd r IsMemory → IfErr r IsMemory
-memory_only (Ok a) told = absurd told
-memory_only (Err e) told = told
-
 pub memory_told : {A : Type 0} (q : Quiver) (claims generators : List (List (ℤ × List ℕ))) (proof : Cancellation) (r : Result A CancelRefusal) → IsErrAnd r IsMemory → IfErr r (λ e. RefusesCancellation q claims generators proof e)
 memory_told q claims generators proof (Ok a) told = absurd told
 memory_told q claims generators proof (Err (refusal.Common (common.Memory f))) told = tt

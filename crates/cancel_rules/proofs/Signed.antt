@@ -6,7 +6,7 @@ use Rattle.definitions.specs.Soundness.{HasSignature}
 use Rattle.definitions.proofs.Paths.{step}
 use Rattle.quiver.specs.declared.named.Sig.{Sig}
 use Rattle.quiver.specs.Signatures.{HasPaths}
-use Rattle.cancel_rules.proofs.Divides.{clash}
+use Rattle.cofactor_checker.proofs.Each.{clash}
 
 module _ (q : Quiver) (quiver : IsQuiver q) where
   -- the ends of a path are objects

@@ -1,6 +1,5 @@
 -- One item after another.
-use Rattle.std.proofs.Common.{◌≡◌, inl, inr, ℕ, ◌+◌, ◌<◌, ◌≤◌, ℤ, List, [], ◌∷◌, ◌++◌, length, drop, get_or, Result, Ok, Err, IfErr, IsErrAnd, refl, sym, ap, subst, ◌∙◌, append_assoc, arith}
-use Rattle.std.proofs.lemmas.List.{drop_all, append-nil}
+use Rattle.std.proofs.Common.{◌≡◌, inl, inr, ℕ, ◌+◌, ◌<◌, ◌≤◌, ℤ, List, [], ◌∷◌, ◌++◌, length, drop, get_or, Result, Ok, Err, IfErr, IsErrAnd, sym, ap, subst, ◌∙◌, append_assoc, arith}
 use Rattle.std.specs.declared.alloc.AllocError.{AllocError}
 use Rattle.definitions.specs.Quiver.{Quiver}
 use Rattle.nc_polynomial.proofs.Steps.{drop_next}
@@ -22,23 +21,7 @@ pub record ItemsUpTo (q : Quiver) (proof : Cancellation) (gs ps : List (List (�
   pub pass : ItemsPass q proof gs ps (drop i items) → ItemsPass q proof gs [] items
   pub refuse : (e : CancelRefusal) → RefusesItems q proof gs ps rows (drop i items) e → RefusesItems q proof gs [] 0 items e
 
-pub begins : (q : Quiver) (proof : Cancellation) (gs : List (List (ℤ × List ℕ))) (items : List Item) → ItemsUpTo q proof gs [] items 0 0
-begins q proof gs items = record { counted = omega arith; made = refl; pass = λ all. all; refuse = λ e refused. refused }
-
 module _ (q : Quiver) (proof : Cancellation) (gs ps : List (List (ℤ × List ℕ))) (items : List Item) (rows i : ℕ) (so_far : ItemsUpTo q proof gs ps items rows i) where
-  module _ (past : length items ≤ i) where
-    none_left : drop i items ≡ []
-    none_left = drop_all i items past
-
-    pub all_made : ps ≡ item_polynomials gs [] items
-    all_made = sym (append-nil ps) ∙ sym (ap (λ rest. ps ++ item_polynomials gs ps rest) none_left) ∙ so_far.made
-
-    pub all_pass : ItemsPass q proof gs [] items
-    all_pass = so_far.pass (subst (ItemsPass q proof gs ps) (sym none_left) tt)
-
-    pub all_counted : rows ≡ row_total items
-    all_counted = let rest = ap row_total none_left in let whole = so_far.counted in omega arith
-
   module _ (x : Item) (inside : i < length items) (is : x ≡ get_or items i x) where
     abbrev p : List (ℤ × List ℕ)
     p = item_polynomial gs ps x

@@ -1,40 +1,14 @@
 //! A proof that cancels letters: its items are made one after another, and the goal's rows add up to its scale times the claim.
 ghost use Rattle.std.specs.Prelude.{◌≡◌, IfOk, IfErr, OnOk};
-ghost use Rattle.cancel_rules.specs.Acceptance.{claim_named, CancelBegins, RefusesBeginning, IsAccepted, IsRefused, IsMemory};
+ghost use Rattle.cancel_rules.specs.Acceptance.{IsAccepted, IsRefused, IsMemory};
 ghost use Rattle.cancel_rules.specs.Acceptance.{ShowsByCancelling, IsReadableCancellation};
-ghost use Rattle.adjoint_rules.specs.Problem.{polynomials};
 
 use crate::items::make_items;
 use crate::marks::declared_marks;
-use crate::scales::{is_positive, loose_scale};
 use crate::{CancelRefusal, Cancellation};
 use adjoint_rules::Problem;
-use cofactor_checker::{Accepted, Refusal, check_goal, numbered, overflow_of_multiple};
-use nc_polynomial::Poly;
+use cofactor_checker::{Accepted, check_goal, posed_claim};
 use std::alloc::Global;
-
-// The claim that the proof names, where the tests before its items pass.
-fn claim_of<'a>(problem: &'a Problem, proof: &Cancellation) -> Result<&'a Poly, Refusal>
-    requires { IsReadableCancellation problem.now.parts.quiver proof.now }
-    ensures claim { IfOk result (λ p. p.now.terms ≡ claim_named (polynomials problem.now.parts.claims) proof.now) }
-    ensures begins { OnOk result (CancelBegins (polynomials problem.now.parts.claims) proof.now) }
-    ensures refused { IfErr result (RefusesBeginning (polynomials problem.now.parts.claims) proof.now) }
-{
-    let claims = problem.parts.claims.as_slice();
-    let Some(claim) = numbered(claims, proof.claim) else {
-        return Err(Refusal::NoSuchClaim);
-    };
-    if !is_positive(proof) {
-        return Err(Refusal::ZeroDenominator);
-    }
-    if let Some(lemma) = loose_scale(proof) {
-        return Err(Refusal::LooseScale { lemma });
-    }
-    if let Some(overflow) = overflow_of_multiple(proof.goal.scale, claim.terms.as_slice()) {
-        return Err(Refusal::Overflow { row: 0, overflow });
-    }
-    Ok(claim)
-}
 
 /// Whether the proof leads to the claim that it names, over the generators of the problem: its items follow one after
 /// another, and its goal adds up. Each refusal comes exactly where its test is the first that fails.
@@ -51,7 +25,9 @@ pub fn check_cancellation(
     ensures refuses { IfErr result (IsRefused problem.now proof.now) }
     ensures complete { IsAccepted problem.now proof.now → IfErr result IsMemory }
 {
-    let claim = claim_of(problem, proof)?;
+    let claims = problem.parts.claims.as_slice();
+    let parts = proof.items.as_slice();
+    let claim = posed_claim(claims, proof.claim, proof.denominator, parts, &proof.goal)?;
     let marks = declared_marks(alloc, proof, problem.parts.quiver.letters())?;
     let made = make_items(alloc, problem, proof, &marks)?;
     let generators = problem.generators.as_slice();

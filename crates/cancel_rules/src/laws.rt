@@ -25,11 +25,13 @@ pub fn accepted_cancellation_leads()
 
 /// Of one proof there is one refusal at most, apart from want of memory: so `check_cancellation` answers with no
 /// other. It does nothing when it runs.
+#[tactic(auto, using(crate::proofs::Judged::cancellation_refusal_is_unique))]
 pub fn cancellation_refusal_is_unique()
     ensures { CancellationRefusalIsUnique }
 {}
 
 /// A proof that passes each test is refused for want of memory alone. It does nothing when it runs.
+#[tactic(auto, using(crate::proofs::Judged::accepted_cancellation_is_not_refused))]
 pub fn accepted_cancellation_is_not_refused()
     ensures { AcceptedCancellationIsNotRefused }
 {}

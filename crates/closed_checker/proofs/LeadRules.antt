@@ -33,7 +33,7 @@ module _ (rules : List Rule) (table : List Lead) (of : IsTableOf rules table) wh
 
   into : (a : Ambiguity) → IsOfFirsts table table a → IsAmbiguity rules a
   into a met =
-      let one = leading rules met.first ((of.members met.first).0 met.among) in
+      let one = leading rules met.lead ((of.members met.lead).0 met.among) in
       let other = leading rules met.meeting.second ((of.members met.meeting.second).0 met.meeting.among) in
       record {
         first = one.rule;
@@ -48,7 +48,7 @@ module _ (rules : List Rule) (table : List Lead) (of : IsTableOf rules table) wh
       let one : Lead = record { letters = is.first.lead; number = a.i } in
       let other : Lead = record { letters = is.second.lead; number = a.j } in
       record {
-        first = one;
+        lead = one;
         among = (of.members one).1 (numbered-lead rules one is.first is.first_numbered refl);
         meeting = record {
           second = other;

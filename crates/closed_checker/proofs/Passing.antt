@@ -12,8 +12,6 @@ use Rattle.word_orders.specs.Specified.{made_cmp}
 use Rattle.word_orders.specs.declared.any.AnyOrder.{AnyOrder}
 use Rattle.word_orders.proofs.AskedOrders.{asked_cmp-admissible}
 use Rattle.rule_reduce.specs.declared.rule.Rule.{Rule}
-use Rattle.rule_reduce.specs.declared.fault.ReduceFault.{ReduceFault}
-use Rattle.rule_reduce.specs.declared.fault.ReduceFault.TheVariants as halt
 use Rattle.ambiguities.specs.declared.ambiguity.Ambiguity.{Ambiguity}
 use Rattle.ambiguities.specs.Order.{IsBeforeByWord, AreAllInOrder, waiting_of}
 use Rattle.ambiguities.proofs.Comparing.{not_before_itself, not_before_each_other}
@@ -22,8 +20,8 @@ use Rattle.adjoint_rules.specs.declared.basis.Basis.{Basis}
 use Rattle.closed_checker.specs.declared.part.Part.{Part}
 use Rattle.closed_checker.specs.declared.part.Part.TheVariants as part
 use Rattle.closed_checker.specs.Rests.{order_of, rules_of, rest_of}
-use Rattle.closed_checker.specs.Closed.{HasRules, IsPart, ComesBefore, LeavesZero, LeavesNoClaim, Reaches, Refuses}
-use Rattle.closed_checker.specs.Working.{AreRulesOf, Explains, refusal_of, GeneratorsPass, AmbiguitiesPass}
+use Rattle.closed_checker.specs.Closed.{HasRules, IsPart, ComesBefore, LeavesZero, Reaches}
+use Rattle.closed_checker.specs.Working.{AreRulesOf, GeneratorsPass, AmbiguitiesPass}
 
 -- what is left
 pub some_left : (p : List Term) → 0 < length p → p ≢ []
@@ -35,13 +33,6 @@ none_left [] few = refl
 none_left (t ∷ p) few = absurd (omega (arith, few))
 
 module _ (problem : Problem) (b : Basis) where
-  -- faults
-  pub fault_refuses : (p : Part) (fault : ReduceFault) → Reaches problem b p → Explains (rest_of problem b p) fault → Refuses problem b (refusal_of p fault)
-  fault_refuses p (halt.Steps limit) reached is = record { reached = reached; fault = halt.Steps limit; stopped = is; cause = refl }
-  fault_refuses p (halt.Overflow o) reached is = record { reached = reached; fault = halt.Overflow o; stopped = is; cause = refl }
-  fault_refuses p (halt.Size s) reached is = record { reached = reached; fault = halt.Size s; stopped = is; cause = refl }
-  fault_refuses p (halt.Memory e) reached is = tt
-
   pub zero_left : (p : Part) (rest : List Term) → rest_of problem b p ≡ Ok rest → length rest ≤ 0 → LeavesZero problem b p
   zero_left p rest is few = subst (λ r. rest_of problem b p ≡ Ok r) (none_left rest few) is
 
@@ -49,17 +40,6 @@ module _ (problem : Problem) (b : Basis) where
   pub listed_same : (order : AnyOrder) (rules : List Rule) (found : List Ambiguity) → AreRulesOf problem b order rules → AreAllInOrder (made_cmp order) rules found
       → AreAllInOrder (order_of problem) (rules_of problem b) found
   listed_same order rules found are all = subst (λ (p : Compare × List Rule). AreAllInOrder p.0 p.1 found) (λ n. (are.compares n, are.same n)) all
-
-  -- generators
-  pub no_generators : GeneratorsPass problem b 0
-  no_generators = record { at = λ number least most. absurd (omega (arith, least, most)) }
-
-  pub generators_more : (n : ℕ) → GeneratorsPass problem b n → LeavesZero problem b (part.Generator (n + 1)) → GeneratorsPass problem b (n + 1)
-  generators_more n pass next = record { at = λ number least most. go number least most (cases_lt number (n + 1)) }
-    where
-      go : (number : ℕ) → 1 ≤ number → number ≤ n + 1 → (number < n + 1) ⊎ (n + 1 ≤ number) → LeavesZero problem b (part.Generator number)
-      go number least most (inl below) = pass.at number least (omega (arith, below))
-      go number least most (inr past) = let last : n + 1 ≡ number = omega (arith, most, past) in subst (λ k. LeavesZero problem b (part.Generator k)) last next
 
   module _ (has : HasRules problem b) where
     pub generator_reached : (n : ℕ) → n < length problem.generators → GeneratorsPass problem b n → Reaches problem b (part.Generator (n + 1))
@@ -130,7 +110,3 @@ module _ (problem : Problem) (b : Basis) where
           earlier (part.Generator m) is before = pass.at m is.least is.most
           earlier (part.Ambiguity a) is before = ambiguities.at a is
           earlier part.Claim is before = absurd before
-
-      pub claim_vanishes : AmbiguitiesPass problem b → (rest : List Term) → rest_of problem b part.Claim ≡ Ok rest → rest ≡ b.rest.terms → length rest ≤ 0 → LeavesNoClaim problem b
-      claim_vanishes ambiguities rest left same few =
-          record { reached = claim_reached ambiguities; left = zero_left part.Claim rest left few; said = sym same ∙ none_left rest few }

@@ -8,7 +8,7 @@ use Rattle.std.proofs.lemmas.List.Kept.{AllPairs-filter}
 use Rattle.ambiguities.specs.declared.ambiguity.Ambiguity.{Ambiguity}
 use Rattle.ambiguities.specs.Listed.{ListsExactly}
 use Rattle.ambiguities.proofs.Exactly.{exactly-one, exactly-append, exactly-same}
-use Rattle.closed_checker.specs.Finding.{ListsEachOnce, IsAdded}
+use Rattle.closed_checker.specs.Finding.{IsAdded}
 use Rattle.ambiguities.proofs.Ascending.{contains-cases, contains-first, contains-rest}
 
 module _ {X : Type 0} (p : X → Bool) where
@@ -75,6 +75,3 @@ added-none P old none = record {
 
 pub added-one : (a : Ambiguity) (old : List Ambiguity) → IsAdded (λ b. a ≡ b) old (old ++ a ∷ [])
 added-one a old = record { more = a ∷ []; appended = refl; exact = exactly-one (λ b c. b ≢ c) a }
-
-pub added-whole : (P : Ambiguity → Type 0) (new : List Ambiguity) → IsAdded P [] new → ListsEachOnce P new
-added-whole P new added = subst (ListsEachOnce P) (sym added.appended) added.exact

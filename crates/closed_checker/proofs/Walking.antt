@@ -1,5 +1,5 @@
 -- The walk through a sorted table from one place of a word on: which ambiguities it meets.
-use Rattle.std.proofs.Common.{◌≡◌, ◌≢◌, ◌⊎◌, inl, inr, ℕ, suc, ◌+◌, ◌<◌, ◌≤◌, true, false, not, nat_eq, List, [], ◌∷◌, ◌++◌, length, take, drop, get_or, filter, refl, sym, ap, ◌∙◌, subst, arith}
+use Rattle.std.proofs.Common.{◌≡◌, ◌≢◌, ◌⊎◌, inl, inr, ℕ, suc, ◌+◌, ◌<◌, ◌≤◌, Bool, true, false, not, nat_eq, List, [], ◌∷◌, ◌++◌, length, take, drop, get_or, filter, refl, sym, ap, ◌∙◌, subst, arith}
 use Rattle.std.specs.Bool.{Decides}
 use Rattle.std.specs.List.{All, AllPairs, Contains}
 use Rattle.std.proofs.lemmas.Bool.{cases_lt}
@@ -17,33 +17,34 @@ use Rattle.ambiguities.specs.Listed.{ListsExactly, ambiguity_at}
 use Rattle.ambiguities.proofs.Occurrences.{overlaps_within}
 use Rattle.closed_checker.specs.declared.table.Lead.{Lead}
 use Rattle.closed_checker.specs.Table.{StandsBefore, rank_at}
-use Rattle.closed_checker.specs.Finding.{IsAdded, MayMeet, IsWith, IsOfFirst, IsOfFirsts}
+use Rattle.closed_checker.specs.Finding.{IsAdded, MayMeet, IsOfOne, IsWith, IsOfFirst}
 use Rattle.closed_checker.proofs.Fronts.{BeginsWith, begins-more, begins-itself, begins-shorter, ended-is, rank_at-itself, rank_at-longer, longer-by_rank}
 use Rattle.closed_checker.proofs.Picked.{exactly-filter, contains-more, added-append, added-same, added-none, added-one}
 
--- the words of a table that begin with some letters: those that are these, and the longer ones
-pub record IsGoing (table : List Lead) (front : List ℕ) (l : Lead) : Type 0 where
+-- The words of a table that begin with some letters, and have such a rank behind them.
+pub record IsGoing (table : List Lead) (front : List ℕ) (Q : ℕ → Type 0) (l : Lead) : Type 0 where
   pub among : Contains table l
   pub begins : BeginsWith front l.letters
+  pub rank : Q (rank_at (length front) l.letters)
 
-pub record IsEnded (table : List Lead) (front : List ℕ) (l : Lead) : Type 0 where
-  pub among : Contains table l
-  pub begins : BeginsWith front l.letters
-  pub ended : rank_at (length front) l.letters ≡ 0
+-- those that are these letters, and the longer ones
+abbrev pub IsEnded : List Lead → List ℕ → Lead → Type 0
+IsEnded table front = IsGoing table front (λ n. n ≡ 0)
 
-pub record IsLonger (table : List Lead) (front : List ℕ) (l : Lead) : Type 0 where
-  pub among : Contains table l
-  pub begins : BeginsWith front l.letters
-  pub longer : 0 < rank_at (length front) l.letters
+abbrev pub IsLonger : List Lead → List ℕ → Lead → Type 0
+IsLonger table front = IsGoing table front (λ n. 0 < n)
+
+-- The words meet at the place as the ambiguity says.
+pub record IsMet (table : List Lead) (first : Lead) (place : ℕ) (kind : Kind) (a : Ambiguity) : Type 0 where
+  pub second : Lead
+  pub among : Contains table second
+  pub meets : MeetsAs kind first.number second.number first.letters second.letters place
+  pub is : ambiguity_at first.number second.number kind place ≡ a
 
 -- the inclusions at a place of words with at most so many letters
 pub record IsIncluded (table : List Lead) (first : Lead) (place most : ℕ) (a : Ambiguity) : Type 0 where
-  pub second : Lead
-  pub among : Contains table second
-  pub apart : first.number ≢ second.number
-  pub occurs : OccursAt first.letters second.letters place
-  pub short : length second.letters ≤ most
-  pub is : ambiguity_at first.number second.number Inclusion place ≡ a
+  pub met : IsMet table first place Inclusion a
+  pub short : length met.second.letters ≤ most
 
 -- a rule has one word in the table
 module _ (table : List Lead) (sorted : AllPairs StandsBefore table) where
@@ -60,58 +61,51 @@ module _ (table : List Lead) (sorted : AllPairs StandsBefore table) where
           absurd ((sorted other.0 one.0 l more one.1).1 (ap (λ (x : Lead). x.number) at_other ∙ sym number ∙ sym (ap (λ (x : Lead). x.number) one.2)))
       go (inr p) (inr q) = let level : one.0 ≡ other.0 = omega (arith, p, q) in sym one.2 ∙ ap (λ k. get_or table k l) level ∙ at_other
 
--- those with the words of a part, one word more
+-- those of the first words, and of one word more, where an ambiguity tells the number of its word
+module _ (leads : List Lead) (sorted : AllPairs StandsBefore leads) (P : Lead → Ambiguity → Type 0) (number_of : Ambiguity → ℕ) (numbered : (l : Lead) (a : Ambiguity) → P l a → l.number ≡ number_of a) where
+  abbrev OfThe : ℕ → Ambiguity → Type 0
+  OfThe n = IsOfOne (take n leads) P
+
+  pub one-more : (n : ℕ) (l : Lead) (old mid new : List Ambiguity) → n < length leads → get_or leads n l ≡ l → IsAdded (OfThe n) old mid → IsAdded (P l) mid new → IsAdded (OfThe (n + 1)) old new
+  one-more n l old mid new inside here before more =
+      added-append (OfThe n) (P l) (OfThe (n + 1)) old mid new before more across (λ a. (λ of. split a of ((contains-more leads n l of.lead inside).0 of.among), join a))
+    where
+      across : (a b : Ambiguity) → OfThe n a → P l b → a ≢ b
+      across a b of met alike =
+          let k = of.among.0 in
+          let low : k < n = omega (arith, of.among.1, length-take-le n leads (omega (arith, inside))) in
+          let at_k : get_or leads k of.lead ≡ of.lead = sym (get_or-take n leads k of.lead low) ∙ of.among.2 in
+          let at_n : get_or leads n of.lead ≡ l = get_or_default leads n of.lead l inside ∙ here in
+          let numbers : of.lead.number ≡ l.number = numbered of.lead a of.meeting ∙ ap number_of alike ∙ sym (numbered l b met) in
+          (sorted k n of.lead low inside).1 (ap (λ (x : Lead). x.number) at_k ∙ numbers ∙ sym (ap (λ (x : Lead). x.number) at_n))
+
+      split : (a : Ambiguity) (of : OfThe (n + 1) a) → Contains (take n leads) of.lead ⊎ (get_or leads n l ≡ of.lead) → OfThe n a ⊎ P l a
+      split a of (inl among) = inl (record { lead = of.lead; among = among; meeting = of.meeting })
+      split a of (inr last) = inr (subst (λ (x : Lead). P x a) (sym (sym here ∙ last)) of.meeting)
+
+      join : (a : Ambiguity) → OfThe n a ⊎ P l a → OfThe (n + 1) a
+      join a (inl of) = record { lead = of.lead; among = (contains-more leads n l of.lead inside).1 (inl of.among); meeting = of.meeting }
+      join a (inr met) = record { lead = l; among = (contains-more leads n l l inside).1 (inr here); meeting = met }
+
+-- those with the words of a part
 module _ (seconds : List Lead) (sorted : AllPairs StandsBefore seconds) (i : ℕ) (kind : Kind) (place : ℕ) where
-  abbrev WithFirst : ℕ → Ambiguity → Type 0
-  WithFirst n = IsWith (take n seconds) i kind place
+  module _ (n : ℕ) (l : Lead) (inside : n < length seconds) (here : get_or seconds n l ≡ l) (old mid : List Ambiguity) (before : IsAdded (IsWith (take n seconds) i kind place) old mid) where
+    abbrev Meets : Lead → Ambiguity → Type 0
+    Meets m a = MayMeet kind i m.number × (ambiguity_at i m.number kind place ≡ a)
 
-  pub with-start : (old : List Ambiguity) → IsAdded (WithFirst 0) old old
-  with-start old = added-none (WithFirst 0) old (λ a with. omega (arith, with.among.1))
+    with-more : (new : List Ambiguity) → IsAdded (Meets l) mid new → IsAdded (IsWith (take (n + 1) seconds) i kind place) old new
+    with-more new = one-more seconds sorted Meets (λ (a : Ambiguity). a.j) (λ m a met. ap (λ (c : Ambiguity). c.j) met.1) n l old mid new inside here before
 
-  module _ (n : ℕ) (l : Lead) (inside : n < length seconds) (here : get_or seconds n l ≡ l) (old mid : List Ambiguity)
-      (before : IsAdded (WithFirst n) old mid) where
-    further : (a : Ambiguity) → WithFirst n a → WithFirst (n + 1) a
-    further a with =
-        record { second = with.second; among = (contains-more seconds n l with.second inside).1 (inl with.among); may_meet = with.may_meet; is = with.is }
-
-    pub with-met : MayMeet kind i l.number → IsAdded (WithFirst (n + 1)) old (mid ++ ambiguity_at i l.number kind place ∷ [])
+    pub with-met : MayMeet kind i l.number → IsAdded (IsWith (take (n + 1) seconds) i kind place) old (mid ++ ambiguity_at i l.number kind place ∷ [])
     with-met may_meet =
-        added-append (WithFirst n) (λ a. ambiguity_at i l.number kind place ≡ a) (WithFirst (n + 1)) old mid (mid ++ ambiguity_at i l.number kind place ∷ [])
-        before
-        (added-one (ambiguity_at i l.number kind place) mid) across
-        (λ a. (λ with. split a with ((contains-more seconds n l with.second inside).0 with.among), join a))
-      where
-        across : (a b : Ambiguity) → WithFirst n a → ambiguity_at i l.number kind place ≡ b → a ≢ b
-        across a b with is alike =
-            let k = with.among.0 in
-            let low : k < n = omega (arith, with.among.1, length-take-le n seconds (omega (arith, inside))) in
-            let at_k : get_or seconds k with.second ≡ with.second = sym (get_or-take n seconds k with.second low) ∙ with.among.2 in
-            let at_n : get_or seconds n with.second ≡ l = get_or_default seconds n with.second l inside ∙ here in
-            let numbers : with.second.number ≡ l.number = ap (λ (c : Ambiguity). c.j) (with.is ∙ alike ∙ sym is) in
-            (sorted k n with.second low inside).1 (ap (λ (x : Lead). x.number) at_k ∙ numbers ∙ sym (ap (λ (x : Lead). x.number) at_n))
+        let x = ambiguity_at i l.number kind place in
+        with-more (mid ++ x ∷ []) (added-same (λ a. x ≡ a) (Meets l) mid (mid ++ x ∷ []) (λ a. (λ met. met.1, λ is. (may_meet, is))) (added-one x mid))
 
-        split : (a : Ambiguity) (with : WithFirst (n + 1) a) → Contains (take n seconds) with.second ⊎ (get_or seconds n l ≡ with.second)
-            → WithFirst n a ⊎ (ambiguity_at i l.number kind place ≡ a)
-        split a with (inl among) = inl (record { second = with.second; among = among; may_meet = with.may_meet; is = with.is })
-        split a with (inr last) = inr (ap (λ (x : Lead). ambiguity_at i x.number kind place) (sym here ∙ last) ∙ with.is)
-
-        join : (a : Ambiguity) → WithFirst n a ⊎ (ambiguity_at i l.number kind place ≡ a) → WithFirst (n + 1) a
-        join a (inl with) = further a with
-        join a (inr is) = record { second = l; among = (contains-more seconds n l l inside).1 (inr here); may_meet = may_meet; is = is }
-
-    pub with-apart : (MayMeet kind i l.number → ⊥) → IsAdded (WithFirst (n + 1)) old mid
-    with-apart apart =
-        added-same (WithFirst n) (WithFirst (n + 1)) old mid (λ a. (
-          λ with. back a with ((contains-more seconds n l with.second inside).0 with.among),
-          further a,
-        )) before
-      where
-        back : (a : Ambiguity) (with : WithFirst (n + 1) a) → Contains (take n seconds) with.second ⊎ (get_or seconds n l ≡ with.second) → WithFirst n a
-        back a with (inl among) = record { second = with.second; among = among; may_meet = with.may_meet; is = with.is }
-        back a with (inr last) = absurd (apart (subst (λ (x : Lead). MayMeet kind i x.number) (sym (sym here ∙ last)) with.may_meet))
+    pub with-apart : (MayMeet kind i l.number → ⊥) → IsAdded (IsWith (take (n + 1) seconds) i kind place) old mid
+    with-apart apart = with-more mid (added-none (Meets l) mid (λ a met. apart met.0))
 
 -- the parts of a table
-some_rank : (n : ℕ) → Decides (not (nat_eq n 0)) (0 < n)
+pub some_rank : (n : ℕ) → Decides (not (nat_eq n 0)) (0 < n)
 some_rank n = go (eqb_tells n 0)
   where
     go : ((nat_eq n 0 ≡ true) × (n ≡ 0)) ⊎ ((nat_eq n 0 ≡ false) × (n ≢ 0)) → Decides (not (nat_eq n 0)) (0 < n)
@@ -120,52 +114,33 @@ some_rank n = go (eqb_tells n 0)
 
 module _ (table : List Lead) (front : List ℕ) (depth : ℕ) (is_depth : length front ≡ depth) (leads : List Lead) where
   pub walk-narrow : (letter : ℕ) → ListsExactly StandsBefore (IsLonger table front) leads
-      → ListsExactly StandsBefore (IsGoing table (front ++ letter ∷ [])) (filter (λ (l : Lead). nat_eq (rank_at depth l.letters) (suc letter)) leads)
+      → ListsExactly StandsBefore (IsGoing table (front ++ letter ∷ []) (λ n. Unit {0})) (filter (λ (l : Lead). nat_eq (rank_at depth l.letters) (suc letter)) leads)
   walk-narrow letter exact =
       exactly-filter (λ (l : Lead). nat_eq (rank_at depth l.letters) (suc letter)) StandsBefore (IsLonger table front)
       (λ (l : Lead). rank_at depth l.letters ≡ suc letter)
-      (IsGoing table (front ++ letter ∷ [])) leads (λ (l : Lead). Decides-eqb (rank_at depth l.letters) (suc letter)) (λ l. (into l, back l)) exact
+      (IsGoing table (front ++ letter ∷ []) (λ n. Unit {0})) leads (λ (l : Lead). Decides-eqb (rank_at depth l.letters) (suc letter)) (λ l. (into l, back l)) exact
     where
-      into : (l : Lead) → IsGoing table (front ++ letter ∷ []) l → IsLonger table front l × (rank_at depth l.letters ≡ suc letter)
+      into : (l : Lead) → IsGoing table (front ++ letter ∷ []) (λ n. Unit {0}) l → IsLonger table front l × (rank_at depth l.letters ≡ suc letter)
       into l going =
           let both = (begins-more front letter l.letters).0 going.begins in
-          (record { among = going.among; begins = both.0; longer = omega (arith, both.1) }, ap (λ n. rank_at n l.letters) (sym is_depth) ∙ both.1)
+          (record { among = going.among; begins = both.0; rank = omega (arith, both.1) }, ap (λ n. rank_at n l.letters) (sym is_depth) ∙ both.1)
 
-      back : (l : Lead) → IsLonger table front l × (rank_at depth l.letters ≡ suc letter) → IsGoing table (front ++ letter ∷ []) l
+      back : (l : Lead) → IsLonger table front l × (rank_at depth l.letters ≡ suc letter) → IsGoing table (front ++ letter ∷ []) (λ n. Unit {0}) l
       back l both =
-          record { among = both.0.among; begins = (begins-more front letter l.letters).1 (both.0.begins, ap (λ n. rank_at n l.letters) is_depth ∙ both.1) }
+          record { among = both.0.among; begins = (begins-more front letter l.letters).1 (both.0.begins, ap (λ n. rank_at n l.letters) is_depth ∙ both.1); rank = tt }
 
-  pub walk-ended : ListsExactly StandsBefore (IsGoing table front) leads
-      → ListsExactly StandsBefore (IsEnded table front) (filter (λ (l : Lead). nat_eq (rank_at depth l.letters) 0) leads)
-  walk-ended exact =
-      exactly-filter (λ (l : Lead). nat_eq (rank_at depth l.letters) 0) StandsBefore (IsGoing table front) (λ (l : Lead). rank_at depth l.letters ≡ 0)
-      (IsEnded table front) leads (λ (l : Lead). Decides-eqb (rank_at depth l.letters) 0)
+  pub walk-part : (p : ℕ → Bool) (Q : ℕ → Type 0) → ((n : ℕ) → Decides (p n) (Q n)) → ListsExactly StandsBefore (IsGoing table front (λ n. Unit {0})) leads
+      → ListsExactly StandsBefore (IsGoing table front Q) (filter (λ (l : Lead). p (rank_at depth l.letters)) leads)
+  walk-part p Q tells exact =
+      exactly-filter (λ (l : Lead). p (rank_at depth l.letters)) StandsBefore (IsGoing table front (λ n. Unit {0})) (λ (l : Lead). Q (rank_at depth l.letters))
+      (IsGoing table front Q) leads (λ (l : Lead). tells (rank_at depth l.letters))
       (λ l. (
-        λ ended. (record { among = ended.among; begins = ended.begins }, ap (λ n. rank_at n l.letters) (sym is_depth) ∙ ended.ended),
-        λ both. record { among = both.0.among; begins = both.0.begins; ended = ap (λ n. rank_at n l.letters) is_depth ∙ both.1 },
-      )) exact
-
-  pub walk-longer : ListsExactly StandsBefore (IsGoing table front) leads
-      → ListsExactly StandsBefore (IsLonger table front) (filter (λ (l : Lead). not (nat_eq (rank_at depth l.letters) 0)) leads)
-  walk-longer exact =
-      exactly-filter (λ (l : Lead). not (nat_eq (rank_at depth l.letters) 0)) StandsBefore (IsGoing table front) (λ (l : Lead). 0 < rank_at depth l.letters)
-      (IsLonger table front) leads (λ (l : Lead). some_rank (rank_at depth l.letters))
-      (λ l. (
-        λ longer. (record { among = longer.among; begins = longer.begins }, omega (arith, ap (λ n. rank_at n l.letters) is_depth, longer.longer)),
-        λ both. record { among = both.0.among; begins = both.0.begins; longer = omega (arith, ap (λ n. rank_at n l.letters) is_depth, both.1) },
+        λ is. (record { among = is.among; begins = is.begins; rank = tt }, subst (λ n. Q (rank_at n l.letters)) is_depth is.rank),
+        λ both. record { among = both.0.among; begins = both.0.begins; rank = subst (λ n. Q (rank_at n l.letters)) (sym is_depth) both.1 },
       )) exact
 
 -- from one place of a word on
 module _ (table : List Lead) (sorted : AllPairs StandsBefore table) (nonempty : All (λ (l : Lead). 0 < length l.letters) table) where
-  pub walk-start : ListsExactly StandsBefore (IsLonger table []) table
-  walk-start = record {
-    members = λ l. (
-      λ at. record { among = at; begins = refl; longer = rank_at-longer 0 l.letters (All-contains (λ (m : Lead). 0 < length m.letters) table l nonempty at) },
-      λ longer. longer.among,
-    );
-    ascending = sorted;
-  }
-
   module _ (first : Lead) (place : ℕ) (inside : place < length first.letters) where
     abbrev rest : List ℕ
     rest = drop place first.letters
@@ -215,7 +190,7 @@ module _ (table : List Lead) (sorted : AllPairs StandsBefore table) (nonempty : 
       front-length = length-take-le (depth + 1) rest (omega (arith, further))
 
       ended-letters : (l : Lead) → Contains ended l → l.letters ≡ take (depth + 1) rest
-      ended-letters l at = let is = (exact.members l).0 at in ended-is (take (depth + 1) rest) l.letters is.begins is.ended
+      ended-letters l at = let is = (exact.members l).0 at in ended-is (take (depth + 1) rest) l.letters is.begins is.rank
 
       pub included-more : (old mid new : List Ambiguity) → IsAdded (IsIncluded table first place depth) old mid
           → IsAdded (IsWith ended first.number Inclusion place) mid new
@@ -223,68 +198,50 @@ module _ (table : List Lead) (sorted : AllPairs StandsBefore table) (nonempty : 
       included-more old mid new before more =
           added-append (IsIncluded table first place depth) (IsWith ended first.number Inclusion place) (IsIncluded table first place (depth + 1)) old mid
           new before more across
-          (λ a. (λ included. split a included (cases_lt depth (length included.second.letters)), join a))
+          (λ a. (λ included. split a included (cases_lt depth (length included.met.second.letters)), join a))
         where
           across : (a b : Ambiguity) → IsIncluded table first place depth a → IsWith ended first.number Inclusion place b → a ≢ b
           across a b included with alike =
-              let number : included.second.number ≡ with.second.number = ap (λ (c : Ambiguity). c.j) (included.is ∙ alike ∙ sym with.is) in
-              let same : included.second ≡ with.second =
-              same_word table sorted included.second with.second included.among ((exact.members with.second).0 with.among).among number in
-              omega (arith, included.short, ap (λ (l : Lead). length l.letters) same, ap length (ended-letters with.second with.among), front-length)
+              let number : included.met.second.number ≡ with.lead.number = ap (λ (c : Ambiguity). c.j) (included.met.is ∙ alike ∙ sym with.meeting.1) in
+              let same : included.met.second ≡ with.lead =
+              same_word table sorted included.met.second with.lead included.met.among ((exact.members with.lead).0 with.among).among number in
+              omega (arith, included.short, ap (λ (l : Lead). length l.letters) same, ap length (ended-letters with.lead with.among), front-length)
 
           split : (a : Ambiguity) (included : IsIncluded table first place (depth + 1) a)
-              → (depth < length included.second.letters) ⊎ (length included.second.letters ≤ depth)
+              → (depth < length included.met.second.letters) ⊎ (length included.met.second.letters ≤ depth)
               → IsIncluded table first place depth a ⊎ IsWith ended first.number Inclusion place a
-          split a included (inr short) = inl (record {
-            second = included.second;
-            among = included.among;
-            apart = included.apart;
-            occurs = included.occurs;
-            short = short;
-            is = included.is;
-          })
+          split a included (inr short) = inl (record { met = included.met; short = short })
           split a included (inl long) =
-              let w = included.second.letters in
+              let m = included.met in
+              let w = m.second.letters in
               let whole : length w ≡ depth + 1 = omega (arith, long, included.short) in
-              let front : take (depth + 1) rest ≡ w = ap (λ n. take n rest) (sym whole) ∙ front-of w included.occurs in
+              let front : take (depth + 1) rest ≡ w = ap (λ n. take n rest) (sym whole) ∙ front-of w m.meets.1 in
               inr (record {
-                second = included.second;
-                among = (exact.members included.second).1 (record {
-                  among = included.among;
+                lead = m.second;
+                among = (exact.members m.second).1 (record {
+                  among = m.among;
                   begins = subst (λ f. BeginsWith f w) (sym front) (begins-itself w);
-                  ended = rank_at-itself w (length (take (depth + 1) rest)) (sym (ap length front));
+                  rank = rank_at-itself w (length (take (depth + 1) rest)) (sym (ap length front));
                 });
-                may_meet = included.apart;
-                is = included.is;
+                meeting = (m.meets.0, m.is);
               })
 
           join : (a : Ambiguity) → IsIncluded table first place depth a ⊎ IsWith ended first.number Inclusion place a
               → IsIncluded table first place (depth + 1) a
-          join a (inl included) = record {
-            second = included.second;
-            among = included.among;
-            apart = included.apart;
-            occurs = included.occurs;
-            short = omega (arith, included.short);
-            is = included.is;
-          }
-          join a (inr with) = record {
-            second = with.second;
-            among = ((exact.members with.second).0 with.among).among;
-            apart = with.may_meet;
-            occurs = subst (λ w. OccursAt first.letters w place) (sym (ended-letters with.second with.among)) (occurs_front (depth + 1));
-            short = omega (arith, ap length (ended-letters with.second with.among), front-length);
-            is = with.is;
-          }
+          join a (inl included) = record { met = included.met; short = omega (arith, included.short) }
+          join a (inr with) =
+              let letters = ended-letters with.lead with.among in
+              record {
+                met = record {
+                  second = with.lead;
+                  among = ((exact.members with.lead).0 with.among).among;
+                  meets = (with.meeting.0, subst (λ w. OccursAt first.letters w place) (sym letters) (occurs_front (depth + 1)));
+                  is = with.meeting.1;
+                };
+                short = omega (arith, ap length letters, front-length);
+              }
 
-    -- the words meet at the place as the ambiguity says
-    record IsMet (kind : Kind) (a : Ambiguity) : Type 0 where
-      second : Lead
-      among : Contains table second
-      meets : MeetsAs kind first.number second.number first.letters second.letters place
-      is : ambiguity_at first.number second.number kind place ≡ a
-
-    met-of : (a : Ambiguity) → AtPlace a → IsMet a.kind a
+    met-of : (a : Ambiguity) → AtPlace a → IsMet table first place a.kind a
     met-of a of =
         let is : ambiguity_at first.number of.second.number a.kind place ≡ a =
         λ n. record { i = of.first_numbered n; j = of.second_numbered n; kind = a.kind; place = sym of.at_place n } in
@@ -295,7 +252,7 @@ module _ (table : List Lead) (sorted : AllPairs StandsBefore table) (nonempty : 
           is = is;
         }
 
-    of-met : (kind : Kind) (a : Ambiguity) → IsMet kind a → AtPlace a
+    of-met : (kind : Kind) (a : Ambiguity) → IsMet table first place kind a → AtPlace a
     of-met kind a met = record {
       second = met.second;
       among = met.among;
@@ -305,23 +262,16 @@ module _ (table : List Lead) (sorted : AllPairs StandsBefore table) (nonempty : 
       at_place = sym (ap (λ (b : Ambiguity). b.place) met.is);
     }
 
-    of-included : (most : ℕ) (a : Ambiguity) → IsIncluded table first place most a → AtPlace a
-    of-included most a included =
-        of-met Inclusion a (record { second = included.second; among = included.among; meets = (included.apart, included.occurs); is = included.is })
-
-    included-met : (most : ℕ) (a : Ambiguity) (met : IsMet Inclusion a) → length met.second.letters ≤ most → IsIncluded table first place most a
-    included-met most a met short = record { second = met.second; among = met.among; apart = met.meets.0; occurs = met.meets.1; short = short; is = met.is }
-
     -- where no word overlaps and no longer one is included
     only-included : (most : ℕ) (old new : List Ambiguity) → ((l : Lead) → Contains table l → OccursAt first.letters l.letters place → length l.letters ≤ most)
         → ((l : Lead) → Contains table l → OverlapsAt first.letters l.letters place → ⊥) → IsAdded (IsIncluded table first place most) old new
         → IsAdded AtPlace old new
     only-included most old new short none added =
-        added-same (IsIncluded table first place most) AtPlace old new (λ a. (λ of. by_kind a a.kind (met-of a of), of-included most a)) added
+        added-same (IsIncluded table first place most) AtPlace old new (λ a. (λ of. by_kind a a.kind (met-of a of), λ included. of-met Inclusion a included.met)) added
       where
-        by_kind : (a : Ambiguity) (kind : Kind) → IsMet kind a → IsIncluded table first place most a
+        by_kind : (a : Ambiguity) (kind : Kind) → IsMet table first place kind a → IsIncluded table first place most a
         by_kind a Overlap met = absurd (none met.second met.among met.meets)
-        by_kind a Inclusion met = included-met most a met (short met.second met.among met.meets.1)
+        by_kind a Inclusion met = record { met = met; short = short met.second met.among met.meets.1 }
 
     occurs_short : (l : Lead) → OccursAt first.letters l.letters place → length l.letters ≤ length rest
     occurs_short l at = omega (arith, OccursAt-length first.letters l.letters place at, rest-length)
@@ -339,7 +289,7 @@ module _ (table : List Lead) (sorted : AllPairs StandsBefore table) (nonempty : 
         longer : (l : Lead) → Contains table l → BeginsWith (take depth rest) l.letters → depth < length l.letters → ⊥
         longer l among begins long =
             let at =
-            (nothing.members l).1 (record { among = among; begins = begins; longer = rank_at-longer (length (take depth rest)) l.letters (omega (arith, long, length-take-le depth rest within)) }) in
+            (nothing.members l).1 (record { among = among; begins = begins; rank = rank_at-longer (length (take depth rest)) l.letters (omega (arith, long, length-take-le depth rest within)) }) in
             omega (arith, at.1)
 
         included : (l : Lead) → Contains table l → OccursAt first.letters l.letters place → (depth < length l.letters) ⊎ (length l.letters ≤ depth)
@@ -367,39 +317,32 @@ module _ (table : List Lead) (sorted : AllPairs StandsBefore table) (nonempty : 
         kinds_differ e = cc
 
         across : (a b : Ambiguity) → IsIncluded table first place (length rest) a → IsWith longer first.number Overlap place b → a ≢ b
-        across a b included with alike = kinds_differ (ap (λ (c : Ambiguity). c.kind) (included.is ∙ alike ∙ sym with.is))
+        across a b included with alike = kinds_differ (ap (λ (c : Ambiguity). c.kind) (included.met.is ∙ alike ∙ sym with.meeting.1))
 
-        by_kind : (a : Ambiguity) (kind : Kind) → IsMet kind a → IsIncluded table first place (length rest) a ⊎ IsWith longer first.number Overlap place a
-        by_kind a Inclusion met = inl (included-met (length rest) a met (occurs_short met.second met.meets.1))
+        by_kind : (a : Ambiguity) (kind : Kind) → IsMet table first place kind a → IsIncluded table first place (length rest) a ⊎ IsWith longer first.number Overlap place a
+        by_kind a Inclusion met = inl (record { met = met; short = occurs_short met.second met.meets.1 })
         by_kind a Overlap met =
             let both = overlap_begins met.second.letters met.meets in
             inr (record {
-              second = met.second;
+              lead = met.second;
               among =
-                  (exact.members met.second).1 (record { among = met.among; begins = both.0; longer = rank_at-longer (length rest) met.second.letters both.1 });
-              may_meet = tt;
-              is = met.is;
+                  (exact.members met.second).1 (record { among = met.among; begins = both.0; rank = rank_at-longer (length rest) met.second.letters both.1 });
+              meeting = (tt, met.is);
             })
 
         join : (a : Ambiguity) → IsIncluded table first place (length rest) a ⊎ IsWith longer first.number Overlap place a → AtPlace a
-        join a (inl included) = of-included (length rest) a included
+        join a (inl included) = of-met Inclusion a included.met
         join a (inr with) =
-            let is = (exact.members with.second).0 with.among in
+            let is = (exact.members with.lead).0 with.among in
             of-met Overlap a (record {
-              second = with.second;
+              second = with.lead;
               among = is.among;
-              meets = overlap_from with.second.letters some is.begins (longer-by_rank (length rest) with.second.letters is.longer);
-              is = with.is;
+              meets = overlap_from with.lead.letters some is.begins (longer-by_rank (length rest) with.lead.letters is.rank);
+              is = with.meeting.1;
             })
 
 -- all places of a word, and all words
 module _ (table : List Lead) where
-  pub included-none : (nonempty : All (λ (l : Lead). 0 < length l.letters) table) (first : Lead) (place : ℕ) (old : List Ambiguity)
-      → IsAdded (IsIncluded table first place 0) old old
-  included-none nonempty first place old =
-      added-none (IsIncluded table first place 0) old (λ a included. omega
-      (arith, included.short, All-contains (λ (l : Lead). 0 < length l.letters) table included.second nonempty included.among))
-
   module _ (first : Lead) where
     abbrev Below : ℕ → Ambiguity → Type 0
     Below n = IsOfFirst table first (λ p. p < n)
@@ -410,9 +353,6 @@ module _ (table : List Lead) where
     moved : (P Q : ℕ → Type 0) (a : Ambiguity) (of : IsOfFirst table first P a) → Q a.place → IsOfFirst table first Q a
     moved P Q a of at =
         record { second = of.second; among = of.among; first_numbered = of.first_numbered; second_numbered = of.second_numbered; meets = of.meets; at_place = at }
-
-    pub places-none : (old : List Ambiguity) → IsAdded (Below 0) old old
-    places-none old = added-none (Below 0) old (λ a of. omega (arith, of.at_place))
 
     pub places-more : (n : ℕ) (old mid new : List Ambiguity) → IsAdded (Below n) old mid → IsAdded (AtThat n) mid new → IsAdded (Below (n + 1)) old new
     places-more n old mid new before more =
@@ -446,31 +386,3 @@ module _ (table : List Lead) where
               All-contains (λ (l : Lead). 0 < length l.letters) table
                   of.second nonempty of.among,
             )
-
-  module _ (sorted : AllPairs StandsBefore table) where
-    abbrev OfThe : ℕ → Ambiguity → Type 0
-    OfThe n = IsOfFirsts table (take n table)
-
-    pub firsts-more : (n : ℕ) (l : Lead) (old mid new : List Ambiguity) → n < length table → get_or table n l ≡ l → IsAdded (OfThe n) old mid
-        → IsAdded (IsOfFirst table l (λ p. Unit {0})) mid new → IsAdded (OfThe (n + 1)) old new
-    firsts-more n l old mid new inside here before more =
-        added-append (OfThe n) (IsOfFirst table l (λ p. Unit {0})) (OfThe (n + 1)) old mid new before more across
-        (λ a. (λ of. split a of ((contains-more table n l of.first inside).0 of.among), join a))
-      where
-        across : (a b : Ambiguity) → OfThe n a → IsOfFirst table l (λ p. Unit {0}) b → a ≢ b
-        across a b of met alike =
-            let k = of.among.0 in
-            let low : k < n = omega (arith, of.among.1, length-take-le n table (omega (arith, inside))) in
-            let at_k : get_or table k of.first ≡ of.first = sym (get_or-take n table k of.first low) ∙ of.among.2 in
-            let at_n : get_or table n of.first ≡ l = get_or_default table n of.first l inside ∙ here in
-            let numbers : of.first.number ≡ l.number = of.meeting.first_numbered ∙ ap (λ (c : Ambiguity). c.i) alike ∙ sym met.first_numbered in
-            (sorted k n of.first low inside).1 (ap (λ (x : Lead). x.number) at_k ∙ numbers ∙ sym (ap (λ (x : Lead). x.number) at_n))
-
-        split : (a : Ambiguity) (of : OfThe (n + 1) a) → Contains (take n table) of.first ⊎ (get_or table n l ≡ of.first)
-            → OfThe n a ⊎ IsOfFirst table l (λ p. Unit {0}) a
-        split a of (inl among) = inl (record { first = of.first; among = among; meeting = of.meeting })
-        split a of (inr last) = inr (subst (λ (x : Lead). IsOfFirst table x (λ p. Unit {0}) a) (sym (sym here ∙ last)) of.meeting)
-
-        join : (a : Ambiguity) → OfThe n a ⊎ IsOfFirst table l (λ p. Unit {0}) a → OfThe (n + 1) a
-        join a (inl of) = record { first = of.first; among = (contains-more table n l of.first inside).1 (inl of.among); meeting = of.meeting }
-        join a (inr met) = record { first = l; among = (contains-more table n l l inside).1 (inr here); meeting = met }

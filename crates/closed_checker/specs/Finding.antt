@@ -22,12 +22,15 @@ abbrev pub MayMeet : Kind → ℕ → ℕ → Type 0
 MayMeet Overlap i j = Unit {0}
 MayMeet Inclusion i j = i ≢ j
 
+-- one of the words has to do with the ambiguity in this way
+pub record IsOfOne (leads : List Lead) (P : Lead → Ambiguity → Type 0) (a : Ambiguity) : Type 0 where
+  pub lead : Lead
+  pub among : Contains leads lead
+  pub meeting : P lead a
+
 -- the ambiguity of this kind at this place of the first rule with the rule of one of these words
-pub record IsWith (seconds : List Lead) (i : ℕ) (kind : Kind) (place : ℕ) (a : Ambiguity) : Type 0 where
-  pub second : Lead
-  pub among : Contains seconds second
-  pub may_meet : MayMeet kind i second.number
-  pub is : ambiguity_at i second.number kind place ≡ a
+abbrev pub IsWith : List Lead → ℕ → Kind → ℕ → Ambiguity → Type 0
+IsWith seconds i kind place = IsOfOne seconds (λ l a. MayMeet kind i l.number × (ambiguity_at i l.number kind place ≡ a))
 
 -- the leading words of the first rule and of one of the table meet as the ambiguity says, at a place with the property
 pub record IsOfFirst (table : List Lead) (first : Lead) (At : ℕ → Type 0) (a : Ambiguity) : Type 0 where
@@ -39,7 +42,5 @@ pub record IsOfFirst (table : List Lead) (first : Lead) (At : ℕ → Type 0) (a
   pub at_place : At a.place
 
 -- two words of the table meet as the ambiguity says, of which the first one is among these
-pub record IsOfFirsts (table firsts : List Lead) (a : Ambiguity) : Type 0 where
-  pub first : Lead
-  pub among : Contains firsts first
-  pub meeting : IsOfFirst table first (λ place. Unit {0}) a
+abbrev pub IsOfFirsts : List Lead → List Lead → Ambiguity → Type 0
+IsOfFirsts table firsts = IsOfOne firsts (λ l. IsOfFirst table l (λ place. Unit {0}))

@@ -1,5 +1,5 @@
 -- The rules of a basis, and what they leave of each part of its check.
-use Rattle.std.specs.Prelude.{◌<◌, ◌<ℤ◌, ℕ, pos, List, [], length, IsSomeAnd, Result, Ok, Err, option_to_list}
+use Rattle.std.specs.Prelude.{◌<◌, ◌<ℤ◌, pos, List, length, IsSomeAnd, Result, Ok, Err, option_to_list}
 use Rattle.std.specs.List.{All, flat_map}
 use Rattle.definitions.specs.Poly.{Term}
 use Rattle.definitions.specs.Combination.{generator_at}

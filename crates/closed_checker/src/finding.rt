@@ -54,16 +54,16 @@ fn push_place(
     requires inside { place < length first.now.letters }
     ensures { OnOk result (IsAdded (IsOfFirst table.now first.now (λ p. p ≡ place)) found.old found.new) }
 {
-    let letters = first.letters.as_slice();
+    let rest = &first.letters.as_slice()[place..];
     let mut longer = table;
-    for end in place..letters.len() {
+    for depth in 0..rest.len() {
         if longer.is_empty() {
             return Ok(());
         }
-        let going_on = narrow(longer, end - place, letters[end]);
-        let (ended, rest) = split_ended(going_on, end - place + 1);
+        let going_on = narrow(longer, depth, rest[depth]);
+        let (ended, further) = split_ended(going_on, depth + 1);
         push_all(found, ended, first.number, Kind::Inclusion, place as u32)?;
-        longer = rest;
+        longer = further;
     }
     if place > 0 {
         push_all(found, longer, first.number, Kind::Overlap, place as u32)?;

@@ -4,16 +4,19 @@ ghost use Rattle.closed_checker.specs.Laws.{ClosedBasisIsNotRefused, ClosedBases
 ghost use Rattle.closed_checker.specs.ListLaws.{AmbiguitiesCanBeListed, ListsAreUnique};
 
 /// Each basis is closed, or one of its tests is the first that fails.
+#[tactic(auto, using(crate::proofs::Judged::each_basis_is_judged))]
 pub fn each_basis_is_judged()
     ensures { EachBasisIsJudged }
 {}
 
 /// A basis has one refusal at most, apart from want of memory.
+#[tactic(auto, using(crate::proofs::Judged::basis_refusal_is_unique))]
 pub fn basis_refusal_is_unique()
     ensures { BasisRefusalIsUnique }
 {}
 
 /// A closed basis has none.
+#[tactic(auto, using(crate::proofs::Judged::closed_basis_is_not_refused))]
 pub fn closed_basis_is_not_refused()
     ensures { ClosedBasisIsNotRefused }
 {}

@@ -1,5 +1,5 @@
 -- what holds of each item, one item after another
-use Rattle.std.proofs.Common.{◌≡◌, ℕ, ◌+◌, ◌<◌, ◌≤◌, ◌%◌, nat_eq, true, false, List, All, length, take, get_or, sym, subst, arith}
+use Rattle.std.proofs.Common.{◌≡◌, ℕ, ◌+◌, ◌<◌, ◌≤◌, ◌%◌, nat_eq, Bool, true, false, IsTrue, ◌↔◌, List, All, length, take, get_or, sym, subst, arith}
 use Rattle.std.specs.Int.{◌∣◌}
 use Rattle.std.proofs.lemmas.Bool.Decides.{nat_tests}
 use Rattle.std.proofs.lemmas.Nat.Gcd.{dvd_of_mod-eq-zero, mod-eq-zero_of_dvd}
@@ -17,8 +17,12 @@ pub at_item : {X : Type 0} (P : X → Type 0) (xs : List X) (i : ℕ) (x : X) �
 at_item P xs i x inside is all = subst P (sym is) (all i x inside)
 
 -- a number divides where it leaves no rest
-pub divides_from : (d n : ℕ) → nat_eq (n % d) 0 ≡ true → d ∣ n
-divides_from d n none = let zero : n % d ≡ 0 = grind (arith, nat_tests) in dvd_of_mod-eq-zero d zero
+pub divides_tells : (d n : ℕ) → IsTrue (nat_eq (n % d) 0) ↔ d ∣ n
+divides_tells d n = (
+  λ none. let zero : n % d ≡ 0 = grind (arith, nat_tests) in dvd_of_mod-eq-zero d zero,
+  λ divides. let zero : n % d ≡ 0 = mod-eq-zero_of_dvd d divides in grind (arith, nat_tests),
+)
 
-pub not_divides_from : (d n : ℕ) → nat_eq (n % d) 0 ≡ false → d ∣ n → ⊥
-not_divides_from d n some divides = let zero : n % d ≡ 0 = mod-eq-zero_of_dvd d divides in grind (arith, nat_tests)
+-- a test that fails where it passes
+pub clash : (b : Bool) → b ≡ true → b ≡ false → ⊥
+clash b one other = absurd (cc)

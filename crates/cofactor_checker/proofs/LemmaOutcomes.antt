@@ -1,16 +1,11 @@
 -- what the steps of a check mean for its outcome
-use Rattle.std.proofs.Common.{◌≡◌, inl, inr, ℕ, ℤ, ◌+◌, List, [], ◌∷◌, ◌++◌, length, None, Result, Ok, Err, OnOk}
-use Rattle.coef_int.specs.Operations.{first_overflow}
-use Rattle.nc_polynomial.specs.Terms.{products}
-use Rattle.nc_polynomial.specs.declared.poly.Poly.{Poly}
-use Rattle.adjoint_rules.specs.Problem.{polynomials}
+use Rattle.std.proofs.Common.{inl, inr, ℕ, ℤ, ◌+◌, List, [], ◌∷◌, ◌++◌, length, Result, Ok, Err, OnOk}
 use Rattle.traced_rows.specs.declared.evidence.Lemma.{Lemma}
 use Rattle.traced_rows.specs.declared.evidence.LemmaCertificate.{LemmaCertificate}
 use Rattle.cofactor_checker.specs.declared.accepted.Accepted.{Accepted}
-use Rattle.cofactor_checker.proofs.RowSums.{Names}
 use Rattle.traced_rows.specs.LemmaRows.{IsEvidenceOf}
 use Rattle.cofactor_checker.specs.Lemmas.{lemma_polynomial, RefusesLemma, RefusesLemmaRows, RefusesLemmas, row_count}
-use Rattle.cofactor_checker.specs.LemmaAcceptance.{goal_claim, all_polynomials, HasShares, GoalBegins, HasLemmas, AcceptsLemmas, RefusesLemmaCertificate}
+use Rattle.cofactor_checker.specs.LemmaAcceptance.{goal_claim, all_polynomials, GoalBegins, HasLemmas, AcceptsLemmas, RefusesLemmaCertificate}
 use Rattle.cofactor_checker.specs.Goals.{RefusesGoal}
 use Rattle.cofactor_checker.specs.declared.refusal.Refusal.{Refusal}
 use Rattle.cofactor_checker.specs.declared.refusal.Refusal.TheVariants as refusal
@@ -22,10 +17,6 @@ never : (gs : List (List (ℤ × List ℕ))) (e : Refusal) → ((ps : List (List
 never gs e none ps rows [] refused = refused
 never gs e none ps rows (l ∷ lemmas) (inl here) = none ps rows l here
 never gs e none ps rows (l ∷ lemmas) (inr later) = never gs e none (ps ++ lemma_polynomial gs ps l ∷ []) (rows + length l.rows) lemmas later.1
-
--- its scales divide, and it names the claim
-pub begins : {claims : List Poly} {c : LemmaCertificate} {p : Poly} → HasShares (polynomials claims) c → Names claims c.claim p → first_overflow (products c.goal.scale p.terms) ≡ None → GoalBegins (polynomials claims) c
-begins shares names none = record { shares = shares; products = rw names.terms at none }
 
 -- a refusal of a row of the goal is one of the goal
 pub goal_from_rows : (gs ls : List (List (ℤ × List ℕ))) (before : ℕ) (goal : Lemma) (claim : List (ℤ × List ℕ)) (e : Refusal) → RefusesLemmaRows gs ls before goal.rows e → RefusesGoal gs ls before goal claim e

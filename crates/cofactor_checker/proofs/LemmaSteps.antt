@@ -1,6 +1,5 @@
 -- one lemma after another
-use Rattle.std.proofs.Common.{◌≡◌, inl, inr, ℕ, ◌+◌, ◌<◌, ◌≤◌, ℤ, List, [], ◌∷◌, ◌++◌, length, drop, get_or, refl, sym, ap, subst, ◌∙◌, append_assoc, arith}
-use Rattle.std.proofs.lemmas.List.{drop_all, append-nil}
+use Rattle.std.proofs.Common.{◌≡◌, inl, inr, ℕ, ◌+◌, ◌<◌, ℤ, List, [], ◌∷◌, ◌++◌, length, drop, get_or, refl, sym, ap, subst, ◌∙◌, append_assoc, arith}
 use Rattle.nc_polynomial.proofs.Steps.{drop_next}
 use Rattle.nc_polynomial.specs.declared.poly.Poly.{Poly}
 use Rattle.adjoint_rules.specs.Problem.{polynomials}
@@ -15,23 +14,7 @@ pub record LemmasUpTo (gs ps : List (List (ℤ × List ℕ))) (lemmas : List Lem
   pub pass : LemmasPass gs ps (drop i lemmas) → LemmasPass gs [] lemmas
   pub refuse : (e : Refusal) → RefusesLemmas gs ps rows (drop i lemmas) e → RefusesLemmas gs [] 0 lemmas e
 
-pub begins : (gs : List (List (ℤ × List ℕ))) (lemmas : List Lemma) → LemmasUpTo gs [] lemmas 0 0
-begins gs lemmas = record { counted = omega arith; made = refl; pass = λ all. all; refuse = λ e refused. refused }
-
 module _ (gs ps : List (List (ℤ × List ℕ))) (lemmas : List Lemma) (rows i : ℕ) (so_far : LemmasUpTo gs ps lemmas rows i) where
-  module _ (past : length lemmas ≤ i) where
-    none_left : drop i lemmas ≡ []
-    none_left = drop_all i lemmas past
-
-    pub all_made : ps ≡ lemma_polynomials gs [] lemmas
-    all_made = sym (append-nil ps) ∙ sym (ap (λ rest. ps ++ lemma_polynomials gs ps rest) none_left) ∙ so_far.made
-
-    pub all_pass : LemmasPass gs [] lemmas
-    all_pass = so_far.pass (subst (LemmasPass gs ps) (sym none_left) tt)
-
-    pub all_counted : rows ≡ row_count lemmas
-    all_counted = let rest = ap row_count none_left in let whole = so_far.counted in omega arith
-
   module _ (l : Lemma) (inside : i < length lemmas) (is : l ≡ get_or lemmas i l) where
     abbrev p : List (ℤ × List ℕ)
     p = lemma_polynomial gs ps l

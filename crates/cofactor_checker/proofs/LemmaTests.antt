@@ -19,15 +19,15 @@ use Rattle.cofactor_checker.specs.Lemmas.{LemmaRowsPass, lemma_polynomial, term_
 use Rattle.cofactor_checker.specs.Acceptance.{IsMemory}
 use Rattle.cofactor_checker.specs.declared.refusal.Refusal.{Refusal}
 use Rattle.cofactor_checker.specs.declared.refusal.Refusal.TheVariants as refusal
-use Rattle.cofactor_checker.proofs.Each.{divides_from, not_divides_from}
+use Rattle.cofactor_checker.proofs.Each.{divides_tells, clash}
 use Rattle.cofactor_checker.proofs.RowTests.{memory_decided, lemma_rows}
 
 pub divides_or : (s z : ℤ) → IsDecided (unsigned_abs s ∣ unsigned_abs z)
 divides_or s z = by (nat_eq (unsigned_abs z % unsigned_abs s) 0) refl
   where
     by : (b : Bool) → nat_eq (unsigned_abs z % unsigned_abs s) 0 ≡ b → IsDecided (unsigned_abs s ∣ unsigned_abs z)
-    by true is = inl (divides_from (unsigned_abs s) (unsigned_abs z) is)
-    by false is = inr (not_divides_from (unsigned_abs s) (unsigned_abs z) is)
+    by true is = inl ((divides_tells (unsigned_abs s) (unsigned_abs z)).0 is)
+    by false is = inr (λ divides. clash _ ((divides_tells (unsigned_abs s) (unsigned_abs z)).1 divides) is)
 
 pub positive_or : (z : ℤ) → IsDecided (pos 1 ≤ℤ z)
 positive_or (pos zero) = inr (λ least. omega (arith, ints, least))
@@ -112,7 +112,7 @@ module _ (gs : List Poly) where
         ⊎ (DividesEach (unsigned_abs l.scale) sum × (((e ≡ refusal.LemmaSize (length ps + 1)) × (sized sum ≡ Ok sum → ⊥))
         ⊎ ((sized sum ≡ Ok sum) × ((e ≡ refusal.Kept (before + length l.rows)) × (IsKept → ⊥)))))))
 
-    rows_told : (e : Refusal) → RefusesLemmaRows gs ps before l.rows e → RefusesLemma gs ps before l e
+    pub rows_told : (e : Refusal) → RefusesLemmaRows gs ps before l.rows e → RefusesLemma gs ps before l e
     rows_told (refusal.NoSuchGenerator row) h = h
     rows_told (refusal.NoSuchLemma row) h = h
     rows_told (refusal.Overflow row o) h = h

@@ -10,7 +10,6 @@ pub mod RowSums
 pub mod Outcomes
 pub mod Places
 pub mod Each
-pub mod RowSteps
 pub mod Terms
 pub mod LemmaSteps
 pub mod LemmaSums

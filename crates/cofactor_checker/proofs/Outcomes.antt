@@ -1,10 +1,9 @@
 -- what the steps of a check mean for its outcome
-use Rattle.std.proofs.Common.{◌≡◌, ℕ, ℤ, pos, ◌*ℤ◌, ◌≤ℤ◌, List, length, slice_get, Some, None, inr, sym, ap, ◌∙◌, arith}
+use Rattle.std.proofs.Common.{◌≡◌, ℕ, ℤ, pos, ◌*ℤ◌, ◌≤ℤ◌, List, None, inr, sym, subst, ap, ◌∙◌, arith}
 use Rattle.std.proofs.lemmas.Int.{ints}
-use Rattle.std.proofs.lemmas.Option.{slice_get_within}
 use Rattle.coef_int.specs.Operations.{first_overflow}
 use Rattle.definitions.specs.Poly.{coefficient_of, poly_multiple, SamePolynomial}
-use Rattle.definitions.specs.Combination.{Row, IsCombination}
+use Rattle.definitions.specs.Combination.{IsCombination}
 use Rattle.definitions.proofs.Coefficients.{coefficient_of-multiple}
 use Rattle.std.specs.BTreeMap.{BTreeMap}
 use Rattle.nc_polynomial.specs.Collected.{coefficient_in}
@@ -12,19 +11,14 @@ use Rattle.nc_polynomial.specs.Terms.{products}
 use Rattle.nc_polynomial.specs.declared.poly.Poly.{Poly}
 use Rattle.adjoint_rules.specs.Problem.{polynomials}
 use Rattle.traced_rows.specs.declared.certificate.Certificate.{Certificate}
-use Rattle.traced_rows.specs.Rows.{rows_of}
+use Rattle.traced_rows.specs.Rows.{row_of, rows_of}
 use Rattle.cofactor_checker.specs.Acceptance.{claim_of, IsPosed, Begins, Accepts, Refuses}
 use Rattle.cofactor_checker.specs.Difference.{IsLeastDifference}
-use Rattle.cofactor_checker.specs.Rows.{RowPasses, RowsPass}
-use Rattle.cofactor_checker.specs.RowRefusals.{RefusesRow}
+use Rattle.cofactor_checker.specs.RowRefusals.{StopsAt, lacks, overflows, outgrows, memory, tell_generator}
 use Rattle.cofactor_checker.specs.Running.{IsSumOf}
 use Rattle.cofactor_checker.proofs.RowSums.{Names}
 use Rattle.cofactor_checker.specs.declared.refusal.Refusal.{Refusal}
 use Rattle.cofactor_checker.specs.declared.refusal.Refusal.TheVariants as refusal
-
--- a row that is there passes, where all do
-pub passes_there : {generators : List (List (ℤ × List ℕ))} (rows : List Row) → RowsPass generators rows (length rows) → (i : ℕ) (r : Row) → slice_get rows i ≡ Some r → RowPasses generators rows i r
-passes_there rows pass i r there = pass.at i r (slice_get_within rows i r there) there
 
 -- the certificate names the claim, and its denominator is at least 1
 module _ {claims : List Poly} {c : Certificate} {p : Poly} (names : Names claims c.claim p) (least : pos 1 ≤ℤ c.denominator) where
@@ -35,12 +29,13 @@ module _ {claims : List Poly} {c : Certificate} {p : Poly} (names : Names claims
   begins none = record { posed = posed; products = rw names.terms at none }
 
 -- a refusal of a row, where the rows are reached
-pub refuses_from_row : {claims : List (List (ℤ × List ℕ))} (generators : List (List (ℤ × List ℕ))) {c : Certificate} → Begins claims c → (e : Refusal) → RefusesRow generators (rows_of c.rows) e → Refuses claims generators c e
-refuses_from_row generators begins (refusal.NoSuchGenerator row) lacks = (begins, lacks)
-refuses_from_row generators begins (refusal.Overflow row overflow) overflows = inr (begins, overflows)
-refuses_from_row generators begins (refusal.Size row) outgrows = (begins, outgrows)
-refuses_from_row generators begins (refusal.Memory failed) free = tt
-refuses_from_row generators begins other never = absurd never
+module _ {claims generators : List (List (ℤ × List ℕ))} {c : Certificate} (begins : Begins claims c) where
+  pub refuses_from_row : (e : Refusal) → StopsAt generators row_of tell_generator (λ n. n) c.rows e → Refuses claims generators c e
+  refuses_from_row e (lacks n x is h there) = subst (Refuses claims generators c) (sym is) (begins, h)
+  refuses_from_row e (overflows n o is h) = subst (Refuses claims generators c) (sym is) (inr (begins, h))
+  refuses_from_row e (outgrows n is h) = subst (Refuses claims generators c) (sym is) (begins, h)
+  refuses_from_row (refusal.Memory failed) (memory free) = tt
+  refuses_from_row other (memory free) = absurd free
 
 -- the map is a sum, and the terms are the claim: what holds of the map and a multiple of the terms holds of the sum and that of the claim
 module _ {m : BTreeMap (List ℕ) ℤ} {p terms claim : List (ℤ × List ℕ)} (d : ℤ) (sum : IsSumOf m p) (is : terms ≡ claim) where

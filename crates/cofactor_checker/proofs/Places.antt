@@ -1,5 +1,5 @@
 -- generators and lemmas in one list
-use Rattle.std.proofs.Common.{◌≡◌, ℕ, zero, suc, ◌+◌, ◌-◌, ◌<◌, ◌≤◌, ℤ, List, [], ◌∷◌, ◌++◌, length, get_or, slice_get, Some, ◌⊎◌, inl, inr, sym, refl, ap, ap₂, ◌∙◌, arith}
+use Rattle.std.proofs.Common.{◌≡◌, ℕ, zero, suc, ◌+◌, ◌-◌, ◌<◌, ◌≤◌, ℤ, List, [], ◌∷◌, ◌++◌, length, get_or, slice_get, Some, ◌⊎◌, inl, inr, sym, refl, ap, ◌∙◌, arith}
 use Rattle.std.proofs.lemmas.Bool.{cases_lt}
 use Rattle.std.proofs.lemmas.Bool.Decides.{nat_tests}
 use Rattle.std.proofs.lemmas.List.{get_or_append_left, get_or-append-add}
@@ -10,7 +10,7 @@ use Rattle.traced_rows.specs.LemmaRows.{cert_poly}
 use Rattle.traced_rows.specs.declared.evidence.CertFrom.{CertFrom}
 use Rattle.traced_rows.specs.declared.evidence.CertFrom.TheVariants as cert
 use Rattle.cofactor_checker.specs.Rows.{IsNumberUpTo}
-use Rattle.cofactor_checker.proofs.RowSums.{generator_at-numbered, length-polynomials}
+use Rattle.cofactor_checker.proofs.RowSums.{generator_at_numbered}
 use Rattle.cofactor_checker.specs.PlainRows.{place_of}
 
 pub place-generator : (g l n : ℕ) → n ≤ g → place_of g l (cert.Generator n) ≡ n
@@ -59,15 +59,10 @@ stands_there gs ls (cert.Lemma (suc k)) = by (cases_lt (length ls) (suc k))
     by (inr within) = sym (at_right gs ls (suc k) (omega arith)) ∙ sym (ap (generator_at (gs ++ ls)) (place-lemma (length gs) (length ls) (suc k) (omega arith) within))
 
 -- the polynomial that a number names
-lengths : (gs ls : List Poly) (from : CertFrom) → generator_at (polynomials gs ++ polynomials ls) (place_of (length gs) (length ls) from) ≡ cert_poly (polynomials gs) (polynomials ls) from
-lengths gs ls from =
-    sym (ap₂ (λ a b. generator_at (polynomials gs ++ polynomials ls) (place_of a b from)) (length-polynomials gs) (length-polynomials ls))
-    ∙ sym (stands_there (polynomials gs) (polynomials ls) from)
-
 pub found_generator : (gs ls : List Poly) (n : ℕ) (p : Poly) → IsNumberUpTo (length gs) n → slice_get gs (n - 1) ≡ Some p
-    → generator_at (polynomials gs ++ polynomials ls) (place_of (length gs) (length ls) (cert.Generator n)) ≡ p.terms
-found_generator gs ls n p numbered there = lengths gs ls (cert.Generator n) ∙ generator_at-numbered gs n p numbered there
+    → generator_at (polynomials gs ++ polynomials ls) (place_of (length (polynomials gs)) (length (polynomials ls)) (cert.Generator n)) ≡ p.terms
+found_generator gs ls n p numbered there = sym (stands_there (polynomials gs) (polynomials ls) (cert.Generator n)) ∙ generator_at_numbered gs n p numbered there
 
 pub found_lemma : (gs ls : List Poly) (n : ℕ) (p : Poly) → IsNumberUpTo (length ls) n → slice_get ls (n - 1) ≡ Some p
-    → generator_at (polynomials gs ++ polynomials ls) (place_of (length gs) (length ls) (cert.Lemma n)) ≡ p.terms
-found_lemma gs ls n p numbered there = lengths gs ls (cert.Lemma n) ∙ generator_at-numbered ls n p numbered there
+    → generator_at (polynomials gs ++ polynomials ls) (place_of (length (polynomials gs)) (length (polynomials ls)) (cert.Lemma n)) ≡ p.terms
+found_lemma gs ls n p numbered there = sym (stands_there (polynomials gs) (polynomials ls) (cert.Lemma n)) ∙ generator_at_numbered ls n p numbered there

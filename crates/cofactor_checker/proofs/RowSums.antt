@@ -1,27 +1,26 @@
 -- the running sum behind some rows
-use Rattle.std.proofs.Common.{◌≡◌, ℕ, zero, suc, ◌+◌, ◌-◌, ◌<◌, ◌≤◌, ℤ, pos, ◌+ℤ◌, List, [], ◌∷◌, ◌++◌, length, take, get_or, slice_get, Some, None, unwrap_or, ◌⊎◌, inl, inr, sym, refl, ap, ◌∙◌, subst, arith}
+use Rattle.std.proofs.Common.{◌≡◌, ℕ, zero, suc, ◌+◌, ◌-◌, ◌<◌, ◌≤◌, ℤ, pos, ◌+ℤ◌, List, [], ◌∷◌, ◌++◌, length, map, take, slice_get, Some, None, ◌⊎◌, inl, inr, sym, refl, ap, ◌∙◌, subst, arith}
 use Rattle.std.specs.BTreeMap.{BTreeMap}
-use Rattle.std.specs.HashMap.{get, hash_map_len, IsUnique, IsEmpty}
+use Rattle.std.specs.HashMap.{hash_map_len, IsUnique}
 use Rattle.std.proofs.lemmas.List.{take_all, take_more, length-map}
 use Rattle.std.proofs.lemmas.Bool.{cases_eq}
 use Rattle.std.specs.Option.{option_map}
-use Rattle.std.proofs.lemmas.Option.{slice_get_within, get_or_from_slice_get, slice_get-map, slice_get_read}
+use Rattle.std.proofs.lemmas.Option.{slice_get_within, get_or_from_slice_get, slice_get-map}
 use Rattle.std.proofs.Math.IntN.{+ℤ_comm, +ℤ_assoc}
-use Rattle.std.specs.Map.{lookup}
-use Rattle.coef_int.specs.Range.{IsCoefficient}
 use Rattle.coef_int.specs.declared.Overflow.{Overflow}
 use Rattle.coef_int.specs.Operations.{first_overflow}
 use Rattle.definitions.specs.Poly.{word_eq, coefficient_of}
 use Rattle.definitions.specs.Combination.{Row, generator_at, row_poly, row_sum}
 use Rattle.definitions.proofs.Coefficients.{coefficient_of-append}
 use Rattle.nc_polynomial.specs.declared.poly.Poly.{Poly}
-use Rattle.traced_rows.specs.declared.certificate.CertRow.{CertRow}
-use Rattle.traced_rows.specs.Rows.{row_of, rows_of}
 use Rattle.adjoint_rules.specs.Problem.{polynomials}
 use Rattle.nc_polynomial.specs.Collected.{coefficient_in}
 use Rattle.cofactor_checker.specs.Running.{IsSumOf}
 use Rattle.cofactor_checker.specs.Operations.{adding_operations, row_operations}
-use Rattle.cofactor_checker.specs.Rows.{term_count, IsNumberUpTo, RowPasses, RowsPass, Reaches, LacksGenerator, Overflows, Outgrows}
+use Rattle.cofactor_checker.specs.Rows.{term_count, IsNumberUpTo, RowPasses, RowsPass, Reaches}
+use Rattle.cofactor_checker.specs.RowRefusals.{StopsAt, lacks, overflows, outgrows}
+use Rattle.cofactor_checker.specs.declared.refusal.Refusal.{Refusal}
+use Rattle.cofactor_checker.specs.declared.refusal.Refusal.TheVariants as refusal
 use Rattle.cofactor_checker.specs.Table.{Table, coefficient_at, IsTable, Adds}
 use Rattle.cofactor_checker.proofs.Counts.{len-term_count}
 
@@ -41,11 +40,11 @@ pub record SumsUpTo (generators : List (List (ℤ × List ℕ))) (rows : List Ro
   pub sum : (w : List ℕ) → coefficient_at m w ≡ coefficient_of (row_sum generators (take i rows)) w
   pub passed : RowsPass generators rows i
 
--- The turn of the row with this number: it stands behind the first i rows, whose sum is the table.
-pub record IsNext (generators : List (List (ℤ × List ℕ))) (rows : List Row) (m : Table) (number i : ℕ) (r : Row) : Type 0 where
-  pub numbered : number ≡ i + 1
-  pub there : slice_get rows i ≡ Some r
-  pub so_far : SumsUpTo generators rows m i
+-- The turn of the row with this number, where so many stand before the list: it stands behind the first i rows, whose sum is the table.
+pub record IsNext (generators : List (List (ℤ × List ℕ))) {X : Type 0} (as_row : X → Row) (items : List X) (m : Table) (before number i : ℕ) (x : X) : Type 0 where
+  pub counted : number ≡ before + (i + 1)
+  pub there : slice_get items i ≡ Some x
+  pub so_far : SumsUpTo generators (map as_row items) m i
 
 -- The row is over a generator, and is added to one table, which gives the other.
 pub record IsAdded (generators : List (List (ℤ × List ℕ))) (m n : Table) (r : Row) : Type 0 where
@@ -55,20 +54,31 @@ pub record IsAdded (generators : List (List (ℤ × List ℕ))) (m n : Table) (r
   pub adds : Adds m n (row_poly generators r)
   pub unique : IsUnique word_eq n
 
-module _ {generators : List (List (ℤ × List ℕ))} {rows : List Row} {m : Table} {number i : ℕ} {r : Row} (next : IsNext generators rows m number i r) where
-  reached : Reaches generators rows number i r
-  reached = record { numbered = next.numbered; row = next.there; earlier = next.so_far.passed }
+module _ {generators : List (List (ℤ × List ℕ))} {X : Type 0} {as_row : X → Row} {items : List X} {m : Table} {before number i : ℕ} {x : X} (tell : ℕ → X → Refusal) (next : IsNext generators as_row items m before number i x) where
+  abbrev rows : List Row
+  rows = map as_row items
+
+  abbrev r : Row
+  r = as_row x
+
+  row_there : slice_get rows i ≡ Some r
+  row_there = slice_get-map as_row items i ∙ ap (option_map as_row) next.there
+
+  reached : Reaches generators rows (i + 1) i r
+  reached = record { numbered = refl; row = row_there; earlier = next.so_far.passed }
 
   -- the operations by what the table has
   operations_are : adding_operations (coefficient_at m) r.coefficient r.left (generator_at generators r.generator) r.right ≡ row_operations generators rows i r
   operations_are = ap (λ (f : List ℕ → ℤ). adding_operations f r.coefficient r.left (generator_at generators r.generator) r.right) (λ k w. next.so_far.sum w k)
 
-  pub lacks_generator : (IsNumberUpTo (length generators) r.generator → ⊥) → LacksGenerator generators rows number
-  lacks_generator none = record { before = i; row = r; reached = reached; generator = none }
+  pub stops_lacking : (IsNumberUpTo (length generators) r.generator → ⊥) → StopsAt generators as_row tell (λ n. before + n) items (tell number x)
+  stops_lacking none = lacks (i + 1) x (ap (λ n. tell n x) next.counted) (record { before = i; row = r; reached = reached; generator = none }) next.there
 
-  pub overflows : {o : Overflow} → IsNumberUpTo (length generators) r.generator
-      → first_overflow (adding_operations (coefficient_at m) r.coefficient r.left (generator_at generators r.generator) r.right) ≡ Some o → Overflows generators rows number o
-  overflows generator first = record { before = i; row = r; reached = reached; generator = generator; operations = sym (ap first_overflow operations_are) ∙ first }
+  pub stops_overflowing : {o : Overflow} → IsNumberUpTo (length generators) r.generator
+      → first_overflow (adding_operations (coefficient_at m) r.coefficient r.left (generator_at generators r.generator) r.right) ≡ Some o
+      → StopsAt generators as_row tell (λ n. before + n) items (refusal.Overflow number o)
+  stops_overflowing {o = o} generator first =
+      overflows (i + 1) o (ap (λ n. refusal.Overflow n o) next.counted) (record { before = i; row = r; reached = reached; generator = generator; operations = sym (ap first_overflow operations_are) ∙ first })
 
   module _ {n : Table} (added : IsAdded generators m n r) where
     operations_pass : first_overflow (row_operations generators rows i r) ≡ None
@@ -78,13 +88,14 @@ module _ {generators : List (List (ℤ × List ℕ))} {rows : List Row} {m : Tab
     sum_more : (w : List ℕ) → coefficient_at n w ≡ coefficient_of (row_sum generators (take (i + 1) rows)) w
     sum_more w =
         added.adds.at w ∙ ap (λ k. k +ℤ coefficient_of (row_poly generators r) w) (next.so_far.sum w) ∙ sym (row_sum-push generators (take i rows) r w)
-        ∙ ap (λ rs. coefficient_of (row_sum generators rs) w) (sym (take_more rows i r (slice_get_within rows i r next.there) ∙ ap (λ x. take i rows ++ x ∷ []) (get_or_from_slice_get rows i r r next.there)))
+        ∙ ap (λ rs. coefficient_of (row_sum generators rs) w) (sym (take_more rows i r (slice_get_within rows i r row_there) ∙ ap (λ x. take i rows ++ x ∷ []) (get_or_from_slice_get rows i r r row_there)))
 
     size_is : hash_map_len n ≡ term_count (row_sum generators (take (i + 1) rows))
     size_is = len-term_count n (row_sum generators (take (i + 1) rows)) added.unique added.kept sum_more
 
-    pub outgrows : 200000 < hash_map_len n → Outgrows generators rows number
-    outgrows large = record { before = i; row = r; reached = reached; generator = added.generator; operations = operations_pass; size = subst (λ k. 200000 < k) size_is large }
+    pub stops_outgrown : 200000 < hash_map_len n → StopsAt generators as_row tell (λ n. before + n) items (refusal.Size number)
+    stops_outgrown large =
+        outgrows (i + 1) (ap refusal.Size next.counted) (record { before = i; row = r; reached = reached; generator = added.generator; operations = operations_pass; size = subst (λ k. 200000 < k) size_is large })
 
     pub passes : hash_map_len n ≤ 200000 → SumsUpTo generators rows n (i + 1)
     passes small = record { kept = added.kept; sum = sum_more; passed = record { at = each } }
@@ -96,24 +107,9 @@ module _ {generators : List (List (ℤ × List ℕ))} {rows : List Row} {m : Tab
         each j s below at = by (cases_eq j i)
           where
             by : (j ≡ i) ⊎ (j ≡ i → ⊥) → RowPasses generators rows j s
-            by (inl last) = let there = next.there in let same : s ≡ r = cc in subst (λ k. RowPasses generators rows k s) (sym last) (subst (RowPasses generators rows i) (sym same) here)
+            by (inl last) = let there = row_there in let same : s ≡ r = cc in subst (λ k. RowPasses generators rows k s) (sym last) (subst (RowPasses generators rows i) (sym same) here)
             by (inr earlier) = next.so_far.passed.at j s (omega arith) at
 
--- before the first row
-pub begins : (generators : List (List (ℤ × List ℕ))) (rows : List Row) (m : Table) → IsEmpty m → SumsUpTo generators rows m 0
-begins generators rows m empty = record {
-  kept = record {
-    nonzero = λ w there. let none = absent w in (cc);
-    in_range = λ w. subst IsCoefficient (sym (ap (λ o. unwrap_or o (pos 0)) (absent w))) (omega arith);
-  };
-  sum = λ w. ap (λ o. unwrap_or o (pos 0)) (absent w);
-  passed = record { at = λ i r below there. absurd (omega arith) };
-}
-  where
-    absent : (w : List ℕ) → get word_eq m w ≡ None
-    absent w = ap (lookup (word_eq w)) empty
-
--- behind the last one
 module _ {generators : List (List (ℤ × List ℕ))} {rows : List Row} {m : Table} {i : ℕ} (so_far : SumsUpTo generators rows m i) (all : length rows ≤ i) where
   pub whole_sum : (sum : BTreeMap (List ℕ) ℤ) → ((w : List ℕ) → coefficient_in sum w ≡ coefficient_at m w) → IsSumOf sum (row_sum generators rows)
   whole_sum sum same = record { at = λ w. same w ∙ so_far.sum w ∙ ap (λ rs. coefficient_of (row_sum generators rs) w) (take_all i rows all) }
@@ -121,14 +117,10 @@ module _ {generators : List (List (ℤ × List ℕ))} {rows : List Row} {m : Tab
   pub all_pass : RowsPass generators rows (length rows)
   all_pass = record { at = λ j r below there. so_far.passed.at j r (omega arith) there }
 
--- a row of the certificate
-pub row_there : (rows : List CertRow) (i : ℕ) (row : CertRow) → i < length rows → row ≡ get_or rows i row → slice_get (rows_of rows) i ≡ Some (row_of row)
-row_there rows i row below is = slice_get-map row_of rows i ∙ ap (option_map row_of) (slice_get_read rows (length rows) i row refl below is)
-
 -- the item with a number
-pub generator_at-numbered : (ps : List Poly) (n : ℕ) (p : Poly) → IsNumberUpTo (length ps) n → slice_get ps (n - 1) ≡ Some p → generator_at (polynomials ps) n ≡ p.terms
-generator_at-numbered ps zero p numbered there = absurd (omega arith)
-generator_at-numbered ps (suc k) p numbered there =
+pub generator_at_numbered : (ps : List Poly) (n : ℕ) (p : Poly) → IsNumberUpTo (length ps) n → slice_get ps (n - 1) ≡ Some p → generator_at (polynomials ps) n ≡ p.terms
+generator_at_numbered ps zero p numbered there = absurd (omega arith)
+generator_at_numbered ps (suc k) p numbered there =
     let place : suc k - 1 ≡ k = omega arith in
     get_or_from_slice_get (polynomials ps) k p.terms [] (slice_get-map (λ (q : Poly). q.terms) ps k ∙ ap (λ j. option_map (λ (q : Poly). q.terms) (slice_get ps j)) (sym place) ∙ ap (option_map (λ (q : Poly). q.terms)) there)
 
@@ -143,5 +135,5 @@ pub record Names (ps : List Poly) (n : ℕ) (p : Poly) : Type 0 where
 pub named : (ps : List Poly) (n : ℕ) (p : Poly) → IsNumberUpTo (length ps) n → slice_get ps (n - 1) ≡ Some p → Names ps n p
 named ps n p number there = record {
   number = subst (λ k. IsNumberUpTo k n) (sym (length-polynomials ps)) number;
-  terms = sym (generator_at-numbered ps n p number there);
+  terms = sym (generator_at_numbered ps n p number there);
 }

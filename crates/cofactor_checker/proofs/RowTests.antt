@@ -15,8 +15,8 @@ use Rattle.traced_rows.specs.Rows.{row_of, rows_of}
 use Rattle.lists.proofs.Decided.{IsDecided, decided_by, both_decided, le_decided}
 use Rattle.lists.proofs.FirstFailure.{HasOneOutcome, PassUpTo, FailsFirst, one_test, value_test, then_test, item_test, tests_up_to, reworded}
 use Rattle.cofactor_checker.specs.Operations.{row_operations}
-use Rattle.cofactor_checker.specs.Rows.{term_count, sum_limit, IsNumberUpTo, RowPasses, RowsPass, Reaches, LacksGenerator, Overflows, Outgrows}
-use Rattle.cofactor_checker.specs.RowRefusals.{RefusesRow}
+use Rattle.cofactor_checker.specs.Rows.{term_count, sum_limit, IsNumberUpTo, RowPasses, RowsPass, Reaches, LacksGenerator}
+use Rattle.cofactor_checker.specs.RowRefusals.{StopsAt, lacks, overflows, outgrows, memory, tell_generator, tell_lacking}
 use Rattle.cofactor_checker.specs.PlainRows.{plain_row, plain_rows, plain_sum, IsGenerator, IsLemma}
 use Rattle.cofactor_checker.specs.Lemmas.{LemmaRowsPass, RefusesLemmaRows}
 use Rattle.cofactor_checker.specs.Acceptance.{IsMemory}
@@ -38,10 +38,8 @@ module _ (all : List Poly) {X : Type 0} (as_row : X → Row) (tell : ℕ → X �
   abbrev rows : List Row
   rows = map as_row items
 
-  pub data StopsAt (e : Refusal) : Type 0 where
-    lacks : (n : ℕ) (x : X) → e ≡ tell (numbers n) x → (h : LacksGenerator all rows n) → slice_get items h.before ≡ Some x → StopsAt e
-    overflows : (n : ℕ) (o : Overflow) → e ≡ refusal.Overflow (numbers n) o → Overflows all rows n o → StopsAt e
-    outgrows : (n : ℕ) → e ≡ refusal.Size (numbers n) → Outgrows all rows n → StopsAt e
+  abbrev Stops : Refusal → Type 0
+  Stops = StopsAt all as_row tell numbers items
 
   -- the tests of a row
   abbrev HasPlace : Row → Type 0
@@ -93,7 +91,7 @@ module _ (all : List Poly) {X : Type 0} (as_row : X → Row) (tell : ℕ → X �
   pass_here : (n : ℕ) → RowsPass all rows n → PassUpTo PassesAt n
   pass_here n pass = record { at = λ i below x there. let h = pass.at i (as_row x) below (as_item i x there) in (h.generator, (h.operations, h.size)) }
 
-  stops_at : (e : Refusal) → FailsFirst PassesAt FailsAt (length items) e → StopsAt e
+  stops_at : (e : Refusal) → FailsFirst PassesAt FailsAt (length items) e → Stops e
   stops_at e h = by h.fails.2
     where
       x : X
@@ -102,7 +100,7 @@ module _ (all : List Poly) {X : Type 0} (as_row : X → Row) (tell : ℕ → X �
       reached : Reaches all rows (h.number + 1) h.number (as_row x)
       reached = record { numbered = refl; row = as_item h.number x h.fails.1; earlier = passed h.number h.earlier }
 
-      by : RowFails h.number x e → StopsAt e
+      by : RowFails h.number x e → Stops e
       by (inl (is, none)) = lacks (h.number + 1) x is (record { before = h.number; row = as_row x; reached = reached; generator = none }) h.fails.1
       by (inr (place, inl (o, is, first))) = overflows (h.number + 1) o is (record { before = h.number; row = as_row x; reached = reached; generator = place; operations = first })
       by (inr (place, inr (fits, (is, large)))) =
@@ -114,55 +112,44 @@ module _ (all : List Poly) {X : Type 0} (as_row : X → Row) (tell : ℕ → X �
       by : ((x : X) × (slice_get items i ≡ Some x) × (as_row x ≡ r)) → FailsFirst PassesAt FailsAt (length items) e
       by (x, there, is) = record { number = i; inside = slice_get_within items i x there; earlier = pass_here i reached.earlier; fails = (x, there, fails x there is reached.numbered) }
 
-  fails_first : (e : Refusal) → StopsAt e → FailsFirst PassesAt FailsAt (length items) e
-  fails_first e (lacks n x is h there) =
+  fails_first : (e : Refusal) → Stops e → (IsMemory e → ⊥) → FailsFirst PassesAt FailsAt (length items) e
+  fails_first e (memory free) not = absurd (not free)
+  fails_first e (lacks n x is h there) not =
       stopped n h.before h.row e h.reached
       (λ y at same numbered. let one : x ≡ y = one_item h.before x y there at in
       inl (is ∙ (λ i. tell (numbers (numbered i)) (one i)), λ place. h.generator (subst HasPlace same place)))
     where
       one_item : (i : ℕ) (x y : X) → slice_get items i ≡ Some x → slice_get items i ≡ Some y → x ≡ y
       one_item i x y one other = cc
-  fails_first e (overflows n o is h) =
+  fails_first e (overflows n o is h) not =
       stopped n h.before h.row e h.reached
       (λ y at same numbered. inr (subst HasPlace (sym same) h.generator, inl (o, is ∙ ap (λ k. refusal.Overflow (numbers k) o) numbered, ap (λ r. first_overflow (row_operations all rows h.before r)) same ∙ h.operations)))
-  fails_first e (outgrows n is h) =
+  fails_first e (outgrows n is h) not =
       stopped n h.before h.row e h.reached
       (λ y at same numbered. inr (subst HasPlace (sym same) h.generator, inr (ap (λ r. first_overflow (row_operations all rows h.before r)) same ∙ h.operations, (is ∙ ap (λ k. refusal.Size (numbers k)) numbered, λ small. let large = h.size in omega (arith, small, large)))))
 
-  pub rows_outcome : HasOneOutcome IsMemory (RowsPass all rows (length rows)) StopsAt
+  pub rows_outcome : HasOneOutcome IsMemory (RowsPass all rows (length rows)) Stops
   rows_outcome =
       reworded memory_decided (λ pass. passed (length rows) (subst (PassUpTo PassesAt) (sym (length-map items as_row)) pass)) (λ pass. subst (PassUpTo PassesAt) (length-map items as_row) (pass_here (length rows) pass))
-      (λ e h not. stops_at e h) (λ e h not. fails_first e h)
+      (λ e h not. stops_at e h) fails_first
       (tests_up_to PassesAt FailsAt (length items) (λ i inside earlier. item_test items i inside (λ x there. row_outcome i x)))
 
 -- the rows of a certificate
 module _ (generators : List Poly) (rows : List CertRow) where
-  abbrev tell_generator : ℕ → CertRow → Refusal
-  tell_generator n row = refusal.NoSuchGenerator n
+  -- none stand before
+  pub from_start : (e : Refusal) → StopsAt generators row_of tell_generator (λ n. 0 + n) rows e → StopsAt generators row_of tell_generator (λ n. n) rows e
+  from_start e = subst (λ f. StopsAt generators row_of tell_generator f rows e) (λ i n. add_idl n i)
+    where
+      add_idl : (n : ℕ) → 0 + n ≡ n
+      add_idl n = omega arith
 
-  abbrev Stops : Refusal → Type 0
-  Stops = StopsAt generators row_of tell_generator (λ n row none. none) (λ n. n) rows
+  pub stops_lacking : (n : ℕ) → LacksGenerator generators (rows_of rows) n → StopsAt generators row_of tell_generator (λ n. n) rows (refusal.NoSuchGenerator n)
+  stops_lacking n h = let item = item_of generators row_of tell_generator (λ n row none. none) (λ n. n) rows h.before h.row h.reached.row in lacks n item.0 refl h item.1
 
-  told : (e : Refusal) → Stops e → RefusesRow generators (rows_of rows) e
-  told e (lacks n x is h there) = subst (RefusesRow generators (rows_of rows)) (sym is) h
-  told e (overflows n o is h) = subst (RefusesRow generators (rows_of rows)) (sym is) h
-  told e (outgrows n is h) = subst (RefusesRow generators (rows_of rows)) (sym is) h
-
-  stops : (e : Refusal) → RefusesRow generators (rows_of rows) e → (IsMemory e → ⊥) → Stops e
-  stops (refusal.NoSuchGenerator n) h not = let item = item_of generators row_of tell_generator (λ n row none. none) (λ n. n) rows h.before h.row h.reached.row in lacks n item.0 refl h item.1
-  stops (refusal.Overflow n o) h not = overflows n o refl h
-  stops (refusal.Size n) h not = outgrows n refl h
-  stops (refusal.Memory failed) h not = absurd (not tt)
-  stops other h not = absurd h
-
-  pub certificate_rows : HasOneOutcome IsMemory (RowsPass generators (rows_of rows) (length (rows_of rows))) (RefusesRow generators (rows_of rows))
-  certificate_rows = reworded memory_decided (λ pass. pass) (λ pass. pass) (λ e h not. told e h) stops (rows_outcome generators row_of tell_generator (λ n row none. none) (λ n. n) rows)
+  pub certificate_rows : HasOneOutcome IsMemory (RowsPass generators (rows_of rows) (length (rows_of rows))) (StopsAt generators row_of tell_generator (λ n. n) rows)
+  certificate_rows = rows_outcome generators row_of tell_generator (λ n row none. none) (λ n. n) rows
 
 -- the rows of a lemma or of the goal
-abbrev tell_lacking : CertFrom → ℕ → Refusal
-tell_lacking (cert.Generator n) row = refusal.NoSuchGenerator row
-tell_lacking (cert.Lemma n) row = refusal.NoSuchLemma row
-
 no_memory : (from : CertFrom) (n : ℕ) → IsMemory (tell_lacking from n) → ⊥
 no_memory (cert.Generator n) row none = none
 no_memory (cert.Lemma n) row none = none
@@ -183,17 +170,19 @@ module _ (gs ls : List Poly) (before : ℕ) (rows : List LemmaRow) where
   tell_item n row = tell_lacking row.from n
 
   abbrev StopsLemma : Refusal → Type 0
-  StopsLemma = StopsAt (gs ++ ls) plain tell_item (λ n row. no_memory row.from n) (λ n. before + n) rows
+  StopsLemma = StopsAt (gs ++ ls) plain tell_item (λ n. before + n) rows
 
   told_lacking : (n : ℕ) (row : LemmaRow) (h : LacksGenerator (gs ++ ls) (plain_rows gs ls rows) n) → slice_get rows h.before ≡ Some row → (from : CertFrom) → row.from ≡ from
       → RefusesLemmaRows gs ls before rows (tell_lacking from (before + n))
   told_lacking n row h there (cert.Generator k) is = record { in_lemma = n; counted = refl; lacks = h; row = row; there = there; named = subst IsGenerator (sym is) tt }
   told_lacking n row h there (cert.Lemma k) is = record { in_lemma = n; counted = refl; lacks = h; row = row; there = there; named = subst IsLemma (sym is) tt }
 
-  told_of_lemma : (e : Refusal) → StopsLemma e → RefusesLemmaRows gs ls before rows e
+  pub told_of_lemma : (e : Refusal) → StopsLemma e → RefusesLemmaRows gs ls before rows e
   told_of_lemma e (lacks n row is h there) = subst (RefusesLemmaRows gs ls before rows) (sym is) (told_lacking n row h there row.from refl)
   told_of_lemma e (overflows n o is h) = subst (RefusesLemmaRows gs ls before rows) (sym is) (record { in_lemma = n; counted = refl; overflows = h })
   told_of_lemma e (outgrows n is h) = subst (RefusesLemmaRows gs ls before rows) (sym is) (record { in_lemma = n; counted = refl; outgrows = h })
+  told_of_lemma (refusal.Memory failed) (memory free) = tt
+  told_of_lemma other (memory free) = absurd free
 
   stops_lemma : (e : Refusal) → RefusesLemmaRows gs ls before rows e → (IsMemory e → ⊥) → StopsLemma e
   stops_lemma (refusal.NoSuchGenerator n) h not = lacks h.in_lemma h.row (lacking_generator h.row.from h.named n (before + h.in_lemma) h.counted) h.lacks h.there

@@ -1,13 +1,14 @@
 pub mod Operations
 pub mod Rows
-pub mod RowRefusals
 pub mod Acceptance
+pub mod RowRefusals
 pub mod Running
 pub mod Table
 pub mod Difference
 pub mod PlainRows
 pub mod Lemmas
 pub mod LemmaAcceptance
+pub mod Starts
 pub mod Goals
 pub mod Evidence
 pub mod Laws

@@ -14,6 +14,10 @@ place_of generators lemmas (cert.Lemma n) = if nat_lt 0 n && nat_le n lemmas the
 abbrev pub plain_row : ℕ → ℕ → LemmaRow → Row
 plain_row generators lemmas r = record { coefficient = r.coef; left = r.left; generator = place_of generators lemmas r.from; right = r.right }
 
+-- the same, of the lists that the row is over
+abbrev pub row_over : List Poly → List Poly → LemmaRow → Row
+row_over generators lemmas = plain_row (length generators) (length lemmas)
+
 abbrev pub plain_rows : List Poly → List Poly → List LemmaRow → List Row
 plain_rows generators lemmas rows = map (plain_row (length generators) (length lemmas)) rows
 

@@ -68,7 +68,8 @@ pub fn check_over(
     if let Some(overflow) = overflow_of_multiple(denominator, claim.terms.as_slice()) {
         return Err(Refusal::Overflow { row: 0, overflow });
     }
-    let sum = add_rows(alloc, generators, certificate.rows.as_slice())?;
+    let rows = certificate.rows.as_slice();
+    let sum = add_rows(alloc, generators, &[], rows, 0)?;
     match least_difference(&sum, denominator, claim.terms.as_slice()) {
         Ok(None) => Ok(Accepted {
             claim: certificate.claim,

@@ -8,7 +8,7 @@ ghost use Rattle.cofactor_checker.specs.LemmaAcceptance.{HasScale, IsRanged};
 
 use crate::Refusal;
 use crate::compare::least_difference;
-use crate::lemma_rows::add_lemma_rows;
+use crate::rows::add_rows;
 use nc_polynomial::Poly;
 use std::alloc::Global;
 use traced_rows::Lemma;
@@ -31,7 +31,7 @@ pub fn check_goal(
     ensures refused { IfErr result (RefusesGoal (polynomials generators.now) (polynomials lemmas.now) before goal.now claim.now.terms) }
 {
     let rows = goal.rows.as_slice();
-    let sum = add_lemma_rows(alloc, generators, lemmas, rows, before)?;
+    let sum = add_rows(alloc, generators, lemmas, rows, before)?;
     match least_difference(&sum, goal.scale, claim.terms.as_slice())? {
         None => Ok(()),
         Some(difference) => Err(Refusal::Differs {

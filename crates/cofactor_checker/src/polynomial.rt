@@ -5,7 +5,7 @@ ghost use Rattle.cofactor_checker.specs.Lemmas.{HasLeastIndivisible, IsDivisible
 ghost use Rattle.cofactor_checker.specs.LemmaAcceptance.{HasScale, IsRanged};
 
 use crate::Refusal;
-use crate::lemma_rows::add_lemma_rows;
+use crate::rows::add_rows;
 use crate::scales::divides;
 use nc_polynomial::table::descending;
 use nc_polynomial::{Poly, PolyFault};
@@ -46,7 +46,8 @@ pub fn make_polynomial(
     ensures made { OnOk result (IsMade (polynomials generators.now) (polynomials lemmas.now) lemma.now) }
     ensures refused { IfErr result (RefusesLemma (polynomials generators.now) (polynomials lemmas.now) before lemma.now) }
 {
-    let sum = add_lemma_rows(alloc, generators, lemmas, lemma.rows.as_slice(), before)?;
+    let rows = lemma.rows.as_slice();
+    let sum = add_rows(alloc, generators, lemmas, rows, before)?;
     let terms = descending(alloc, sum)?;
     if let Some(term) = indivisible(terms.as_slice(), lemma.scale) {
         return Err(Refusal::NotDivisible {

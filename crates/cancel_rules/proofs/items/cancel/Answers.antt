@@ -11,7 +11,7 @@ use Rattle.cancel_rules.specs.declared.cancellation.Cancellation.{Cancellation}
 use Rattle.cancel_rules.specs.Items.{stripped, HasAtEnd, IsTypedItem}
 use Rattle.cancel_rules.specs.Inner.{MarksDeclared}
 use Rattle.quiver.specs.Over.{IsPolyOver}
-use Rattle.cancel_rules.proofs.Divides.{clash}
+use Rattle.cofactor_checker.proofs.Each.{clash}
 use Rattle.cancel_rules.proofs.Found.{holds_there, some_object}
 use Rattle.cancel_rules.proofs.Without.{stripped_over}
 use Rattle.cancel_rules.proofs.items.cancel.Goals as goal

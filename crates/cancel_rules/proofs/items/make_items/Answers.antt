@@ -24,10 +24,8 @@ returns-then-kept-gt-KEPT_LIMIT-clause-refused c =
     let ps = polynomials c.loop-item.polynomials in
     let x = c.item-item.result in
     let p = c.in_ok-polynomial.polynomial in
-    let list_is : c.as_slice-before.result.now ≡ c.loop-item.polynomials = search rules in
-    let same_there : p.terms ≡ item_polynomial gs (polynomials c.as_slice-before.result.now) x = c.in_ok-polynomial.ensures.polynomial in
-    let same : p.terms ≡ item_polynomial gs ps x = subst (λ b. p.terms ≡ item_polynomial gs (polynomials b) x) list_is same_there in
-    let made : IsMadeItem q proof gs ps x = subst (λ b. IsMadeItem q proof gs (polynomials b) x) list_is (c.in_ok-polynomial.ensures.made proof c.requires.marks) in
+    let same : p.terms ≡ item_polynomial gs ps x = rw (← c.as_slice-before.ensures) c.in_ok-polynomial.ensures.polynomial in
+    let made : IsMadeItem q proof gs ps x = rw (← c.as_slice-before.ensures) (c.in_ok-polynomial.ensures.made proof c.requires.marks) in
     let count : c.terms-kept.result ≡ length p.terms = search rules in
     let large : 1000000 < c.loop-item.kept + c.terms-kept.result = search rules in
     let kept = c.loop-item.invariant.kept in
@@ -48,10 +46,8 @@ loop-item-preserved c =
     let items = c.as_slice-items.result.now in
     let x = c.item-item.result in
     let p = c.in_ok-polynomial.polynomial in
-    let list_is : c.as_slice-before.result.now ≡ c.loop-item.polynomials = search rules in
-    let same_there : p.terms ≡ item_polynomial gs (polynomials c.as_slice-before.result.now) x = c.in_ok-polynomial.ensures.polynomial in
-    let same : p.terms ≡ item_polynomial gs ps x = subst (λ b. p.terms ≡ item_polynomial gs (polynomials b) x) list_is same_there in
-    let made : IsMadeItem q proof gs ps x = subst (λ b. IsMadeItem q proof gs (polynomials b) x) list_is (c.in_ok-polynomial.ensures.made proof c.requires.marks) in
+    let same : p.terms ≡ item_polynomial gs ps x = rw (← c.as_slice-before.ensures) c.in_ok-polynomial.ensures.polynomial in
+    let made : IsMadeItem q proof gs ps x = rw (← c.as_slice-before.ensures) (c.in_ok-polynomial.ensures.made proof c.requires.marks) in
     let count : c.terms-kept.result ≡ length p.terms = search rules in
     let small : c.loop-item.kept + c.terms-kept.result ≤ 1000000 = search rules in
     let kept = c.loop-item.invariant.kept in
@@ -69,8 +65,7 @@ loop-item-preserved c =
       kept = omega arith;
       few = small;
       letters = subst (All (IsPolyOver c.args.problem.now.parts.quiver)) (sym pushed) (All-push (IsPolyOver c.args.problem.now.parts.quiver) before p c.loop-item.invariant.letters c.in_ok-polynomial.ensures.letters);
-      so_far = subst (λ n. ItemsUpTo q proof gs (polynomials c.push.new.self) items (c.loop-item.rows + n) (c.loop-item.item-index + 1)) (sym rows)
-          (subst (λ b. ItemsUpTo q proof gs b items (c.loop-item.rows + rows_in x) (c.loop-item.item-index + 1)) list next);
+      so_far = rw (rows, ← list) next;
     }
 
 pub make_item-requires-clause-scale : goal.make_item-requires-clause-scale

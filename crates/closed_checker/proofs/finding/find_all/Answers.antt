@@ -1,8 +1,7 @@
-use Rattle.std.proofs.Common.{rules, ◌≡◌, ◌<◌, [], length, take, get_or, sym, subst, arith}
-use Rattle.std.proofs.lemmas.List.{take_all}
-use Rattle.closed_checker.specs.Finding.{IsAdded, IsOfFirst, IsOfFirsts}
-use Rattle.closed_checker.proofs.Picked.{added-whole}
-use Rattle.closed_checker.proofs.Walking.{firsts-more}
+use Rattle.std.proofs.Common.{rules, ◌≡◌, ◌<◌, [], length, get_or, sym, arith}
+use Rattle.ambiguities.specs.declared.ambiguity.Ambiguity.{Ambiguity}
+use Rattle.closed_checker.specs.Finding.{IsAdded, IsOfFirst}
+use Rattle.closed_checker.proofs.Walking.{one-more}
 use Rattle.closed_checker.proofs.finding.find_all.Goals as goal
 
 pub loop-first-preserved : goal.loop-first-preserved
@@ -13,10 +12,4 @@ loop-first-preserved c =
     let inside : n < length table = omega arith in
     let here : get_or table n l ≡ l = sym c.first-item.is in
     let made : IsAdded (IsOfFirst table l (λ p. Unit {0})) c.loop-first.found c.push_first.new.found = search rules in
-    firsts-more table c.requires.sorted n l [] c.loop-first.found c.push_first.new.found inside here c.loop-first.invariant made
-
-pub returns : goal.returns
-returns c =
-    let table = c.args.table.now in
-    let all : take c.loop-first.first-index table ≡ table = take_all c.loop-first.first-index table (omega arith) in
-    added-whole (IsOfFirsts table table) c.loop-first.found (subst (λ ts. IsAdded (IsOfFirsts table ts) [] c.loop-first.found) all c.loop-first.invariant)
+    one-more table c.requires.sorted (λ x. IsOfFirst table x (λ p. Unit {0})) (λ (a : Ambiguity). a.i) (λ x a of. of.first_numbered) n l [] c.loop-first.found c.push_first.new.found inside here c.loop-first.invariant made

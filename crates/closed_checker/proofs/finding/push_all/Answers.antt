@@ -1,12 +1,9 @@
 use Rattle.std.proofs.Common.{rules, ◌≡◌, ◌+◌, ◌<◌, true, false, [], ◌∷◌, ◌++◌, length, take, get_or, sym, ◌∙◌, subst, arith}
 use Rattle.ambiguities.specs.Listed.{ambiguity_at}
 use Rattle.closed_checker.specs.Finding.{IsAdded, IsWith}
-use Rattle.closed_checker.proofs.Walking.{with-start, with-met, with-apart}
+use Rattle.closed_checker.proofs.Walking.{with-met, with-apart}
 use Rattle.closed_checker.proofs.finding.push_all.Goals as goal
 use Rattle.closed_checker.proofs.finding.push_all.Goals.{then-may_meet+in_ok-push, else-may_meet}
-
-pub loop-second-init : goal.loop-second-init
-loop-second-init c = with-start c.args.seconds.now c.requires c.args.first c.args.kind c.args.place c.args.found.now
 
 pub loop-second-preserved : goal.loop-second-preserved
 loop-second-preserved c =

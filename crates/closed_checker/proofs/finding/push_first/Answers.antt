@@ -1,10 +1,7 @@
 use Rattle.std.proofs.Common.{rules, ◌≡◌, ◌≤◌, length}
 use Rattle.closed_checker.specs.Finding.{IsAdded, IsOfFirst}
-use Rattle.closed_checker.proofs.Walking.{places-none, places-more, places-all}
+use Rattle.closed_checker.proofs.Walking.{places-more, places-all}
 use Rattle.closed_checker.proofs.finding.push_first.Goals as goal
-
-pub loop-place-init : goal.loop-place-init
-loop-place-init c = places-none c.args.table.now c.args.first.now c.args.found.now
 
 pub loop-place-preserved : goal.loop-place-preserved
 loop-place-preserved c =

@@ -1,4 +1,4 @@
-use Rattle.std.proofs.Common.{◌-◌, take, drop}
+use Rattle.std.proofs.Common.{take, drop}
 use Rattle.ambiguities.specs.Listed.{ListsExactly}
 use Rattle.closed_checker.specs.Finding.{IsAdded}
 use Rattle.closed_checker.specs.Table.{StandsBefore}
@@ -6,8 +6,8 @@ use Rattle.closed_checker.proofs.Walking.{IsLonger, IsIncluded}
 use Rattle.closed_checker.proofs.finding.push_place.Given as goal
 
 -- the words that begin with the letters that were passed and are longer, and the inclusions of those that aren't
-abbrev pub invariant-loop-end : goal.invariant-loop-end
-invariant-loop-end l = record {
-  walked : ListsExactly StandsBefore (IsLonger l.table (take (l.end - l.place) (drop l.place l.first.letters))) l.longer;
-  added : IsAdded (IsIncluded l.table l.first l.place (l.end - l.place)) l.fn.found l.found;
+abbrev pub invariant-loop-depth : goal.invariant-loop-depth
+invariant-loop-depth l = record {
+  walked : ListsExactly StandsBefore (IsLonger l.table (take l.depth (drop l.place l.first.letters))) l.longer;
+  added : IsAdded (IsIncluded l.table l.first l.place l.depth) l.fn.found l.found;
 }

@@ -8,12 +8,12 @@ use Rattle.nc_polynomial.specs.Terms.{products}
 use Rattle.traced_rows.specs.Rows.{rows_of}
 use Rattle.adjoint_rules.specs.Problem.{polynomials}
 use Rattle.cofactor_checker.specs.Acceptance.{AddsUp, Accepts, SumDiffers, Refuses}
-use Rattle.cofactor_checker.specs.RowRefusals.{RefusesRow}
 use Rattle.cofactor_checker.specs.declared.refusal.Refusal.TheVariants as refusal
 use Rattle.cofactor_checker.specs.Running.{IsSumOf}
 use Rattle.cofactor_checker.proofs.Judged.{accepted_is_not_refused}
 use Rattle.cofactor_checker.proofs.Outcomes.{posed, begins, refuses_from_row, sums_agree, sums_differ, combination_from_accepts}
 use Rattle.cofactor_checker.proofs.RowSums.{Names, named}
+use Rattle.cofactor_checker.proofs.RowTests.{from_start}
 use Rattle.cofactor_checker.proofs.certificate.check_over.Goals as goal
 use Rattle.cofactor_checker.proofs.certificate.check_over.Goals.{In-Some, In_ok-sum}
 
@@ -40,8 +40,8 @@ pub returns-in_err-sum : goal.returns-in_err-sum
 returns-in_err-sum c =
     let e = c.in_err-sum.field-0.0 in
     let back : c.from_residual.result ≡ Err e = search rules in
-    let of_row : RefusesRow (polynomials c.args.generators.now) (rows_of c.args.certificate.now.rows) e = search rules in
-    let refused = refuses_from_row (polynomials c.args.generators.now) (begins (claim (goal.at.returns-in_err-sum c).In-Some) (search rules) (search rules)) e of_row in
+    let of_row = from_start (polynomials c.args.generators.now) c.args.certificate.now.rows e (rw (← c.as_slice-rows.ensures) c.in_err-sum.ensures.refused) in
+    let refused = refuses_from_row (begins (claim (goal.at.returns-in_err-sum c).In-Some) (search rules) (search rules)) e of_row in
     rw back (record { accepted = tt; accepts = tt; combination = tt; refuses = refused; complete = λ accepted. accepted_is_not_refused accepted e refused })
 
 pub returns-in-Ok-None : goal.returns-in-Ok-None

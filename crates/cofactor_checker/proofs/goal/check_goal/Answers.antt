@@ -1,11 +1,11 @@
-use Rattle.std.proofs.Common.{rules, ◌≡◌, Err, subst, sym, refl, to_z, of_z, All}
+use Rattle.std.proofs.Common.{rules, ◌≡◌, Err, refl, to_z, of_z}
 use mir.Syntax.{w128}
-use Rattle.coef_int.specs.Range.{IsCoefficient}
 use Rattle.adjoint_rules.specs.Problem.{polynomials}
 use Rattle.cofactor_checker.specs.Running.{IsSumOf}
 use Rattle.cofactor_checker.specs.PlainRows.{plain_sum}
 use Rattle.cofactor_checker.specs.Lemmas.{LemmaRowsPass, RefusesLemmaRows}
 use Rattle.cofactor_checker.proofs.LemmaOutcomes.{goal_from_rows}
+use Rattle.cofactor_checker.proofs.RowTests.{told_of_lemma}
 use Rattle.cofactor_checker.proofs.Outcomes.{sums_agree, sums_differ}
 use Rattle.cofactor_checker.proofs.goal.check_goal.Goals as goal
 use Rattle.cofactor_checker.proofs.goal.check_goal.Goals.{In_ok-sum}
@@ -23,7 +23,7 @@ returns-in_err-sum-clause-refused c =
     let ls = polynomials c.args.lemmas.now in
     let e = c.in_err-sum.field-0.0 in
     let back : c.from_residual.result ≡ Err e = search rules in
-    let of_rows : RefusesLemmaRows gs ls c.args.before c.args.goal.now.rows e = rw (← c.as_slice-rows.ensures) c.in_err-sum.ensures.refused in
+    let of_rows : RefusesLemmaRows gs ls c.args.before c.args.goal.now.rows e = rw (← c.as_slice-rows.ensures) (told_of_lemma gs ls c.args.before c.as_slice-rows.result.now e c.in_err-sum.ensures.refused) in
     rw back (goal_from_rows gs ls c.args.before c.args.goal.now c.args.claim.now.terms e of_rows)
 
 pub returns-in-None-clause-reaches : goal.returns-in-None-clause-reaches
@@ -38,12 +38,3 @@ returns-clause-refused c =
     let want_is : to_z w128 (of_z w128 d.want) ≡ d.want = search rules in
     let got_is : to_z w128 (of_z w128 d.got) ≡ d.got = search rules in
     rw (want_is, got_is) (record { rows = passed passed_to.In_ok-sum; difference = sums_differ c.args.goal.now.scale (sum passed_to.In_ok-sum) refl (search rules) })
-
-pub add_lemma_rows-requires-clause-count : goal.add_lemma_rows-requires-clause-count
-add_lemma_rows-requires-clause-count c = rw (c.as_slice-rows.ensures) c.requires.count
-
-pub add_lemma_rows-requires-clause-coefficients : goal.add_lemma_rows-requires-clause-coefficients
-add_lemma_rows-requires-clause-coefficients c = subst (λ rows. All (λ r. IsCoefficient r.coef) rows) (sym c.as_slice-rows.ensures) c.requires.ranged.rows
-
-pub least_difference-requires-clause-running : goal.least_difference-requires-clause-running
-least_difference-requires-clause-running c = c.in_ok-sum.ensures.running

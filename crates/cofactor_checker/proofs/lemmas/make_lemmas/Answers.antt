@@ -1,9 +1,9 @@
-use Rattle.std.proofs.Common.{rules, ◌≡◌, ◌+◌, ◌<◌, ◌≤◌, ◌++◌, [], ◌∷◌, length, sym, ap, subst, ◌∙◌, arith}
+use Rattle.std.proofs.Common.{rules, ◌≡◌, ◌+◌, ◌<◌, ◌≤◌, ◌++◌, [], ◌∷◌, length, sym, ap, ◌∙◌, arith}
 use Rattle.std.proofs.lemmas.List.{length-append}
 use Rattle.adjoint_rules.specs.Problem.{polynomials}
 use Rattle.cofactor_checker.specs.Lemmas.{lemma_polynomial, term_total, IsMade, LemmaPasses}
 use Rattle.cofactor_checker.specs.declared.refusal.Refusal.TheVariants as refusal
-use Rattle.cofactor_checker.proofs.LemmaSteps.{LemmasUpTo, refuse_here, goes_on, polynomials_more, total_more}
+use Rattle.cofactor_checker.proofs.LemmaSteps.{refuse_here, goes_on, polynomials_more, total_more}
 use Rattle.cofactor_checker.proofs.lemmas.make_lemmas.Goals as goal
 
 pub returns-then-kept-gt-KEPT_LIMIT-clause-refused : goal.returns-then-kept-gt-KEPT_LIMIT-clause-refused
@@ -13,9 +13,7 @@ returns-then-kept-gt-KEPT_LIMIT-clause-refused c =
     let l = c.lemma-item.result in
     let p = c.in_ok-polynomial.polynomial in
     let same : p.terms ≡ lemma_polynomial gs ps l = search rules in
-    let list_is : c.as_slice-made.result.now ≡ c.loop-lemma.polynomials = search rules in
-    let made_there : IsMade gs (polynomials c.as_slice-made.result.now) l = c.in_ok-polynomial.ensures.made in
-    let made : IsMade gs ps l = subst (λ q. IsMade gs (polynomials q) l) list_is made_there in
+    let made : IsMade gs ps l = rw (← c.as_slice-made.ensures) c.in_ok-polynomial.ensures.made in
     let rows : c.len.result ≡ length l.rows = search rules in
     let count : c.terms-kept.result ≡ length p.terms = search rules in
     let large : 1000000 < c.loop-lemma.kept + c.terms-kept.result = search rules in
@@ -32,9 +30,7 @@ loop-lemma-preserved c =
     let l = c.lemma-item.result in
     let p = c.in_ok-polynomial.polynomial in
     let same : p.terms ≡ lemma_polynomial gs ps l = search rules in
-    let list_is : c.as_slice-made.result.now ≡ c.loop-lemma.polynomials = search rules in
-    let made_there : IsMade gs (polynomials c.as_slice-made.result.now) l = c.in_ok-polynomial.ensures.made in
-    let made : IsMade gs ps l = subst (λ q. IsMade gs (polynomials q) l) list_is made_there in
+    let made : IsMade gs ps l = rw (← c.as_slice-made.ensures) c.in_ok-polynomial.ensures.made in
     let rows : c.len.result ≡ length l.rows = search rules in
     let count : c.terms-kept.result ≡ length p.terms = search rules in
     let small : c.loop-lemma.kept + c.terms-kept.result ≤ 1000000 = search rules in
@@ -52,6 +48,5 @@ loop-lemma-preserved c =
       made = omega arith;
       kept = omega arith;
       few = small;
-      so_far = subst (λ n. LemmasUpTo gs (polynomials c.push.new.self) c.args.lemmas.now (c.loop-lemma.rows + n) (c.loop-lemma.lemma-index + 1)) (sym rows)
-          (subst (λ q. LemmasUpTo gs q c.args.lemmas.now (c.loop-lemma.rows + length l.rows) (c.loop-lemma.lemma-index + 1)) list next);
+      so_far = rw (rows, ← list) next;
     }

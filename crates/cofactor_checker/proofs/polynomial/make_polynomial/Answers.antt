@@ -14,6 +14,8 @@ use Rattle.cofactor_checker.specs.Running.{IsRunning, IsSumOf}
 use Rattle.cofactor_checker.proofs.RowSums.{length-polynomials}
 use Rattle.cofactor_checker.specs.PlainRows.{plain_sum}
 use Rattle.cofactor_checker.specs.Lemmas.{HasLeastIndivisible, IsDivisible}
+use Rattle.cofactor_checker.proofs.RowTests.{told_of_lemma}
+use Rattle.cofactor_checker.proofs.LemmaTests.{rows_told}
 use Rattle.cofactor_checker.proofs.Terms.{collected_is, quotient_back, no_overflow}
 use Rattle.cofactor_checker.proofs.polynomial.make_polynomial.Goals as goal
 use Rattle.cofactor_checker.proofs.polynomial.make_polynomial.Goals.{In_ok-terms, In-Ok}
@@ -34,6 +36,14 @@ numbered c = c.requires.numbered ∙ ap (λ n. n + 1) (sym (length-polynomials c
 -- they are within the limits
 whole : (c : In-Ok) → c.in_ok-terms.terms ≡ c.in-Ok.multiple.terms
 whole c = sized-value c.in_ok-terms.terms c.in-Ok.multiple.terms (search rules)
+
+pub returns-in_err-sum-clause-refused : goal.returns-in_err-sum-clause-refused
+returns-in_err-sum-clause-refused c =
+    let gs = polynomials c.args.generators.now in
+    let ls = polynomials c.args.lemmas.now in
+    let e = c.in_err-sum.field-0.0 in
+    let back : c.from_residual.result ≡ Err e = search rules in
+    rw back (rows_told gs ls c.args.before c.args.lemma.now e (told_of_lemma gs ls c.args.before c.args.lemma.now.rows e (rw (← c.as_slice-rows.ensures) c.in_err-sum.ensures.refused)))
 
 pub returns-in-Some-clause-refused : goal.returns-in-Some-clause-refused
 returns-in-Some-clause-refused c =

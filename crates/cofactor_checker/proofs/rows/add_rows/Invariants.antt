@@ -1,11 +1,10 @@
-use Rattle.std.proofs.Common.{◌≡◌}
-use Rattle.traced_rows.specs.Rows.{rows_of}
+use Rattle.std.proofs.Common.{◌≡◌, ◌+◌, map}
 use Rattle.adjoint_rules.specs.Problem.{polynomials}
 use Rattle.cofactor_checker.proofs.RowSums.{SumsUpTo}
 use Rattle.cofactor_checker.proofs.rows.add_rows.Given as goal
 
 abbrev pub invariant-loop-row : goal.invariant-loop-row
-invariant-loop-row l = record {
-  numbered : l.number ≡ l.row-index;
-  sums : SumsUpTo (polynomials l.generators) (rows_of l.rows) l.sum l.row-index;
+invariant-loop-row g l = record {
+  numbered : l.number ≡ l.before + l.row-index;
+  sums : SumsUpTo (g.R.AnyRow.over (polynomials l.generators) (polynomials l.lemmas)) (map (g.R.AnyRow.plain (polynomials l.generators) (polynomials l.lemmas)) l.rows) l.sum l.row-index;
 }

@@ -1,22 +1,15 @@
-use Rattle.std.proofs.Common.{rules, ◌≡◌, ◌+◌, ◌*ℤ◌, None, Err, sym, subst, ◌∙◌, to_z, of_z}
+use Rattle.std.proofs.Common.{rules, ◌≡◌, ◌+◌, ◌*ℤ◌, Err, sym, subst, ◌∙◌, to_z, of_z}
 use mir.Syntax.{w128}
 use Rattle.coef_int.specs.Range.{IsCoefficient}
-use Rattle.definitions.specs.Poly.{poly_multiple, poly_between}
 use Rattle.lists.specs.declared.stop.Stop.TheVariants as stop
 use Rattle.coef_int.specs.Operations.{product_of, first_overflow}
 use Rattle.nc_polynomial.proofs.Results.{err_whole}
 use Rattle.cofactor_checker.specs.Operations.{adding_operations}
 use Rattle.cofactor_checker.specs.Running.{IsStoppedBy}
-use Rattle.cofactor_checker.specs.Table.{coefficient_at, Adds}
-use Rattle.cofactor_checker.proofs.Adding.{AddsUpTo, IsNextTerm, begins, ends, product_fails, sum_stopped, goes_on}
+use Rattle.cofactor_checker.specs.Table.{coefficient_at}
+use Rattle.cofactor_checker.proofs.Adding.{AddsUpTo, IsNextTerm, product_fails, sum_stopped, goes_on}
 use Rattle.cofactor_checker.proofs.sum.add_row.Goals as goal
 use Rattle.cofactor_checker.proofs.sum.add_row.Goals.{After-term-item, After-loop-term}
-
-pub loop-term-init : goal.loop-term-init
-loop-term-init c = record {
-  kept = c.requires.kept;
-  added = begins c.args.sum.now (to_z w128 (of_z w128 c.args.coefficient)) c.args.left.now c.args.terms.now c.args.right.now;
-}
 
 -- the term is next
 next : (c : After-term-item) → IsNextTerm c.args.sum.now c.loop-term.sum c.args.coefficient c.args.left.now c.args.terms.now c.args.right.now c.loop-term.term-index c.term-item.result
@@ -52,18 +45,3 @@ loop-term-preserved c =
       kept = search rules;
       added = subst (λ z. AddsUpTo c.args.sum.now c.add_term.new.table z c.args.left.now c.args.terms.now c.args.right.now (c.loop-term.term-index + 1)) (sym is) added;
     }
-
--- all terms are added
-whole : (c : After-loop-term)
-    → Adds c.args.sum.now c.loop-term.sum (poly_multiple c.args.coefficient (poly_between c.args.left.now c.args.terms.now c.args.right.now))
-    × (first_overflow (adding_operations (coefficient_at c.args.sum.now) c.args.coefficient c.args.left.now c.args.terms.now c.args.right.now) ≡ None)
-whole c =
-    let is : to_z w128 (of_z w128 c.args.coefficient) ≡ c.args.coefficient = search rules in
-    let added = subst (λ z. AddsUpTo c.args.sum.now c.loop-term.sum z c.args.left.now c.args.terms.now c.args.right.now c.loop-term.term-index) is c.loop-term.invariant.added in
-    ends c.args.sum.now c.loop-term.sum c.args.coefficient c.args.left.now c.args.terms.now c.args.right.now c.loop-term.term-index added c.loop-term-test.false
-
-pub returns-clause-added : goal.returns-clause-added
-returns-clause-added c = (whole c).0
-
-pub returns-clause-exact : goal.returns-clause-exact
-returns-clause-exact c = (whole c).1

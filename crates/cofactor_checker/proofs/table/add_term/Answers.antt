@@ -1,15 +1,9 @@
-use Rattle.std.proofs.Common.{rules, ◌≡◌, ◌≢◌, ◌+ℤ◌, pos, Some, None, ◌∙◌, arith, sym, subst}
+use Rattle.std.proofs.Common.{rules, ◌≡◌, ◌≢◌, ◌+ℤ◌, pos, Some, None, ◌∙◌, arith}
 use Rattle.std.proofs.lemmas.Int.{ints}
-use Rattle.std.proofs.Math.IntN.{+ℤ_idl, +ℤ_idr}
 use Rattle.coef_int.specs.Range.{IsCoefficient}
 use Rattle.cofactor_checker.specs.Table.{coefficient_at}
-use Rattle.cofactor_checker.proofs.TableUpdates.{adds_from_update, adds_zero, table_from_update}
+use Rattle.cofactor_checker.proofs.TableUpdates.{adds_from_update, table_from_update}
 use Rattle.cofactor_checker.proofs.table.add_term.Goals as goal
-
-pub returns-in-Vacant-clause-kept : goal.returns-in-Vacant-clause-kept
-returns-in-Vacant-clause-kept c =
-    let nonzero : c.args.coefficient ≢ pos 0 = search rules in
-    table_from_update c.args.table.now _ c.args.word (Some c.args.coefficient) (search rules) c.requires.kept (λ zero. nonzero (cc)) c.requires.coefficient_in
 
 pub returns-in-Vacant-clause-added : goal.returns-in-Vacant-clause-added
 returns-in-Vacant-clause-added c =
@@ -36,19 +30,3 @@ pub returns-else-total-eq0-clause-added : goal.returns-else-total-eq0-clause-add
 returns-else-total-eq0-clause-added c =
     let total : c.in_ok-total-in-Occupied.total ≡ coefficient_at c.args.table.now c.args.word +ℤ c.args.coefficient = search rules in
     adds_from_update c.args.table.now _ c.args.word (Some c.in_ok-total-in-Occupied.total) (search rules) c.args.coefficient total
-
-pub returns-then-coefficient-eq0-clause-added : goal.returns-then-coefficient-eq0-clause-added
-returns-then-coefficient-eq0-clause-added c =
-    let zero : c.args.coefficient ≡ pos 0 = search rules in
-    rw zero (adds_zero c.args.table.now c.args.word)
-
-pub returns-then-coefficient-eq0-clause-exact : goal.returns-then-coefficient-eq0-clause-exact
-returns-then-coefficient-eq0-clause-exact c =
-    let held = coefficient_at c.args.table.now c.args.word in
-    let zero : c.args.coefficient ≡ pos 0 = search rules in
-    subst (λ z. IsCoefficient (held +ℤ z)) (sym zero) (subst IsCoefficient (sym (+ℤ_idr held)) (c.requires.kept.in_range c.args.word))
-
-pub returns-in-Vacant-clause-exact : goal.returns-in-Vacant-clause-exact
-returns-in-Vacant-clause-exact c =
-    let none : coefficient_at c.args.table.now c.args.word ≡ pos 0 = search rules in
-    subst (λ z. IsCoefficient (z +ℤ c.args.coefficient)) (sym none) (subst IsCoefficient (sym (+ℤ_idl c.args.coefficient)) c.requires.coefficient_in)

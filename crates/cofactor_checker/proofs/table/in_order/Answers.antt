@@ -3,7 +3,7 @@ use Rattle.std.specs.BTreeMap.{Updates}
 use Rattle.std.specs.HashMap.{IsUnique}
 use Rattle.word_core.specs.Canonical.{word_cmp}
 use Rattle.definitions.specs.Poly.{word_eq}
-use Rattle.cofactor_checker.proofs.InOrder.{Moves, begins, running_more, moves_more, ends}
+use Rattle.cofactor_checker.proofs.InOrder.{Moves, begins, running_more, moves_more}
 use Rattle.cofactor_checker.proofs.table.in_order.Goals as goal
 
 pub loop-key-init : goal.loop-key-init
@@ -19,6 +19,3 @@ loop-key-preserved c =
     let moves : Moves c.args.table ((word, c.in-Some.coefficient) ∷ c.next.new.self) c.loop-key.sum = rw (← entries_are) (search rules) in
     let update : Updates word_cmp c.loop-key.sum c.insert.new.self word (Some c.in-Some.coefficient) = search rules in
     record { running = running_more moves c.insert.new.self update c.loop-key.invariant.running; ordered = search rules; moves = moves_more moves c.insert.new.self update }
-
-pub returns-clause-same : goal.returns-clause-same
-returns-clause-same c = ends c.loop-key.invariant.moves (search rules)
