@@ -1,14 +1,5 @@
 -- What the definitions of names and of what occurs say of a sum and of a term, by lists in place of rows.
-use Rattle.std.proofs.Common.{◌≡◌, ℕ, ◌<◌, length, get_or, Bool, true, false, ◌&&◌, ◌||◌, List, refl, sym, ap, ◌∙◌}
-use Rattle.std.specs.List.{list_all, list_any}
-use Rattle.std.proofs.lemmas.Bool.{true_from_ne_false}
-use Rattle.std.proofs.lemmas.List.Folds.{list_all_at}
-use Rattle.quiver.specs.Declarations.{Declaration}
-use Rattle.statement_syntax.specs.declared.tree.Factor.{Factor}
-use Rattle.statement_syntax.specs.declared.tree.Term.{Term, Term', out-Term, outs-Term', Row_of-Factor, end_of-Factor, more_of-Factor, items-the_row-Factor, items_shown-the_row-Factor-1}
-use Rattle.statement_syntax.specs.declared.tree.Sum.{Sum, Sum', out-Sum, outs-Sum', Row_of-Term, end_of-Term, more_of-Term, items-the_row-Term, items_shown-the_row-Term-0}
-use Rattle.abbreviations.specs.Names.{are_names, are_names_of_terms, are_names_of_term, are_names_of_factors, are_names_of_primary}
-use Rattle.abbreviations.specs.Occurrences.{is_adjoint, has_quote, has_quote_in_terms, has_quote_in_term, has_quote_in_factors, has_quote_in_primary, has_identity, has_identity_in_terms, has_identity_in_term, has_identity_in_factors, has_identity_in_primary}
+use Rattle.abbreviations.proofs.Prelude.{◌≡◌, ℕ, ◌<◌, length, get_or, Bool, true, false, ◌&&◌, ◌||◌, List, refl, sym, ap, ◌∙◌, list_all, list_any, true_from_ne_false, list_all_at, Declaration, Factor, Term, Term', out-Term, outs-Term', Row_of-Factor, end_of-Factor, more_of-Factor, items-the_row-Factor, items_shown-the_row-Factor-1, Sum, Sum', out-Sum, outs-Sum', Row_of-Term, end_of-Term, more_of-Term, items-the_row-Term, items_shown-the_row-Term-0, are_names, are_names_of_terms, are_names_of_term, are_names_of_factors, are_names_of_primary, is_adjoint, has_quote, has_quote_in_terms, has_quote_in_term, has_quote_in_factors, has_quote_in_primary, has_identity, has_identity_in_terms, has_identity_in_term, has_identity_in_factors, has_identity_in_primary}
 
 -- one factor
 abbrev pub are_names_of_factor : List Declaration → Factor → Bool

@@ -1,23 +1,5 @@
 -- How many generators there are.
-use Rattle.std.proofs.Common.{◌≡◌, ℕ, suc, ◌+◌, ◌-◌, ◌*◌, ◌<◌, ◌≤◌, negsuc, Bool, true, false, cond, ◌||◌, List, [], ◌∷◌, ◌++◌, length, refl, ap, subst, sym, arith, eqb, leb, eqb-true}
-use Rattle.std.specs.List.{All, AllPairs, flat_map, range_with_len, sum_by}
-use Rattle.std.proofs.lemmas.Bool.{false_from_ne_true}
-use Rattle.std.proofs.lemmas.List.{length-append, length-map}
-use Rattle.std.proofs.lemmas.List.Concat.{length-flat_map}
-use Rattle.std.proofs.lemmas.List.Elements.{All-head, All-tail, All-map, All-weaker, length_all_zip}
-use Rattle.std.proofs.lemmas.List.FromFn.{length-range_with_len}
-use Rattle.std.proofs.lemmas.List.Sums.{sum_by-cons}
-use Rattle.definitions.specs.Poly.{Term, SamePolynomial, poly_eq, poly_multiple}
-use Rattle.definitions.specs.Quiver.{Quiver, letters, source, target, star}
-use Rattle.definitions.specs.Generators.{adjoint_poly, new_adjoint, left_unit, right_unit, letter_units, units}
-use Rattle.word_core.specs.declared.letter.Object.{Object}
-use Rattle.nc_polynomial.specs.declared.poly.Poly.{Poly}
-use Rattle.quiver.specs.Declarations.{object_count, quiver_of}
-use Rattle.quiver.proofs.Counts.{letters-quiver_of, few_letters}
-use Rattle.adjoint_rules.specs.declared.parts.Parts.{Parts}
-use Rattle.adjoint_rules.specs.Limits.{generator_limit}
-use Rattle.adjoint_rules.specs.Problem.{polynomials, numbers, IsPosed, IsClosed, generators_in}
-use Rattle.adjoint_rules.specs.Parts.{adjoints_in, units_in}
+use Rattle.adjoint_rules.proofs.Prelude.{◌≡◌, ℕ, suc, ◌+◌, ◌-◌, ◌*◌, ◌<◌, ◌≤◌, negsuc, Bool, true, false, cond, ◌||◌, List, [], ◌∷◌, ◌++◌, length, refl, ap, subst, sym, arith, eqb, leb, eqb-true, All, AllPairs, flat_map, range_with_len, sum_by, false_from_ne_true, length-append, length-map, length-flat_map, All-head, All-tail, All-map, All-weaker, length_all_zip, length-range_with_len, sum_by-cons, Term, SamePolynomial, poly_eq, poly_multiple, Quiver, letters, source, target, star, adjoint_poly, new_adjoint, left_unit, right_unit, letter_units, units, Object, Poly, object_count, quiver_of, letters-quiver_of, few_letters, Parts, generator_limit, polynomials, numbers, IsPosed, IsClosed, generators_in, adjoints_in, units_in}
 
 -- sums
 sum_le : {X : Type 0} (f g h : X → ℕ) → ((x : X) → f x ≤ g x + h x) → (xs : List X) → sum_by f xs ≤ sum_by g xs + sum_by h xs

@@ -1,8 +1,5 @@
 -- The generators of two statements, worked out by hand, and which letters are in play.
-use Rattle.std.proofs.Common.{◌≡◌, ℕ, ℤ, pos, negsuc, true, false, List, [], ◌∷◌, refl}
-use Rattle.definitions.specs.Generators.{generators_of}
-use Rattle.quiver.specs.Declarations.{Declaration, object, arrow, quiver_of}
-use Rattle.adjoint_rules.specs.Problem.{is_in_play}
+use Rattle.adjoint_rules.proofs.Prelude.{◌≡◌, ℕ, ℤ, pos, negsuc, true, false, List, [], ◌∷◌, refl, generators_of, Declaration, object, arrow, quiver_of, is_in_play}
 
 -- object U V, map a : U -> V, map x : V -> U: the letters are [U] = 0, [V] = 1, a = 2, a' = 3, x = 4, x' = 5
 abbrev pub inverse_maps : List Declaration

@@ -1,10 +1,5 @@
 -- Adjoints are an involution on words and polynomials.
-use Rattle.std.proofs.Common.{◌≡◌, ℕ, ℤ, List, [], ◌∷◌, ◌++◌, refl, ap, ◌∙◌}
-use Rattle.definitions.specs.Poly.{coefficient_of}
-use Rattle.definitions.specs.Quiver.{Quiver, IsQuiver}
-use Rattle.definitions.specs.Generators.{adjoint_word, adjoint_poly}
-use Rattle.definitions.proofs.Adjoints.{adjoint_word-append, adjoint_word-adjoint_word, coefficient_of-adjoint_poly}
-use Rattle.adjoint_rules.specs.Laws.{AdjointsAreAnInvolution}
+use Rattle.adjoint_rules.proofs.Prelude.{◌≡◌, ℕ, ℤ, List, [], ◌∷◌, ◌++◌, refl, ap, ◌∙◌, coefficient_of, Quiver, IsQuiver, adjoint_word, adjoint_poly, adjoint_word-append, adjoint_word-adjoint_word, coefficient_of-adjoint_poly, AdjointsAreAnInvolution}
 
 twice : (q : Quiver) → IsQuiver q → (p : List (ℤ × List ℕ)) → adjoint_poly q (adjoint_poly q p) ≡ p
 twice q quiver [] = refl

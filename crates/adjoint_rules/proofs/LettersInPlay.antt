@@ -1,20 +1,5 @@
 -- The generators of a statement have letters in play.
-use Rattle.std.proofs.Common.{◌≡◌, ℕ, zero, suc, ◌+◌, ◌-◌, ◌≤◌, ◌<◌, ◌⊎◌, inl, inr, negsuc, Bool, true, false, cond, ◌||◌, List, [], ◌∷◌, ◌++◌, refl, sym, ap, subst, ◌∙◌, arith, ltb, leb, eqb, lt-ltb, ltb-true, eq-eqb}
-use Rattle.std.specs.Prelude.{IsTrue}
-use Rattle.std.specs.List.{All, AllByRecursion, AllPass, flat_map, list_all, list_any, range_with_len}
-use Rattle.std.proofs.lemmas.Bool.{and_from, and_parts, cases_lt}
-use Rattle.std.proofs.lemmas.List.Elements.{All-head, All-tail}
-use Rattle.std.proofs.lemmas.List.Folds.{list_all-append}
-use Rattle.std.proofs.lemmas.List.Sums.{list_all-from_AllPass}
-use Rattle.definitions.specs.Poly.{Term, poly_eq, poly_multiple}
-use Rattle.definitions.specs.Quiver.{Quiver, IsQuiver, letters, source, target, star}
-use Rattle.definitions.specs.Generators.{adjoint_word, adjoint_poly, new_adjoint, left_unit, right_unit, letter_units, units}
-use Rattle.definitions.proofs.StarSound.{all-append}
-use Rattle.nc_polynomial.specs.declared.poly.Poly.{Poly}
-use Rattle.quiver.specs.Declarations.{letter_count, quiver_of}
-use Rattle.quiver.proofs.Counts.{letters-quiver_of}
-use Rattle.adjoint_rules.specs.declared.parts.Parts.{Parts}
-use Rattle.adjoint_rules.specs.Problem.{polynomials, numbers, is_in_play, IsPosed, generators_in}
+use Rattle.adjoint_rules.proofs.Prelude.{◌≡◌, ℕ, zero, suc, ◌+◌, ◌-◌, ◌≤◌, ◌<◌, ◌⊎◌, inl, inr, negsuc, Bool, true, false, cond, ◌||◌, List, [], ◌∷◌, ◌++◌, refl, sym, ap, subst, ◌∙◌, arith, ltb, leb, eqb, lt-ltb, ltb-true, eq-eqb, IsTrue, All, AllByRecursion, AllPass, flat_map, list_all, list_any, range_with_len, and_from, and_parts, cases_lt, All-head, All-tail, list_all-append, list_all-from_AllPass, Term, poly_eq, poly_multiple, Quiver, IsQuiver, letters, source, target, star, adjoint_word, adjoint_poly, new_adjoint, left_unit, right_unit, letter_units, units, all-append, Poly, letter_count, quiver_of, letters-quiver_of, Parts, polynomials, numbers, is_in_play, IsPosed, generators_in}
 use Rattle.adjoint_rules.proofs.Generators.{posed_quiver, marked_are_objects}
 
 -- a letter among a list is among a longer one

@@ -1,3 +1,4 @@
+mod Prelude
 pub mod Stars
 pub mod NewAdjoints
 pub mod Ranges

@@ -1,16 +1,5 @@
 -- The adjoint of a polynomial, unless it is plus or minus the polynomial.
-use Rattle.std.proofs.Common.{◌≡◌, negsuc, neg_ℤ, ◌≤◌, true, false, cond, ◌||◌, List, [], ◌∷◌, ◌++◌, length, sym, ap, ap₂, subst}
-use Rattle.std.proofs.lemmas.Bool.{or_left, or_right, false_from_ne_true}
-use Rattle.std.proofs.lemmas.List.{length-map}
-use Rattle.std.proofs.lemmas.List.Elements.{All-map}
-use Rattle.std.specs.List.{AllZip}
-use Rattle.definitions.specs.Poly.{Term, SamePolynomial, poly_multiple, poly_eq}
-use Rattle.definitions.specs.Quiver.{Quiver}
-use Rattle.definitions.specs.Generators.{adjoint_poly, new_adjoint}
-use Rattle.definitions.proofs.Coefficients.{Same_refl, Same_sym, Same_trans, poly_eq-true, SamePolynomial-poly_eq}
-use Rattle.nc_polynomial.specs.Terms.{negated}
-use Rattle.nc_polynomial.specs.Shape.{IsCanonical}
-use Rattle.nc_polynomial.proofs.Shapes.{shaped-negated}
+use Rattle.adjoint_rules.proofs.Prelude.{◌≡◌, negsuc, neg_ℤ, ◌≤◌, true, false, cond, ◌||◌, List, [], ◌∷◌, ◌++◌, length, sym, ap, ap₂, subst, or_left, or_right, false_from_ne_true, length-map, All-map, AllZip, Term, SamePolynomial, poly_multiple, poly_eq, Quiver, adjoint_poly, new_adjoint, Same_refl, Same_sym, Same_trans, poly_eq-true, SamePolynomial-poly_eq, negated, IsCanonical, shaped-negated}
 
 pub canonical-negated : (p : List Term) → IsCanonical p → IsCanonical (negated p)
 canonical-negated p h = record {

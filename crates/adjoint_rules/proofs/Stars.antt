@@ -1,12 +1,5 @@
 -- The adjoints of the letters of a quiver as a list.
-use Rattle.std.proofs.Common.{◌≡◌, ℕ, ◌+◌, ◌<◌, List, [], ◌∷◌, ◌++◌, length, take, get_or, sym, ap, ap₂, subst, ◌∙◌}
-use Rattle.std.proofs.lemmas.List.{length-map, map-append, take_more}
-use Rattle.word_core.specs.declared.letter.Letter.{Letter}
-use Rattle.definitions.specs.Quiver.{star}
-use Rattle.nc_polynomial.specs.Adjoint.{numbers_of, IsInvolution}
-use Rattle.quiver.specs.Declarations.{Declaration, LetterEntry, letter_count, letter_table, letter_at, quiver_of, IsDeclared}
-use Rattle.quiver.proofs.Counts.{length-letter_table}
-use Rattle.quiver.proofs.Letters.{letter_is, star-quiver_of, in_range_from_table}
+use Rattle.adjoint_rules.proofs.Prelude.{◌≡◌, ℕ, ◌+◌, ◌<◌, List, [], ◌∷◌, ◌++◌, length, take, get_or, sym, ap, ap₂, subst, ◌∙◌, length-map, map-append, take_more, Letter, star, numbers_of, IsInvolution, Declaration, LetterEntry, letter_count, letter_table, letter_at, quiver_of, IsDeclared, length-letter_table, letter_is, star-quiver_of, in_range_from_table}
 
 module _ (ds : List Declaration) where
   pub length-stars : length (quiver_of ds).stars ≡ letter_count ds

@@ -1,11 +1,5 @@
 -- The list of the relations of an identity, as its parts are appended to one another.
-use Rattle.std.specs.Prelude.{Bool, ◌||◌, true, false, if◌then◌else◌, nat_le}
-use Rattle.std.specs.Ordering.{nat_cmp, is_gt}
-use Rattle.std.proofs.Common.{◌≡◌, ℕ, List, [], ◌∷◌, ◌++◌, ap, ◌∙◌, sym, refl, rules, append_assoc}
-use Rattle.std.proofs.lemmas.List.{map-append, append-nil}
-use Rattle.definitions.specs.Poly.{Term}
-use Rattle.nc_polynomial.specs.declared.poly.Poly.{Poly}
-use Rattle.adjoint_rules.specs.Problem.{polynomials}
+use Rattle.adjoint_rules.proofs.Prelude.{Bool, ◌||◌, true, false, if◌then◌else◌, nat_le, nat_cmp, is_gt, ◌≡◌, ℕ, List, [], ◌∷◌, ◌++◌, ap, ◌∙◌, sym, refl, rules, append_assoc, map-append, append-nil, Term, Poly, polynomials}
 
 -- a number that is not above another is at most that
 pub not_gt-le : (a s : ℕ) → is_gt (nat_cmp a s) ≡ false → nat_le a s ≡ true

@@ -1,10 +1,5 @@
 -- Ambiguities at the places of two words at which they agree, one place after another.
-use Rattle.std.proofs.Common.{◌≡◌, ◌⊎◌, inl, inr, ℕ, ◌+◌, ◌<◌, ◌≤◌, List, ◌∷◌, ◌++◌, [], refl, sym, subst, arith}
-use Rattle.std.proofs.lemmas.Bool.{cases_lt}
-use Rattle.ambiguities.specs.declared.ambiguity.Kind.{Kind}
-use Rattle.ambiguities.specs.declared.ambiguity.Ambiguity.{Ambiguity}
-use Rattle.ambiguities.specs.Agreement.{Agree, IsAgreement}
-use Rattle.ambiguities.specs.Listed.{IsBefore, IsGrown, ambiguity_at}
+use Rattle.ambiguities.proofs.Prelude.{◌≡◌, ◌⊎◌, inl, inr, ℕ, ◌+◌, ◌<◌, ◌≤◌, List, ◌∷◌, ◌++◌, [], refl, sym, subst, arith, cases_lt, Kind, Ambiguity, Agree, IsAgreement, IsBefore, IsGrown, ambiguity_at}
 use Rattle.ambiguities.proofs.Exactly.{exactly-one, grown-append, grown-same, grown-none}
 
 module _ (i j : ℕ) (kind : Kind) (word other : List ℕ) (low : ℕ) where

@@ -1,9 +1,5 @@
 -- Words that agree from a place on occur in one another, or overlap, there.
-use Rattle.std.proofs.Common.{◌≡◌, ℕ, ◌+◌, ◌<◌, ◌≤◌, List, ◌++◌, length, take, drop, get_or, sym, ap, ap₂, ◌∙◌, arith}
-use Rattle.std.proofs.lemmas.List.{take-append-drop, length-take-le, length-drop, length-append, get_or-drop, get_or-append-add, get_or_append_left}
-use Rattle.word_core.specs.Occurrence.{OccursAt}
-use Rattle.word_core.specs.Overlap.{OverlapsAt}
-use Rattle.ambiguities.specs.Agreement.{Agree}
+use Rattle.ambiguities.proofs.Prelude.{◌≡◌, ℕ, ◌+◌, ◌<◌, ◌≤◌, List, ◌++◌, length, take, drop, get_or, sym, ap, ap₂, ◌∙◌, arith, take-append-drop, length-take-le, length-drop, length-append, get_or-drop, get_or-append-add, get_or_append_left, OccursAt, OverlapsAt, Agree}
 use Rattle.ambiguities.proofs.Occurrences.{front_is}
 
 module _ (word other : List ℕ) (place : ℕ) where

@@ -1,23 +1,5 @@
 -- Whether two words meet at a place is decided, and so whether an ambiguity is one of the rules. A list has all of them.
-use Rattle.std.proofs.Common.{◌≡◌, ◌≢◌, ◌⊎◌, inl, inr, ℕ, zero, suc, ◌+◌, ◌-◌, ◌<◌, ◌≤◌, Bool, true, false, nat_eq, List, [], ◌∷◌, length, take, drop, Option, Some, None, refl, sym, ap, ◌∙◌, subst, arith}
-use Rattle.std.specs.Bool.{Decides}
-use Rattle.std.specs.List.{Contains, flat_map, range_with_len, starts_with}
-use Rattle.std.proofs.lemmas.Bool.{cases_lt}
-use Rattle.std.proofs.lemmas.Bool.Decides.{eqb_tells, not_from_Decides}
-use Rattle.std.proofs.lemmas.List.Elements.{Contains-append_left, Contains-append_right}
-use Rattle.std.proofs.lemmas.List.FromFn.{length-range_with_len, get_or-range_with_len}
-use Rattle.std.proofs.lemmas.Option.{same_Some}
-use Rattle.word_core.specs.Occurrence.{OccursAt}
-use Rattle.word_core.specs.Overlap.{OverlapsAt, overlaps_at}
-use Rattle.word_core.proofs.Overlaps.{overlaps_at-Decides}
-use Rattle.word_core.proofs.Places.{starts_with_tells}
-use Rattle.rule_reduce.specs.declared.rule.Rule.{Rule}
-use Rattle.rule_reduce.specs.RuleLists.{rule_at}
-use Rattle.ambiguities.specs.declared.ambiguity.Kind.{Kind}
-use Rattle.ambiguities.specs.declared.ambiguity.Kind.TheVariants.{Overlap, Inclusion}
-use Rattle.ambiguities.specs.declared.ambiguity.Ambiguity.{Ambiguity}
-use Rattle.ambiguities.specs.Ambiguities.{MeetsAs, IsAmbiguity, lead_at}
-use Rattle.ambiguities.specs.Listed.{ambiguity_at}
+use Rattle.ambiguities.proofs.Prelude.{◌≡◌, ◌≢◌, ◌⊎◌, inl, inr, ℕ, zero, suc, ◌+◌, ◌-◌, ◌<◌, ◌≤◌, Bool, true, false, nat_eq, List, [], ◌∷◌, length, take, drop, Option, Some, None, refl, sym, ap, ◌∙◌, subst, arith, Decides, Contains, flat_map, range_with_len, starts_with, cases_lt, eqb_tells, not_from_Decides, Contains-append_left, Contains-append_right, length-range_with_len, get_or-range_with_len, same_Some, OccursAt, OverlapsAt, overlaps_at, overlaps_at-Decides, starts_with_tells, Rule, rule_at, Kind, Overlap, Inclusion, Ambiguity, MeetsAs, IsAmbiguity, lead_at, ambiguity_at}
 use Rattle.ambiguities.proofs.Ascending.{contains-cases}
 use Rattle.ambiguities.proofs.Joined.{lead_at-is}
 use Rattle.ambiguities.proofs.Numbers.{rule_at-last}

@@ -1,21 +1,5 @@
 -- The order of ambiguities with their overlap words is total, and it is the one that the comparison gives.
-use Rattle.std.proofs.Common.{◌≡◌, ◌≢◌, ◌⊎◌, inl, inr, ℕ, ◌<◌, true, false, List, get_or, refl, sym, ap, ap₂, ◌∙◌, arith}
-use Rattle.std.specs.Bool.{Decides}
-use Rattle.std.specs.Cmp.{IsTotalOrder, nat_cmp_is}
-use Rattle.std.specs.List.{AllPairs}
-use Rattle.std.specs.List.Sorted.{IsSorted}
-use Rattle.std.specs.Ordering.{nat_cmp, is_lt, is_eq, ordering_then, ordering_reverse}
-use Rattle.std.specs.declared.cmp.Ordering.{Ordering}
-use Rattle.std.specs.declared.cmp.Ordering.TheVariants.{Less, Equal, Greater}
-use Rattle.std.proofs.lemmas.Cmp.{ranked, nat_cmp_total, on_total, then_total, tied_itself}
-use Rattle.std.proofs.lemmas.List.Sorted.{sorted_far, ranks_by}
-use Rattle.word_orders.specs.Admissible.{Compare}
-use Rattle.ambiguities.specs.declared.ambiguity.Kind.{Kind}
-use Rattle.ambiguities.specs.declared.ambiguity.Kind.TheVariants.{Overlap, Inclusion}
-use Rattle.ambiguities.specs.declared.ambiguity.Ambiguity.{Ambiguity}
-use Rattle.ambiguities.specs.declared.waiting.Waiting.{Waiting}
-use Rattle.ambiguities.specs.Listed.{IsBefore, kind_number}
-use Rattle.ambiguities.specs.Order.{IsWaitingBefore, ambiguity_cmp, waiting_cmp}
+use Rattle.ambiguities.proofs.Prelude.{◌≡◌, ◌≢◌, ◌⊎◌, inl, inr, ℕ, ◌<◌, true, false, List, get_or, refl, sym, ap, ap₂, ◌∙◌, arith, Decides, IsTotalOrder, nat_cmp_is, AllPairs, IsSorted, nat_cmp, is_lt, is_eq, ordering_then, ordering_reverse, Ordering, Less, Equal, Greater, ranked, nat_cmp_total, on_total, then_total, tied_itself, sorted_far, ranks_by, Compare, Kind, Overlap, Inclusion, Ambiguity, Waiting, IsBefore, kind_number, IsWaitingBefore, ambiguity_cmp, waiting_cmp}
 
 -- one comparison after another
 then-left : (o p : Ordering) → o ≡ Less → ordering_then o p ≡ Less

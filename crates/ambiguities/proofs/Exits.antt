@@ -1,17 +1,6 @@
 -- Where the arithmetic of an S-polynomial ends.
-use Rattle.std.proofs.Common.{◌≡◌, List, Result, Ok, Some, sym, ap, ◌∙◌, subst}
-use Rattle.definitions.specs.Poly.{Term}
-use Rattle.nc_polynomial.specs.declared.fault.PolyFault.{PolyFault}
+use Rattle.ambiguities.proofs.Prelude.{◌≡◌, List, Result, Ok, Some, sym, ap, ◌∙◌, subst, Term, PolyFault, Explains, moved_result, and_then, combined, Row, Rule, rule_at, rule_at-polynomial, Ambiguity, first_row, second_row, row_multiple, s_polynomial_of}
 use Rattle.nc_polynomial.specs.declared.fault.PolyFault.TheVariants as fault
-use Rattle.nc_polynomial.specs.Faults.{Explains}
-use Rattle.nc_polynomial.specs.Product.{moved_result, and_then}
-use Rattle.nc_polynomial.specs.Arithmetic.{combined}
-use Rattle.traced_rows.specs.declared.Row.{Row}
-use Rattle.rule_reduce.specs.declared.rule.Rule.{Rule}
-use Rattle.rule_reduce.specs.RuleLists.{rule_at}
-use Rattle.rule_reduce.proofs.Numbers.{rule_at-polynomial}
-use Rattle.ambiguities.specs.declared.ambiguity.Ambiguity.{Ambiguity}
-use Rattle.ambiguities.specs.SPolynomials.{first_row, second_row, row_multiple, s_polynomial_of}
 
 -- a fault of the first call is that of both
 explains-and_then : (r : Result (List Term) PolyFault) (next : List Term → Result (List Term) PolyFault) (e : PolyFault) → Explains r e → Explains (and_then r next) e

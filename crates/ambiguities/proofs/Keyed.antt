@@ -1,26 +1,5 @@
 -- Ambiguities that are sorted by their keys are in order.
-use Rattle.std.proofs.Common.{◌≡◌, ◌≢◌, ℕ, ◌+◌, ◌<◌, ◌^◌, List, [], ◌∷◌, length, map, get_or, refl, sym, ap, ap₂, ◌∙◌, subst, arith}
-use Rattle.std.specs.Cmp.{IsTotalOrder}
-use Rattle.std.specs.List.{All, AllPairs, Contains}
-use Rattle.std.specs.List.Sorted.{IsPermutation, IsSorted}
-use Rattle.std.specs.Ordering.{is_eq, is_lt, nat_cmp, ordering_then}
-use Rattle.std.specs.declared.cmp.Ordering.{Ordering}
-use Rattle.std.specs.declared.cmp.Ordering.TheVariants.{Equal}
-use Rattle.std.proofs.lemmas.Cmp.{nat_cmp_total, on_total, then_total}
-use Rattle.std.proofs.lemmas.List.{length-map, get_or-map}
-use Rattle.std.proofs.lemmas.List.Elements.{All-map}
-use Rattle.std.proofs.lemmas.List.Sorted.{All-permutation, Contains-permutation, IsPermutation-map, IsPermutation-sym}
-use Rattle.word_core.specs.Canonical.{word_cmp, word_cmp_total}
-use Rattle.word_core.specs.Letters.{IsOver}
-use Rattle.word_orders.specs.Admissible.{Compare}
-use Rattle.word_orders.specs.Measured.{measured_cmp}
-use Rattle.rule_reduce.specs.declared.rule.Rule.{Rule}
-use Rattle.ambiguities.specs.declared.ambiguity.Ambiguity.{Ambiguity}
-use Rattle.ambiguities.specs.Ambiguities.{overlap_word_of}
-use Rattle.ambiguities.specs.declared.waiting.Waiting.{Waiting}
-use Rattle.ambiguities.specs.declared.key.Key.{Key}
-use Rattle.ambiguities.specs.Order.{ambiguity_cmp, waiting_cmp, waiting_of, AreInOrder}
-use Rattle.ambiguities.specs.Keys.{front_of, key_of, key_cmp}
+use Rattle.ambiguities.proofs.Prelude.{◌≡◌, ◌≢◌, ℕ, ◌+◌, ◌<◌, ◌^◌, List, [], ◌∷◌, length, map, get_or, refl, sym, ap, ap₂, ◌∙◌, subst, arith, IsTotalOrder, All, AllPairs, Contains, IsPermutation, IsSorted, is_eq, is_lt, nat_cmp, ordering_then, Ordering, Equal, nat_cmp_total, on_total, then_total, length-map, get_or-map, All-map, All-permutation, Contains-permutation, IsPermutation-map, IsPermutation-sym, word_cmp, word_cmp_total, IsOver, Compare, measured_cmp, Rule, Ambiguity, overlap_word_of, Waiting, Key, ambiguity_cmp, waiting_cmp, waiting_of, AreInOrder, front_of, key_of, key_cmp}
 use Rattle.ambiguities.proofs.Ascending.{Image, contains-image, contains-map, distinct-permutation, pairs-map}
 use Rattle.ambiguities.proofs.Comparing.{waiting_cmp-total, tells, sorted-ascending}
 use Rattle.ambiguities.proofs.Fronts.{then_assoc, fronted_cmp}

@@ -1,11 +1,5 @@
 -- Leading words are short, and not empty.
-use Rattle.std.proofs.Common.{◌≤◌, ◌<◌, ℕ, List, length}
-use Rattle.std.specs.List.{All}
-use Rattle.std.proofs.lemmas.List.Elements.{All-weaker}
-use Rattle.word_orders.specs.Admissible.{Compare}
-use Rattle.rule_reduce.specs.declared.rule.Rule.{Rule}
-use Rattle.rule_reduce.specs.RuleLists.{IsRule}
-use Rattle.rule_reduce.proofs.AtMost.{leading-all}
+use Rattle.ambiguities.proofs.Prelude.{◌≤◌, ◌<◌, ℕ, List, length, All, All-weaker, Compare, Rule, IsRule, leading-all}
 
 module _ (letters : ℕ) (compare : Compare) where
   short_lead : (g : Rule) → IsRule letters compare g → length g.lead ≤ 500

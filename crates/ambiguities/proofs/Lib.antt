@@ -1,3 +1,4 @@
+mod Prelude
 pub mod Exactly
 pub mod Numbers
 pub mod Pairs

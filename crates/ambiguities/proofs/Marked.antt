@@ -1,19 +1,5 @@
 -- Words that meet have a letter in common: the first one of the second word, which is marked where those of the first word are.
-use Rattle.std.proofs.Common.{◌≡◌, ◌≢◌, ◌⊎◌, inl, inr, ℕ, ◌+◌, ◌%◌, ◌<◌, Bool, true, false, List, map, length, get_or, slice_set, sym, subst, ap, ◌∙◌, arith, mod-lt, add-one}
-use Rattle.std.proofs.lemmas.Bool.{cases_eq}
-use Rattle.std.proofs.lemmas.List.{length-set, get_or-set_other, get_or-map}
-use Rattle.std.proofs.lemmas.Option.{slice_get-get_or}
-use Rattle.std.specs.List.{All}
-use Rattle.std.proofs.lemmas.Grind.{get_or-set_at}
-use Rattle.word_core.proofs.Places.{OccursAt-length}
-use Rattle.ambiguities.specs.declared.ambiguity.Kind.{Kind}
-use Rattle.ambiguities.specs.declared.ambiguity.Kind.TheVariants.{Overlap, Inclusion}
-use Rattle.rule_reduce.specs.declared.rule.Rule.{Rule}
-use Rattle.rule_reduce.specs.RuleLists.{rule_at}
-use Rattle.ambiguities.specs.declared.ambiguity.Ambiguity.{Ambiguity}
-use Rattle.ambiguities.specs.Ambiguities.{MeetsAs, IsAmbiguity, lead_at}
-use Rattle.ambiguities.specs.Listed.{IsOfPair}
-use Rattle.ambiguities.specs.Agreement.{Agree, first_of, is_marked, HasMarks}
+use Rattle.ambiguities.proofs.Prelude.{◌≡◌, ◌≢◌, ◌⊎◌, inl, inr, ℕ, ◌+◌, ◌%◌, ◌<◌, Bool, true, false, List, map, length, get_or, slice_set, sym, subst, ap, ◌∙◌, arith, mod-lt, add-one, cases_eq, length-set, get_or-set_other, get_or-map, slice_get-get_or, All, get_or-set_at, OccursAt-length, Kind, Overlap, Inclusion, Rule, rule_at, Ambiguity, MeetsAs, IsAmbiguity, lead_at, IsOfPair, Agree, first_of, is_marked, HasMarks}
 use Rattle.ambiguities.proofs.Agreement.{agreement_by_occurrence, agreement_by_overlap}
 use Rattle.ambiguities.proofs.Joined.{lead_at-is}
 use Rattle.ambiguities.proofs.Occurrences.{overlaps_within}

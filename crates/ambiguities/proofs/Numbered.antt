@@ -1,10 +1,5 @@
 -- The ambiguities with one first rule, and those with all.
-use Rattle.std.proofs.Common.{◌≡◌, ◌⊎◌, inl, inr, ℕ, ◌+◌, ◌<◌, ◌≤◌, List, length, sym, ◌∙◌, arith}
-use Rattle.std.proofs.lemmas.Bool.{cases_lt}
-use Rattle.rule_reduce.specs.declared.rule.Rule.{Rule}
-use Rattle.ambiguities.specs.declared.ambiguity.Ambiguity.{Ambiguity}
-use Rattle.ambiguities.specs.Ambiguities.{IsAmbiguity}
-use Rattle.ambiguities.specs.Listed.{IsGrown, IsAmbiguityFrom, IsOfFirst, IsOfPair}
+use Rattle.ambiguities.proofs.Prelude.{◌≡◌, ◌⊎◌, inl, inr, ℕ, ◌+◌, ◌<◌, ◌≤◌, List, length, sym, ◌∙◌, arith, cases_lt, Rule, Ambiguity, IsAmbiguity, IsGrown, IsAmbiguityFrom, IsOfFirst, IsOfPair}
 use Rattle.ambiguities.proofs.Exactly.{grown-append, grown-same}
 use Rattle.ambiguities.proofs.Numbers.{rule_at-first, rule_at-last}
 

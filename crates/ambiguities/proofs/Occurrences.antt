@@ -1,9 +1,5 @@
 -- Where a word can occur in another one, or overlap it.
-use Rattle.std.proofs.Common.{◌≡◌, ℕ, ◌+◌, ◌<◌, ◌≤◌, List, length, take, drop, get_or, ap, ◌∙◌, arith}
-use Rattle.std.proofs.lemmas.List.{length-take-le, length-drop, length-append, same_lists, get_or-take, get_or-drop, get_or_default}
-use Rattle.word_core.specs.Occurrence.{OccursAt}
-use Rattle.word_core.specs.Overlap.{OverlapsAt}
-use Rattle.word_core.proofs.Places.{OccursAt-length}
+use Rattle.ambiguities.proofs.Prelude.{◌≡◌, ℕ, ◌+◌, ◌<◌, ◌≤◌, List, length, take, drop, get_or, ap, ◌∙◌, arith, length-take-le, length-drop, length-append, same_lists, get_or-take, get_or-drop, get_or_default, OccursAt, OverlapsAt, OccursAt-length}
 
 module _ (word sub : List ℕ) (place : ℕ) where
   pub front_is : place + length sub ≤ length word → ((k : ℕ) → k < length sub → get_or word (place + k) 0 ≡ get_or sub k 0) → take (length sub) (drop place word) ≡ sub

@@ -1,28 +1,6 @@
 -- Polynomials and rows over letters below a number: reductions keep them, and S-polynomials have such rows.
-use Rattle.std.proofs.Common.{◌≡◌, ◌<◌, ℕ, ◌+◌, List, ◌++◌, length, take, drop, Some, Ok, get_or}
-use Rattle.std.specs.List.{All}
-use Rattle.std.proofs.lemmas.List.Elements.{All-nil, All-append, All-take, All-drop, All-contains}
-use Rattle.definitions.specs.Poly.{Term}
-use Rattle.word_core.specs.Letters.{IsOver}
-use Rattle.word_orders.specs.Admissible.{Compare}
-use Rattle.traced_rows.specs.declared.Row.{Row}
-use Rattle.rule_reduce.specs.declared.rule.Rule.{Rule}
-use Rattle.rule_reduce.specs.declared.state.State.{State}
-use Rattle.rule_reduce.specs.declared.state.Choice.{Choice}
-use Rattle.rule_reduce.specs.RuleLists.{IsRule, rule_at, entries_of}
-use Rattle.rule_reduce.specs.Choices.{choice_of}
-use Rattle.rule_reduce.specs.Steps.{moved, move_of, move_row}
-use Rattle.rule_reduce.specs.NormalForms.{start_of, normal_form_of}
-use Rattle.rule_reduce.proofs.Chosen.{found}
-use Rattle.rule_reduce.proofs.LettersKept.{each-moved}
-use Rattle.rule_reduce.proofs.Numbers.{rule_at-all}
-use Rattle.rule_reduce.proofs.Rows.{all-multiplied}
-use Rattle.rule_reduce.proofs.Runs.{reduction_keeps}
-use Rattle.ambiguities.specs.declared.ambiguity.Ambiguity.{Ambiguity}
-use Rattle.ambiguities.specs.Ambiguities.{IsAmbiguity, lead_at, overlap_word_of}
-use Rattle.ambiguities.specs.SPolynomials.{first_row, second_row, s_rows_of}
+use Rattle.ambiguities.proofs.Prelude.{◌≡◌, ◌<◌, ℕ, ◌+◌, List, ◌++◌, length, take, drop, Some, Ok, get_or, All, All-nil, All-append, All-take, All-drop, All-contains, Term, IsOver, Compare, Row, Rule, State, Choice, IsRule, rule_at, entries_of, choice_of, moved, move_of, move_row, start_of, normal_form_of, found, each-moved, rule_at-all, all-multiplied, reduction_keeps, Ambiguity, IsAmbiguity, lead_at, overlap_word_of, first_row, second_row, s_rows_of, all_two}
 use Rattle.ambiguities.proofs.Bounds.{over_overlap_word}
-use Rattle.traced_rows.proofs.Lists.{all_two}
 
 module _ (letters : ℕ) where
   abbrev pub AreOver : List Term → Type 0

@@ -1,15 +1,5 @@
 -- The ambiguities of two rules: those of each kind, at their places.
-use Rattle.std.proofs.Common.{◌≡◌, ◌≢◌, ◌⊎◌, inl, inr, ℕ, ◌+◌, ◌<◌, ◌≤◌, List, length, Some, refl, sym, ap, ◌∙◌, subst, arith}
-use Rattle.std.proofs.lemmas.Option.{same_Some}
-use Rattle.rule_reduce.specs.declared.rule.Rule.{Rule}
-use Rattle.rule_reduce.specs.RuleLists.{rule_at}
-use Rattle.ambiguities.specs.declared.ambiguity.Kind.{Kind}
-use Rattle.ambiguities.specs.declared.ambiguity.Kind.TheVariants.{Overlap, Inclusion}
-use Rattle.ambiguities.specs.declared.ambiguity.Ambiguity.{Ambiguity}
-use Rattle.ambiguities.specs.Ambiguities.{MeetsAs}
-use Rattle.ambiguities.specs.Listed.{IsBefore, kind_number, IsGrown, IsOfPair}
-use Rattle.ambiguities.specs.Agreement.{Agree, IsAgreement}
-use Rattle.word_core.proofs.Places.{OccursAt-length}
+use Rattle.ambiguities.proofs.Prelude.{◌≡◌, ◌≢◌, ◌⊎◌, inl, inr, ℕ, ◌+◌, ◌<◌, ◌≤◌, List, length, Some, refl, sym, ap, ◌∙◌, subst, arith, same_Some, Rule, rule_at, Kind, Overlap, Inclusion, Ambiguity, MeetsAs, IsBefore, kind_number, IsGrown, IsOfPair, Agree, IsAgreement, OccursAt-length}
 use Rattle.ambiguities.proofs.Occurrences.{overlaps_within, overlaps_past}
 use Rattle.ambiguities.proofs.Agreement.{occurs_by_agreement, agreement_by_occurrence, overlaps_by_agreement, agreement_by_overlap}
 use Rattle.ambiguities.proofs.Exactly.{grown-append, grown-same}

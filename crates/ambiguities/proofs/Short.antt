@@ -1,16 +1,5 @@
 -- Overlap words are short enough to be measured.
-use Rattle.std.proofs.Common.{◌≤◌, ℕ, List, length, take, ap, arith}
-use Rattle.std.specs.List.{All}
-use Rattle.std.proofs.lemmas.List.{length-append, length-take}
-use Rattle.word_orders.specs.Admissible.{Compare}
-use Rattle.word_orders.specs.Limits.{measured_letters}
-use Rattle.rule_reduce.specs.declared.rule.Rule.{Rule}
-use Rattle.rule_reduce.specs.RuleLists.{IsRule}
-use Rattle.rule_reduce.proofs.Numbers.{rule_at-all}
-use Rattle.ambiguities.specs.declared.ambiguity.Kind.{Kind}
-use Rattle.ambiguities.specs.declared.ambiguity.Kind.TheVariants.{Overlap, Inclusion}
-use Rattle.ambiguities.specs.declared.ambiguity.Ambiguity.{Ambiguity}
-use Rattle.ambiguities.specs.Ambiguities.{IsAmbiguity, joined_word, overlap_word_of}
+use Rattle.ambiguities.proofs.Prelude.{◌≤◌, ℕ, List, length, take, ap, arith, All, length-append, length-take, Compare, measured_letters, Rule, IsRule, rule_at-all, Kind, Overlap, Inclusion, Ambiguity, IsAmbiguity, joined_word, overlap_word_of}
 use Rattle.ambiguities.proofs.Joined.{overlap_word-is}
 use Rattle.ambiguities.proofs.Leads.{short_leads}
 

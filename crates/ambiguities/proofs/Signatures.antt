@@ -1,30 +1,8 @@
 -- The overlap word of typed rules is a path, and the S-polynomial is typed of its signature.
-use Rattle.std.proofs.Common.{◌≡◌, ◌≢◌, ◌<◌, ◌<ℤ◌, ℕ, ℤ, pos, true, List, [], ◌∷◌, ◌++◌, length, take, sym, ap, ap₂, ◌∙◌, subst, arith}
-use Rattle.std.specs.List.{All}
-use Rattle.std.proofs.lemmas.Int.{ints}
-use Rattle.std.proofs.lemmas.List.{length-append, take_at}
-use Rattle.std.proofs.lemmas.List.Elements.{All-map}
-use Rattle.definitions.specs.Poly.{Term, coefficient_of, poly_between}
-use Rattle.definitions.specs.Quiver.{Quiver, IsPath, leads, is_path}
-use Rattle.definitions.proofs.Paths.{step, split, leads-append, fits_from_path, path_from_fits}
-use Rattle.word_core.specs.Overlap.{OverlapsAt}
-use Rattle.word_orders.specs.Admissible.{Compare}
-use Rattle.nc_polynomial.proofs.Distinct.{distinct-descending, words_listed}
-use Rattle.nc_polynomial.proofs.Shapes.{recursion_from_IsDescending}
-use Rattle.rule_reduce.specs.declared.rule.Rule.{Rule}
-use Rattle.rule_reduce.specs.RuleLists.{IsRule}
-use Rattle.rule_reduce.specs.KeptWords.{IsTypedRule}
-use Rattle.rule_reduce.proofs.Numbers.{rule_at-all, rule_at-polynomial}
-use Rattle.rule_reduce.proofs.WordsKept.{words_with_coefficients}
-use Rattle.ambiguities.specs.declared.ambiguity.Kind.{Kind}
-use Rattle.ambiguities.specs.declared.ambiguity.Kind.TheVariants.{Overlap, Inclusion}
-use Rattle.ambiguities.specs.Ambiguities.{MeetsAs, joined_word, overlap_word_of}
-use Rattle.ambiguities.specs.SPolynomials.{first_row, second_row}
-use Rattle.ambiguities.specs.Laws.{EachOfRow, SPolynomialsAreTyped}
+use Rattle.ambiguities.proofs.Prelude.{◌≡◌, ◌≢◌, ◌<◌, ◌<ℤ◌, ℕ, ℤ, pos, true, List, [], ◌∷◌, ◌++◌, length, take, sym, ap, ap₂, ◌∙◌, subst, arith, All, ints, length-append, take_at, All-map, Term, coefficient_of, poly_between, Quiver, IsPath, leads, is_path, step, split, leads-append, fits_from_path, path_from_fits, OverlapsAt, Compare, distinct-descending, words_listed, recursion_from_IsDescending, Rule, IsRule, IsTypedRule, rule_at-all, rule_at-polynomial, words_with_coefficients, Kind, Overlap, Inclusion, MeetsAs, joined_word, overlap_word_of, first_row, second_row, EachOfRow, SPolynomialsAreTyped, all_two}
 use Rattle.ambiguities.proofs.Joined.{overlap_word-is, first_splits, second_splits}
 use Rattle.ambiguities.proofs.Multiples.{leading_coefficient}
 use Rattle.ambiguities.proofs.Bounds.{of_either, coefficient_of-s_polynomial}
-use Rattle.traced_rows.proofs.Lists.{all_two}
 
 -- paths
 leads_from_path : (q : Quiver) (u v : ℕ) (w : List ℕ) → is_path q u v w ≡ true → leads q u v w ≡ true

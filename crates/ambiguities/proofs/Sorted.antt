@@ -1,9 +1,5 @@
 -- Lists of the items that have a property, each before all later ones.
-use Rattle.std.proofs.Common.{◌≡◌, ◌⊎◌, inl, inr, List, [], ◌∷◌, sym, ◌∙◌, subst, arith}
-use Rattle.std.specs.List.{AllPairs, Contains}
-use Rattle.std.proofs.lemmas.List.Kept.{AllPairs-cons}
-use Rattle.std.proofs.lemmas.List.Elements.{All-weaker, All-contains_itself}
-use Rattle.ambiguities.specs.Listed.{ListsExactly}
+use Rattle.ambiguities.proofs.Prelude.{◌≡◌, ◌⊎◌, inl, inr, List, [], ◌∷◌, sym, ◌∙◌, subst, arith, AllPairs, Contains, AllPairs-cons, All-weaker, All-contains_itself, ListsExactly}
 use Rattle.ambiguities.proofs.Ascending.{contains-none, contains-cases, contains-first, contains-rest, first-before, rest-pairs}
 
 -- what is decided

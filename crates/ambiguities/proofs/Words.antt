@@ -1,30 +1,5 @@
 -- Words that have letters, all below a number: reductions and S-polynomials keep them.
-use Rattle.std.proofs.Common.{◌≡◌, ◌<◌, ◌+◌, ℕ, ℤ, List, ◌++◌, length, take, drop, Some, Ok, sym, ap, ◌∙◌, subst, arith, get_or}
-use Rattle.std.specs.List.{All}
-use Rattle.std.proofs.lemmas.List.{length-append}
-use Rattle.std.proofs.lemmas.List.Elements.{All-contains, All-append, All-take, All-drop, All-map}
-use Rattle.definitions.specs.Poly.{Term, poly_between}
-use Rattle.word_core.specs.Letters.{IsOver}
-use Rattle.word_orders.specs.Admissible.{Compare}
-use Rattle.nc_polynomial.specs.Terms.{scaled, products, aligned, added, sums}
-use Rattle.nc_polynomial.specs.Arithmetic.{combined}
-use Rattle.nc_polynomial.specs.Product.{and_then}
-use Rattle.nc_polynomial.proofs.Chains.{sized-value, finished-value}
-use Rattle.nc_polynomial.proofs.Shapes.{all-scaled, all-totals, all-aligned}
-use Rattle.rule_reduce.specs.declared.rule.Rule.{Rule}
-use Rattle.rule_reduce.specs.declared.state.State.{State}
-use Rattle.rule_reduce.specs.declared.state.Choice.{Choice}
-use Rattle.rule_reduce.specs.RuleLists.{IsRule, rule_at, entries_of}
-use Rattle.rule_reduce.specs.Choices.{choice_of}
-use Rattle.rule_reduce.specs.Steps.{moved, move_of}
-use Rattle.rule_reduce.specs.NormalForms.{start_of, normal_form_of}
-use Rattle.rule_reduce.proofs.Chosen.{found}
-use Rattle.rule_reduce.proofs.LettersKept.{each-moved}
-use Rattle.rule_reduce.proofs.Numbers.{rule_at-all, rule_at-polynomial}
-use Rattle.rule_reduce.proofs.Runs.{reduction_keeps}
-use Rattle.ambiguities.specs.declared.ambiguity.Ambiguity.{Ambiguity}
-use Rattle.ambiguities.specs.Ambiguities.{IsAmbiguity, lead_at, overlap_word_of}
-use Rattle.ambiguities.specs.SPolynomials.{first_row, second_row, row_multiple, s_polynomial_of}
+use Rattle.ambiguities.proofs.Prelude.{◌≡◌, ◌<◌, ◌+◌, ℕ, ℤ, List, ◌++◌, length, take, drop, Some, Ok, sym, ap, ◌∙◌, subst, arith, get_or, All, length-append, All-contains, All-append, All-take, All-drop, All-map, Term, poly_between, IsOver, Compare, scaled, products, aligned, added, sums, combined, and_then, sized-value, finished-value, all-scaled, all-totals, all-aligned, Rule, State, Choice, IsRule, rule_at, entries_of, choice_of, moved, move_of, start_of, normal_form_of, found, each-moved, rule_at-all, rule_at-polynomial, reduction_keeps, Ambiguity, IsAmbiguity, lead_at, overlap_word_of, first_row, second_row, row_multiple, s_polynomial_of}
 use Rattle.ambiguities.proofs.Bounds.{over_overlap_word}
 use Rattle.ambiguities.proofs.Multiples.{passed}
 

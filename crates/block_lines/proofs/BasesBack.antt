@@ -1,34 +1,10 @@
 -- A basis that is written is read back, whatever texts are before and after it.
-use Rattle.std.proofs.Common.{◌≡◌, true, false, ℕ, List, ◌∷◌, ◌++◌, IsTrue, arith, refl, sym, ap, ◌∙◌, subst, codes}
-use Rattle.std.specs.Prelude.{decimal}
-use Rattle.std.specs.List.{flat_map, list_all}
-use Rattle.std.proofs.lemmas.List.{append_assoc, length-map}
-use Rattle.nc_polynomial.specs.declared.poly.Poly.{Poly}
-use Rattle.quiver.specs.Declarations.{Declaration, IsDeclared}
-use Rattle.block_text.specs.Back.{is_inside, is_named}
-use Rattle.block_text.specs.Lines.{Line, number_limit}
-use Rattle.block_text.specs.PolynomialBack.{IsPolynomialLine}
-use Rattle.block_text.specs.PolynomialLines.{polynomial_line}
-use Rattle.block_text.specs.Laws.{AreReadBack}
-use Rattle.block_text.specs.Tokens.{tokens_of, is_skipped}
-use Rattle.block_text.specs.Written.{poly_text}
-use Rattle.block_text.proofs.ContentBack.{text_of_tokens}
-use Rattle.block_text.proofs.PartsBack.{IsWritten}
-use Rattle.block_text.proofs.PolysBack.{poly_is_line}
-use Rattle.block_text.proofs.TextsBack.{are_low, line_text-append, literal}
-use Rattle.block_text.proofs.PolynomialBounds.{all_with}
-use Rattle.block_lines.specs.LineKinds.{numbers, polynomial_behind}
+use Rattle.block_lines.proofs.Prelude.{◌≡◌, true, false, ℕ, List, ◌∷◌, ◌++◌, IsTrue, arith, refl, sym, ap, ◌∙◌, subst, codes, decimal, flat_map, list_all, length-map, Poly, Declaration, IsDeclared, is_inside, is_named, Line, number_limit, IsPolynomialLine, polynomial_line, AreReadBack, tokens_of, is_skipped, poly_text, text_of_tokens, IsWritten, poly_is_line, are_low, line_text-append, literal, all_with, numbers, polynomial_behind, Basis, on_polynomial, bounds, flaw_of, part, basis_lines, other_words, basis_kind, by_terms, HasBases, rule_limit, HasLetters, IsWritableBasis, text_of, rule_line, IsPolyOver, polynomials_are_read_back}
+use Rattle.std.proofs.lemmas.List.{append_assoc}
 use Rattle.block_lines.proofs.PolynomialReader.{line_keeps, kept_by}
 use Rattle.block_lines.proofs.SeenKinds.{seen_are_read_back}
 use Rattle.block_lines.proofs.SectionBlocks.{IsLineWritten, number_written, none_written, line_written, lines_written, block_written}
-use Rattle.adjoint_rules.specs.declared.basis.Basis.{Basis}
-use Rattle.block_lines.specs.BasisLines.{on_polynomial, rules, bounds, flaw_of, part, basis_lines}
-use Rattle.block_lines.specs.Bases.{other_words, basis_kind, by_terms, HasBases}
-use Rattle.adjoint_rules.specs.Limits.{rule_limit}
-use Rattle.block_lines.specs.Back.{HasLetters, IsWritableBasis, text_of}
-use Rattle.block_lines.specs.Written.{rule_line}
-use Rattle.quiver.specs.Over.{IsPolyOver}
-use Rattle.block_text.proofs.PolynomialsBack.{polynomials_are_read_back}
+use Rattle.block_lines.specs.BasisLines.{rules}
 use Rattle.block_lines.proofs.Reader.{order, reader}
 
 module _ (ds : List Declaration) (declared : IsDeclared ds) (known : IsTrue (list_all is_named ds)) where

@@ -1,27 +1,7 @@
 -- What holds of the bases that are read, and bases by their terms.
-use Rattle.std.proofs.Common.{◌≡◌, ◌≤◌, ℕ, List, [], ◌∷◌, arith, length, refl, ap, ap₂, subst, map}
+use Rattle.block_lines.proofs.Prelude.{◌≡◌, ◌≤◌, ℕ, List, [], ◌∷◌, arith, length, refl, ap, ap₂, subst, map, All, AllZip, length-map, get_or-map, All-nil, All-cons, All-head, All-tail, All-weaker, Terms, Poly, IsCanonical, IsOver, Declaration, letter_count, IsPolynomialLine, PolynomialTokens, polynomial_line, IsPolynomialTokens, IsPolynomialOf, IsBlocks, values_are, is_canonical, is_over, zip_length, PolynomialBound, names, writing, numbers, terms, words, KeepsPolynomial, Basis, Bound, on_polynomial, BasisTerms, basis_kind, by_terms, AreCanonical, IsBases, IsBasisOver, rule_limit, basis_steps}
 use Rattle.std.proofs.Props as std
-use Rattle.std.specs.List.{All, AllZip}
-use Rattle.std.proofs.lemmas.List.{length-map, get_or-map}
-use Rattle.std.proofs.lemmas.List.Elements.{All-nil, All-cons, All-head, All-tail, All-weaker}
-use Rattle.definitions.specs.Poly.{Poly as Terms}
-use Rattle.nc_polynomial.specs.declared.poly.Poly.{Poly}
-use Rattle.nc_polynomial.specs.Shape.{IsCanonical}
-use Rattle.word_core.specs.Letters.{IsOver}
-use Rattle.quiver.specs.Declarations.{Declaration, letter_count}
-use Rattle.block_text.specs.PolynomialBack.{IsPolynomialLine}
-use Rattle.block_text.specs.PolynomialLines.{PolynomialTokens, polynomial_line, IsPolynomialTokens, IsPolynomialOf}
-use Rattle.block_text.specs.Texts.{IsBlocks}
-use Rattle.block_text.proofs.EachText.{values_are}
-use Rattle.block_text.proofs.PolynomialLaws.{is_canonical, is_over}
-use Rattle.lists.proofs.Zips.{zip_length}
-use Rattle.block_lines.specs.LineKinds.{PolynomialBound, names, writing, numbers, terms, words, KeepsPolynomial}
-use Rattle.adjoint_rules.specs.declared.basis.Basis.{Basis}
-use Rattle.block_lines.specs.BasisLines.{Bound, on_polynomial, rules, BasisTerms}
-use Rattle.block_lines.specs.Bases.{basis_kind, by_terms, AreCanonical, IsBases}
-use Rattle.adjoint_rules.specs.Bases.{IsBasisOver}
-use Rattle.adjoint_rules.specs.Limits.{rule_limit}
-use Rattle.block_lines.specs.Reading.{basis_steps}
+use Rattle.block_lines.specs.BasisLines.{rules}
 use Rattle.block_lines.proofs.Reader.{reader}
 
 -- polynomials by their terms

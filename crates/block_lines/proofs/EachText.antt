@@ -1,14 +1,5 @@
 -- Each text has bases or a first fault, in one way.
-use Rattle.std.proofs.Common.{◌⊎◌, List, sym, subst, inl, inr}
-use Rattle.block_text.specs.Fault.{Fault}
-use Rattle.block_text.specs.Texts.{IsBlocks}
-use Rattle.block_text.specs.Laws.{EachIsRead, ValuesAreUnique, FaultIsUnique, ValuesHaveNoFault, AreTold}
-use Rattle.block_text.proofs.TextLaws.{are_told}
-use Rattle.adjoint_rules.specs.declared.basis.Basis.{Basis}
-use Rattle.block_lines.specs.BasisLines.{BasisTerms}
-use Rattle.block_lines.specs.Bases.{basis_kind, by_terms, IsBases, IsFirstFault}
-use Rattle.block_lines.specs.Reading.{basis_steps}
-use Rattle.quiver.specs.Declarations.{Declaration}
+use Rattle.block_lines.proofs.Prelude.{◌⊎◌, List, sym, subst, inl, inr, Fault, IsBlocks, EachIsRead, ValuesAreUnique, FaultIsUnique, ValuesHaveNoFault, AreTold, are_told, Basis, BasisTerms, basis_kind, by_terms, IsBases, IsFirstFault, basis_steps, Declaration}
 use Rattle.block_lines.proofs.BasisValues.{same_lists, same_basis, bases_with, are_canonical}
 use Rattle.block_lines.proofs.Reader.{reader}
 

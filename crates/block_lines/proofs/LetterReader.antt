@@ -1,31 +1,8 @@
 -- The line of a letter after a word, or of the word alone, is read and read back.
-use Rattle.std.proofs.Common.{◌≡◌, ◌&&◌, ◌<◌, ◌++◌, ◌∷◌, [], ℕ, true, false, List, Option, Some, None, IfSome, IsTrue, refl, sym, ap, ◌∙◌, subst, codes}
-use Rattle.std.specs.List.{list_all}
-use Rattle.std.proofs.lemmas.Bool.{and_parts}
+use Rattle.block_lines.proofs.Prelude.{◌≡◌, ◌&&◌, ◌<◌, ◌++◌, ◌∷◌, [], ℕ, true, false, List, Option, Some, None, IfSome, IsTrue, refl, sym, ap, ◌∙◌, subst, codes, list_all, and_parts, cond_some, same_Some, Letter, Declaration, letter_count, IsDeclared, Flaw, UnknownName, is_named, is_inside, is_letter, letter_of, letter_line, may_be_letter, letter_said, letter_behind, letter_token, letter_read, letter_line_text, Line, is, is_end, tokens_of, is_skipped, letter_text, text_of_tokens, letter_is_spelled, letter_in_range, is_word, is_same, option_map_some, are_low, line_text-append, literal, letter_written, token_read}
 use Rattle.std.proofs.lemmas.List.{append-nil}
-use Rattle.std.proofs.lemmas.Option.{cond_some, same_Some}
-use Rattle.word_core.specs.declared.letter.Letter.{Letter}
-use Rattle.quiver.specs.Declarations.{Declaration, letter_count, IsDeclared}
-use Rattle.block_text.specs.declared.fault.Flaw.{Flaw}
-use Rattle.block_text.specs.declared.fault.Flaw.TheVariants.{UnknownName}
-use Rattle.block_text.specs.Back.{is_named, is_inside}
-use Rattle.block_text.specs.Letters.{is_letter, letter_of}
-use Rattle.block_lines.specs.LineKinds.{letter_line, may_be_letter, letter_said, letter_behind}
-use Rattle.block_lines.specs.LineReadings.{letter_token, letter_read}
-use Rattle.block_lines.specs.Written.{letter_line_text}
-use Rattle.block_text.specs.Lines.{Line, is, is_end}
-use Rattle.block_text.specs.Tokens.{tokens_of, is_skipped}
-use Rattle.block_text.specs.Written.{letter_text}
-use Rattle.block_text.proofs.ContentBack.{text_of_tokens}
-use Rattle.block_text.proofs.LetterNames.{letter_is_spelled}
-use Rattle.block_text.proofs.LetterRange.{letter_in_range}
-use Rattle.block_text.proofs.LineTrees.{is_word}
-use Rattle.block_text.proofs.PolynomialBounds.{is_same}
-use Rattle.block_text.proofs.Results.{option_map_some}
 use Rattle.block_lines.proofs.SectionBlocks.{IsLineWritten}
 use Rattle.block_lines.proofs.SectionReaders.{IsLineReader, said_reader}
-use Rattle.block_text.proofs.TextsBack.{are_low, line_text-append, literal, letter_written}
-use Rattle.block_text.proofs.TokensBack.{token_read}
 
 module _ (word : List ℕ) where
   letter_is : (line : Line) (o : Option (List ℕ)) → letter_token word line ≡ Some o → (line ≡ letter_line word o) × IsTrue (may_be_letter o)

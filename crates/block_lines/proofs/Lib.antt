@@ -1,3 +1,4 @@
+mod Prelude
 pub mod Outcomes
 pub mod SectionReaders
 pub mod SectionBlocks

@@ -1,24 +1,7 @@
 -- Lines up to the end of a block, no two of which have the same name, are read.
-use Rattle.std.proofs.Common.{arith, ◌≡◌, ◌++◌, ◌∷◌, [], ℕ, false, List, Option, Some, Result, Ok, Err, refl, sym, ap, ap₂, ◌∙◌, subst, map, append_assoc, append-nil}
-use Rattle.std.specs.List.{All, AllZip, list_any}
-use Rattle.std.specs.Str.{bytes_eq}
-use Rattle.std.proofs.lemmas.List.{map-append}
-use Rattle.std.proofs.lemmas.List.Elements.{All-nil, All-head, All-tail, All-push, All-map, All-weaker}
-use Rattle.std.proofs.lemmas.Option.{same_Some}
-use Rattle.block_text.specs.declared.fault.Flaw.{Flaw}
-use Rattle.block_text.specs.declared.fault.Flaw.TheVariants.{BadLine}
-use Rattle.block_text.specs.Lines.{Line, is_end}
-use Rattle.block_text.proofs.Bounds.{before}
-use Rattle.block_text.proofs.Meets.{Meets, reads, passes, then_meets, meets-weaker}
+use Rattle.block_lines.proofs.Prelude.{arith, ◌≡◌, ◌++◌, ◌∷◌, [], ℕ, false, List, Option, Some, Result, Ok, Err, refl, sym, ap, ap₂, ◌∙◌, subst, map, append_assoc, append-nil, All, AllZip, list_any, bytes_eq, map-append, All-nil, All-head, All-tail, All-push, All-map, All-weaker, same_Some, Flaw, BadLine, Line, is_end, before, Meets, reads, passes, then_meets, meets-weaker, Begins, IsStopped, misfit, everywhere, AllZip-unique, zip_push, LineKind, Section, named_lines, SectionSteps, named_steps, bytes_eq-Decides}
 use Rattle.block_text.proofs.Owed as owed
-use Rattle.block_text.proofs.Owed.{Begins, IsStopped, misfit}
-use Rattle.block_text.proofs.Standing.{everywhere}
-use Rattle.lists.proofs.Zips.{AllZip-unique, zip_push}
-use Rattle.block_lines.specs.LineKinds.{LineKind}
-use Rattle.block_lines.specs.Sections.{Section, named_lines}
-use Rattle.block_lines.specs.SectionSteps.{SectionSteps, named_steps}
 use Rattle.block_lines.proofs.Outcomes.{Told, gives, refuses, told_given, told_refused, then_told, result_told, asked_told, test_told}
-use Rattle.std.proofs.lemmas.Slice.Eq.{bytes_eq-Decides}
 use Rattle.block_lines.proofs.Names.{AreDistinct, distinct_push, distinct_apart}
 use Rattle.block_lines.proofs.SectionReaders.{read_from, kind_by, AreFit, IsSectionReader}
 

@@ -1,12 +1,5 @@
 -- Names of which no two are the same, by a test of whether two are.
-use Rattle.std.proofs.Common.{◌≡◌, ◌≢◌, ◌<◌, Bool, true, false, List, ◌∷◌, [], ◌++◌, arith, sym, ◌∙◌, length, get_or}
-use Rattle.std.specs.List.{AllPairs, list_any}
-use Rattle.std.proofs.lemmas.Bool.{false_from_ne_true}
-use Rattle.std.proofs.lemmas.List.{length-append}
-use Rattle.std.proofs.lemmas.List.Folds.{list_any_none, list_any_at}
-use Rattle.std.proofs.lemmas.List.Quantifiers.{all_pairs_push}
-use Rattle.std.proofs.Math.ListN.{get_or-append}
-use Rattle.std.proofs.Math.Seq.{get_or-append_seam}
+use Rattle.block_lines.proofs.Prelude.{◌≡◌, ◌≢◌, ◌<◌, Bool, true, false, List, ◌∷◌, [], ◌++◌, arith, sym, ◌∙◌, length, get_or, AllPairs, list_any, false_from_ne_true, length-append, list_any_none, list_any_at, all_pairs_push, get_or-append, get_or-append_seam}
 
 abbrev pub AreDistinct : {A : Type 0} → List A → Type 0
 AreDistinct names = AllPairs (λ x y. x ≢ y) names

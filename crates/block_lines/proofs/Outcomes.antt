@@ -1,7 +1,5 @@
 -- What was read, of which a fact holds, or the flaw that was told, of which another does.
-use Rattle.std.proofs.Common.{◌≡◌, Bool, true, false, cond, Option, Some, None, Result, Ok, Err, refl, subst}
-use Rattle.block_text.specs.declared.fault.Flaw.{Flaw}
-use Rattle.block_text.specs.Fault.{◌>>=◌, asked}
+use Rattle.block_lines.proofs.Prelude.{◌≡◌, Bool, true, false, cond, Option, Some, None, Result, Ok, Err, refl, subst, Flaw, ◌>>=◌, asked}
 
 pub data Told {A : Type 0} (Good : A → Type 0) (Bad : Flaw → Type 0) (r : Result A Flaw) : Type 0 where
   gives : (x : A) → r ≡ Ok x → Good x → Told Good Bad r

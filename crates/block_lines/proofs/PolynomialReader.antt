@@ -1,29 +1,8 @@
 -- The line of a polynomial after a word is read.
-use Rattle.std.proofs.Common.{arith, ◌≡◌, ◌⊎◌, ◌∷◌, [], ℕ, true, false, List, Option, Some, None, Result, Ok, Err, IfSome, refl, sym, ap, ap₂, ◌∙◌, subst, map, inl, inr, codes}
-use Rattle.std.specs.List.{All}
-use Rattle.std.proofs.lemmas.List.Elements.{All-nil, All-cons, All-map, All-push, All-weaker, All-replicate}
+use Rattle.block_lines.proofs.Prelude.{arith, ◌≡◌, ◌⊎◌, ◌∷◌, [], ℕ, true, false, List, Option, Some, None, Result, Ok, Err, IfSome, refl, sym, ap, ap₂, ◌∙◌, subst, map, inl, inr, codes, All, All-nil, All-cons, All-map, All-push, All-weaker, All-replicate, IsDescending, Declaration, Flaw, BadLine, Line, is, IsPolynomialLine, Fits, IsPolynomialFlaw, PolynomialTokens, polynomial_line, IsPolynomialTokens, terms_in, IsPolynomialOf, polynomial_of, before, is_word, Meets, reads, passes, begins_no_end, is_same, tokens_unique, polynomial_is, flaw_is, poly_unique, by_test, PolynomialBound, names, writing, numbers, terms, words, polynomial_before, polynomial_flaw, KeepsPolynomial, polynomial_behind, polynomial_read}
 use Rattle.definitions.specs.Poly.{Poly}
-use Rattle.nc_polynomial.specs.Terms.{IsDescending}
-use Rattle.quiver.specs.Declarations.{Declaration}
-use Rattle.block_text.specs.declared.fault.Flaw.{Flaw}
-use Rattle.block_text.specs.declared.fault.Flaw.TheVariants.{BadLine}
-use Rattle.block_text.specs.Lines.{Line, is}
-use Rattle.block_text.specs.PolynomialBack.{IsPolynomialLine}
 use Rattle.block_text.specs.PolynomialFlaws as wrong
-use Rattle.block_text.specs.PolynomialFlaws.{Fits, IsPolynomialFlaw}
 use Rattle.block_text.specs.PolynomialLines as tokens
-use Rattle.block_text.specs.PolynomialLines.{PolynomialTokens, polynomial_line, IsPolynomialTokens, terms_in, IsPolynomialOf}
-use Rattle.block_text.specs.PolynomialReading.{polynomial_of}
-use Rattle.block_text.proofs.Bounds.{before}
-use Rattle.block_text.proofs.LineTrees.{is_word}
-use Rattle.block_text.proofs.Meets.{Meets, reads, passes}
-use Rattle.block_text.proofs.PartsBack.{begins_no_end}
-use Rattle.block_text.proofs.PolynomialBounds.{is_same}
-use Rattle.block_text.proofs.PolynomialFlaws.{tokens_unique}
-use Rattle.block_text.proofs.PolynomialLaws.{polynomial_is, flaw_is, poly_unique}
-use Rattle.block_text.proofs.Results.{by_test}
-use Rattle.block_lines.specs.LineKinds.{PolynomialBound, names, writing, numbers, terms, words, polynomial_before, polynomial_flaw, KeepsPolynomial, polynomial_behind}
-use Rattle.block_lines.specs.LineReadings.{polynomial_read}
 use Rattle.block_lines.proofs.SectionReaders.{IsLineReader, IsLineRead, IsLinePassed}
 
 module _ (ds : List Declaration) where

@@ -1,19 +1,9 @@
 -- The reader of bases owes what a reader of blocks owes.
-use Rattle.std.proofs.Common.{◌≡◌, true, not, List, Some, refl, map, codes}
-use Rattle.std.specs.List.{list_all}
-use Rattle.quiver.specs.Declarations.{Declaration}
-use Rattle.block_text.specs.Lines.{number_limit}
-use Rattle.block_text.proofs.Bounds.{bound_of, before, same_flaw}
-use Rattle.block_text.proofs.Owed.{IsReader}
-use Rattle.block_lines.specs.LineKinds.{PolynomialBound, names, writing, numbers, terms, words, polynomial_before, polynomial_behind}
-use Rattle.block_lines.specs.LineReadings.{polynomial_read}
+use Rattle.block_lines.proofs.Prelude.{◌≡◌, true, not, List, Some, refl, map, codes, list_all, Declaration, number_limit, bound_of, before, same_flaw, IsReader, PolynomialBound, names, writing, numbers, terms, words, polynomial_before, polynomial_behind, polynomial_read, Bound, on_polynomial, bounds, flaw_of, part, other_words, basis_kind, rule_limit, basis_steps}
 use Rattle.block_lines.proofs.PolynomialReader.{polynomial_reader}
 use Rattle.block_lines.proofs.SectionBlocks.{number_read, block_read}
 use Rattle.block_lines.proofs.SectionReaders.{IsLineReader, none_read, line_read, lines_read}
-use Rattle.block_lines.specs.BasisLines.{Bound, on_polynomial, rules, bounds, flaw_of, part}
-use Rattle.block_lines.specs.Bases.{other_words, basis_kind}
-use Rattle.adjoint_rules.specs.Limits.{rule_limit}
-use Rattle.block_lines.specs.Reading.{basis_steps}
+use Rattle.block_lines.specs.BasisLines.{rules}
 
 -- each has a bound of its own
 told : (b : Bound) → bound_of flaw_of bounds (flaw_of b) ≡ Some b

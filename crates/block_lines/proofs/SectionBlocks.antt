@@ -1,32 +1,6 @@
 -- A block by its lines is read and read back.
-use Rattle.std.proofs.Common.{arith, ◌≡◌, ◌≤◌, ◌<◌, ◌^◌, ◌++◌, ◌∷◌, [], ℕ, suc, true, false, List, Some, None, Ok, Err, refl, sym, ap, ◌∙◌, subst, length, map, append_assoc, codes, IsTrue}
-use Rattle.std.specs.Prelude.{decimal}
-use Rattle.std.specs.List.{All, AllZip, flat_map, list_all, list_any}
-use Rattle.std.proofs.lemmas.List.Elements.{All-nil, All-cons, All-head, All-tail}
-use Rattle.block_text.specs.declared.fault.Flaw.{Flaw}
-use Rattle.block_text.specs.declared.fault.Flaw.TheVariants.{BadLine, NumberTooLarge, TooMany}
-use Rattle.block_text.specs.Back.{is_inside}
-use Rattle.block_text.specs.Blocks.{is_other_head}
-use Rattle.block_text.specs.Kind.{Kind}
-use Rattle.block_text.specs.Letters.{is_number, number_within}
-use Rattle.block_text.specs.Lines.{Line, block_limit, is_end, end_line, number_behind, number_of}
-use Rattle.block_text.specs.Steps.{Steps}
-use Rattle.block_text.specs.Tokens.{tokens_of, is_skipped, begins_comment}
-use Rattle.block_text.proofs.Bounds.{bound_of, before}
-use Rattle.block_text.proofs.ContentBack.{IsTextOf, no_text, text-append, text_of_tokens}
-use Rattle.block_text.proofs.LineTrees.{number_is}
-use Rattle.block_text.proofs.NumberLines.{text_of_number, end_is_text}
-use Rattle.block_text.proofs.NumbersBack.{decimal_text, decimal_number, decimal_within}
+use Rattle.block_lines.proofs.Prelude.{arith, ◌≡◌, ◌≤◌, ◌<◌, ◌^◌, ◌++◌, ◌∷◌, [], ℕ, suc, true, false, List, Some, None, Ok, Err, refl, sym, ap, ◌∙◌, subst, length, map, append_assoc, codes, IsTrue, decimal, All, AllZip, flat_map, list_all, list_any, All-nil, All-cons, All-head, All-tail, Flaw, BadLine, NumberTooLarge, TooMany, is_inside, is_other_head, Kind, is_number, number_within, Line, block_limit, is_end, end_line, number_behind, number_of, Steps, tokens_of, is_skipped, begins_comment, bound_of, before, IsTextOf, no_text, text-append, text_of_tokens, number_is, text_of_number, end_is_text, decimal_text, decimal_number, decimal_within, Begins, IsWhole, IsStopped, misfit, IsReader, reader_by_head, read_inside, IsWritten, is_same, bind_same, number_found, literal, are_low, LineKind, number_line, Section, no_lines, line_then, lines_then, block_kind, SectionSteps, block_steps}
 use Rattle.block_text.proofs.Owed as owed
-use Rattle.block_text.proofs.Owed.{Begins, IsWhole, IsStopped, misfit, IsReader, reader_by_head, read_inside}
-use Rattle.block_text.proofs.PartsBack.{IsWritten}
-use Rattle.block_text.proofs.PolynomialBounds.{is_same}
-use Rattle.block_text.proofs.Results.{bind_same}
-use Rattle.block_text.proofs.SaidLines.{number_found}
-use Rattle.block_text.proofs.TextsBack.{literal, are_low}
-use Rattle.block_lines.specs.LineKinds.{LineKind, number_line}
-use Rattle.block_lines.specs.Sections.{Section, no_lines, line_then, lines_then, block_kind}
-use Rattle.block_lines.specs.SectionSteps.{SectionSteps, block_steps}
 use Rattle.block_lines.proofs.SectionReaders.{read_from, kind_by, IsLineReader, IsSectionReader, said_reader}
 
 module _ {Bound : Type 0} (flaw_of : Bound → Flaw) (bounds : List Bound) where

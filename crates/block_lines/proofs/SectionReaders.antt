@@ -1,36 +1,10 @@
 -- What a reader of a line and one of lines owe, and that lines one after another are read where each is.
-use Rattle.std.proofs.Common.{arith, ◌≡◌, ◌≤◌, ◌<◌, ◌+◌, ◌&&◌, ◌⊎◌, ◌++◌, ◌∷◌, [], ℕ, Bool, true, false, not, List, Option, Some, None, Result, Ok, Err, refl, sym, ap, ap₂, ◌∙◌, subst, length, length-append, map, nat_le, append_assoc, append-nil, inl, inr}
-use Rattle.std.specs.Bool.{⊤}
-use Rattle.std.specs.List.{All, AllZip, list_all}
-use Rattle.std.specs.Option.{option_map}
-use Rattle.std.proofs.lemmas.Bool.{and_parts}
-use Rattle.std.proofs.lemmas.Bool.Decides.{nat_tests}
-use Rattle.std.proofs.lemmas.List.{map-append}
-use Rattle.std.proofs.lemmas.List.Elements.{All-nil, All-cons, All-head, All-tail, All-push, All-append, All-map, All-weaker}
-use Rattle.std.proofs.lemmas.Option.{same_Some}
-use Rattle.block_text.specs.declared.fault.Flaw.{Flaw}
+use Rattle.block_lines.proofs.Prelude.{arith, ◌≡◌, ◌≤◌, ◌<◌, ◌+◌, ◌&&◌, ◌⊎◌, ◌++◌, ◌∷◌, [], ℕ, Bool, true, false, not, List, Option, Some, None, Result, Ok, Err, refl, sym, ap, ap₂, ◌∙◌, subst, length, map, nat_le, append_assoc, append-nil, inl, inr, ⊤, All, AllZip, list_all, option_map, and_parts, nat_tests, map-append, All-nil, All-cons, All-head, All-tail, All-push, All-append, All-map, All-weaker, same_Some, Flaw, BadLine, TooMany, ◌>>=◌, asked, Line, begins, is_end, said, Kind, until, same_flaw, before, Meets, reads, passes, then_meets, meets-weaker, Begins, IsWhole, IsStopped, misfit, stopped_by, all_with, bind_assoc, option_map_some, said_ok, said_err, said_meets, everywhere, AllZip-unique, zip_length, zip_push, LinePlace, LinesPlace, LineKind, said_line, Reading, Section, no_lines, line_by, line_then, lines_then, said_as, SectionSteps, no_steps, grown, lines_place, line_next, line_steps_by, line_steps, lines_next, lines_steps, steps_as}
+use Rattle.std.proofs.Common.{length-append}
 use Rattle.block_text.specs.declared.fault.Flaw.TheVariants as flaw
-use Rattle.block_text.specs.declared.fault.Flaw.TheVariants.{BadLine, TooMany}
-use Rattle.block_text.specs.Fault.{◌>>=◌, asked}
-use Rattle.block_text.specs.Lines.{Line, begins, is_end, said}
-use Rattle.block_text.specs.Kind.{Kind}
-use Rattle.block_text.proofs.Bounds.{until, same_flaw, before}
-use Rattle.block_text.proofs.Meets.{Meets, reads, passes, then_meets, meets-weaker}
 use Rattle.block_text.proofs.Owed as owed
-use Rattle.block_text.proofs.Owed.{Begins, IsWhole, IsStopped, misfit, stopped_by}
-use Rattle.block_text.proofs.PolynomialBounds.{all_with}
-use Rattle.block_text.proofs.Results.{bind_assoc, option_map_some}
-use Rattle.block_text.proofs.SaidLines.{said_ok, said_err, said_meets}
-use Rattle.block_text.proofs.Standing.{everywhere}
-use Rattle.lists.proofs.Zips.{AllZip-unique, zip_length, zip_push}
-use Rattle.block_lines.specs.declared.section.LinePlace.{LinePlace}
 use Rattle.block_lines.specs.declared.section.LinePlace.TheVariants as at
-use Rattle.block_lines.specs.declared.section.LinesPlace.{LinesPlace}
-use Rattle.block_lines.specs.LineKinds.{LineKind, said_line}
-use Rattle.block_lines.specs.LineReadings.{Reading}
-use Rattle.block_lines.specs.Sections.{Section, no_lines, line_by, line_then, lines_then, said_as}
 use Rattle.block_lines.proofs.Outcomes.{Told, gives, refuses, told_given, told_refused, then_told, result_told, test_told}
-use Rattle.block_lines.specs.SectionSteps.{SectionSteps, no_steps, grown, lines_place, line_next, line_steps_by, line_steps, lines_next, lines_steps, steps_as}
 
 -- lines from a place on, to the end
 abbrev pub read_from : {B V : Type 0} → SectionSteps B V → B → List Line → Result V Flaw

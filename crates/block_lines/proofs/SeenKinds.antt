@@ -1,13 +1,5 @@
 -- A kind of block whose values are seen as others.
-use Rattle.std.proofs.Common.{ℕ, false, List, [], ◌∷◌, ◌≡◌, map}
-use Rattle.std.specs.List.{AllZip, list_any}
-use Rattle.block_text.specs.Kind.{Kind}
-use Rattle.block_text.specs.Blocks.{own_in}
-use Rattle.block_text.specs.Laws.{AreReadBack}
-use Rattle.block_text.specs.Texts.{HasBlocks}
-use Rattle.block_text.specs.Tokens.{begins_comment}
-use Rattle.block_text.proofs.PartsBack.{IsWritten}
-use Rattle.block_text.proofs.TextLaws.{are_read_back}
+use Rattle.block_lines.proofs.Prelude.{ℕ, false, List, [], ◌∷◌, ◌≡◌, map, AllZip, list_any, Kind, own_in, AreReadBack, HasBlocks, begins_comment, IsWritten, are_read_back}
 
 module _ {V W : Type 0} (kind : Kind V) (f : W → V) where
   -- the same blocks, of which each says what is seen as its value

@@ -1,9 +1,6 @@
 -- The bounds of a kind, by the flaw of a line that exceeds one.
-use Rattle.std.proofs.Common.{◌≡◌, ◌==◌, ◌&&◌, ℕ, Bool, true, false, List, [], ◌∷◌, ◌++◌, Option, Some, refl, ap, if◌then◌else◌}
-use Rattle.std.specs.List.{find}
-use Rattle.block_text.specs.declared.fault.Flaw.{Flaw}
+use Rattle.block_text.proofs.Prelude.{◌≡◌, ◌==◌, ◌&&◌, ℕ, Bool, true, false, List, [], ◌∷◌, ◌++◌, Option, Some, refl, ap, if◌then◌else◌, find, Flaw, limit_of}
 use Rattle.block_text.specs.declared.fault.Flaw.TheVariants as flaw
-use Rattle.block_text.specs.Fault.{limit_of}
 
 -- those before it
 abbrev pub until : {A : Type 0} → (A → Bool) → List A → List A

@@ -1,13 +1,5 @@
 -- The first closing bracket of a line.
-use Rattle.std.proofs.Common.{◌≡◌, ◌<◌, ◌≤◌, ◌+◌, ◌-◌, ◌==◌, ◌∙◌, ◌||◌, ℕ, suc, Bool, true, false, not, List, [], ◌∷◌, ◌++◌, Some, None, arith, refl, sym, ap, codes, length, take, drop, nat_lt}
-use Rattle.std.proofs.lemmas.Bool.{false_from_ne_true, and_parts}
-use Rattle.std.proofs.lemmas.Bool.Decides.{nat_tests}
-use Rattle.std.proofs.lemmas.List.{take_rest}
-use Rattle.std.proofs.lemmas.Option.{cond_some}
-use Rattle.std.proofs.lemmas.Slice.Eq.{bytes_eq-Decides}
-use Rattle.std.specs.List.{AllByRecursion, list_all, onto_first, position, position_or_len}
-use Rattle.block_text.specs.Lines.{is, is_close, closed}
-use Rattle.block_text.specs.Tokens.{is_gap, is_sign, is_plain, is_closing, goes_on, tokens_of}
+use Rattle.block_text.proofs.Prelude.{◌≡◌, ◌<◌, ◌≤◌, ◌+◌, ◌-◌, ◌==◌, ◌∙◌, ◌||◌, ℕ, suc, Bool, true, false, not, List, [], ◌∷◌, ◌++◌, Some, None, arith, refl, sym, ap, codes, length, take, drop, nat_lt, false_from_ne_true, and_parts, nat_tests, take_rest, cond_some, bytes_eq-Decides, AllByRecursion, list_all, onto_first, position, position_or_len, is, is_close, closed, is_gap, is_sign, is_plain, is_closing, goes_on, tokens_of}
 use Rattle.block_text.proofs.Cuts.{IsRun, run_taken, tokens-gap, tokens-alone, tokens-joined}
 
 -- a token of its own, and no gap

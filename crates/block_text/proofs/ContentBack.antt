@@ -1,14 +1,5 @@
 -- Texts of whole lines, and the lines of tokens that they are.
-use Rattle.std.proofs.Common.{◌≡◌, ℕ, Bool, true, false, not, List, [], ◌∷◌, ◌++◌, refl, ap, ◌∙◌, subst, map}
-use Rattle.std.specs.Prelude.{filter}
-use Rattle.std.specs.Str.{IsUtf8}
-use Rattle.std.specs.Str.Lines.{lines}
-use Rattle.std.proofs.lemmas.List.{map-append}
-use Rattle.std.proofs.lemmas.List.Elements.{filter-append}
-use Rattle.std.proofs.lemmas.Str.{IsUtf8-nil, IsUtf8-append}
-use Rattle.block_text.specs.Tokens.{tokens_of, is_skipped}
-use Rattle.block_text.specs.Lines.{Line, content}
-use Rattle.block_text.specs.Back.{is_whole, IsLineText}
+use Rattle.block_text.proofs.Prelude.{◌≡◌, ℕ, Bool, true, false, not, List, [], ◌∷◌, ◌++◌, refl, ap, ◌∙◌, subst, map, filter, IsUtf8, lines, map-append, filter-append, IsUtf8-nil, IsUtf8-append, tokens_of, is_skipped, Line, content, is_whole, IsLineText}
 use Rattle.block_text.proofs.LinesBack.{line_is, lines_append}
 use Rattle.block_text.proofs.TextsBack.{ascii}
 

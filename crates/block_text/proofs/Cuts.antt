@@ -1,13 +1,5 @@
 -- The first line of a text, and the first token of a line.
-use Rattle.std.proofs.Common.{◌≡◌, ◌<◌, ◌≤◌, ◌+◌, ◌-◌, ℕ, suc, Bool, true, false, not, ◌||◌, List, [], ◌∷◌, Some, None, arith, refl, ap, length, take, drop, get_or, nat_lt, cond}
-use Rattle.std.proofs.lemmas.Bool.{ne_eqb}
-use Rattle.std.proofs.lemmas.Option.{cond_some}
-use Rattle.std.proofs.lemmas.Bool.Decides.{nat_tests}
-use Rattle.std.proofs.lemmas.List.{take_rest}
-use Rattle.std.proofs.lemmas.List.Splits.{slice_split_first}
-use Rattle.std.specs.List.{position, position_or_len, prefix_len, onto_first, slice_split}
-use Rattle.std.specs.Str.Lines.{lines, lines_of_parts, strip_carriage_return}
-use Rattle.block_text.specs.Tokens.{is_line_end, is_gap, is_sign, is_plain, goes_on, token_len, tokens_of}
+use Rattle.block_text.proofs.Prelude.{◌≡◌, ◌<◌, ◌≤◌, ◌+◌, ◌-◌, ℕ, suc, Bool, true, false, not, ◌||◌, List, [], ◌∷◌, Some, None, arith, refl, ap, length, take, drop, get_or, nat_lt, cond, ne_eqb, cond_some, nat_tests, take_rest, slice_split_first, position, position_or_len, prefix_len, onto_first, slice_split, lines, lines_of_parts, strip_carriage_return, is_line_end, is_gap, is_sign, is_plain, goes_on, token_len, tokens_of}
 
 -- there is a first part
 pub record FirstPart (parts : List (List ℕ)) : Type 0 where

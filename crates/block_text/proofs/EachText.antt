@@ -1,30 +1,14 @@
 -- What the bytes of a text are read as is what they say, or the first thing that is wrong with them.
-use Rattle.std.proofs.Common.{◌≡◌, ◌<◌, ◌+◌, ◌⊎◌, ℕ, Bool, true, false, List, [], ◌∷◌, Result, Ok, Err, IfOk, MatchResult, arith, refl, length, inl, inr}
-use Rattle.std.specs.List.{All, AllZip}
-use Rattle.std.specs.Str.{is_utf8}
-use Rattle.std.specs.Str.Lines.{lines}
-use Rattle.std.proofs.lemmas.List.{nil_from_length}
-use Rattle.std.proofs.lemmas.List.Elements.{All-nil, All-cons, All-head, All-tail}
-use Rattle.block_text.specs.declared.fault.CertFault.{CertFault}
+use Rattle.block_text.proofs.Prelude.{◌≡◌, ◌<◌, ◌+◌, ◌⊎◌, ℕ, Bool, true, false, List, [], ◌∷◌, Result, Ok, Err, IfOk, MatchResult, arith, refl, length, inl, inr, All, AllZip, is_utf8, lines, nil_from_length, All-nil, All-cons, All-head, All-tail, CertFault, Place, Progress, Fault, ◌>>=◌, at_line, in_line, truncated, ReadsText, Explains, ExplainsBy, tokens_of, content, Kind, Block, own, other, own_in, IsBlock, TextBound, on_block, on_count, Keeps, bounds, HasBlocks, IsBlocks, IsCutOff, IsFirstFault, Steps, progress, read_tokens, read_lines, beginning, ended, values_of, one_or_more, all_values, zip_length}
 use Rattle.block_text.specs.declared.fault.CertFault.TheVariants as cert_fault
-use Rattle.block_text.specs.declared.place.Place.{Place}
 use Rattle.block_text.specs.declared.place.Place.TheVariants as at
-use Rattle.block_text.specs.declared.place.Progress.{Progress}
-use Rattle.block_text.specs.Fault.{Fault, ◌>>=◌, at_line, in_line, truncated, ReadsText, Explains, ExplainsBy}
-use Rattle.block_text.specs.Tokens.{tokens_of}
-use Rattle.block_text.specs.Lines.{content}
-use Rattle.block_text.specs.Kind.{Kind}
-use Rattle.block_text.specs.Blocks.{Block, own, other, own_in, IsBlock, TextBound, on_block, on_count, Keeps, bounds}
-use Rattle.block_text.specs.Texts.{HasBlocks, IsBlocks, IsCutOff, IsFirstFault}
 use Rattle.block_text.specs.Texts as first
-use Rattle.block_text.specs.Steps.{Steps, progress, read_tokens, read_lines, beginning, ended, values_of, one_or_more, all_values}
 use Rattle.block_text.proofs.Owed.{IsReader}
 use Rattle.block_text.proofs.Results.{bind_same}
 use Rattle.block_text.proofs.NumberedLines.{run, lines_by, IsRefused, AreLinesRead, all, some, lines_are_read, all_are_read, refused_at}
 use Rattle.block_text.proofs.TextLines.{step_at}
 use Rattle.block_text.proofs.Standing.{everywhere, goes_on, stands_outside}
 use Rattle.block_text.proofs.ReadLines.{stands, kept_at, is_flawed, is_refused, goes_read, blocks_read, is_cut_off}
-use Rattle.lists.proofs.Zips.{zip_length}
 
 read_by : {Begun Value : Type 0} (steps : Steps Begun Value) (number : ℕ) (p : Progress Begun Value) (ls : List (List ℕ)) → read_lines steps number p ls ≡ lines_by (step_at steps) number p ls
 read_by steps number p [] = refl

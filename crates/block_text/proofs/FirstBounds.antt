@@ -1,13 +1,7 @@
 -- A line is flawed in one way at most.
-use Rattle.std.proofs.Common.{◌≡◌, List, [], ◌∷◌, ◌++◌, refl, sym, ap, ap₂, ◌∙◌, subst, append_assoc, length}
-use Rattle.std.specs.List.{All}
-use Rattle.std.proofs.Math.Seq.{take-append_seam}
-use Rattle.std.proofs.lemmas.List.Elements.{All-nil, All-take, All-contains, Contains-push}
-use Rattle.block_text.specs.declared.fault.Flaw.{Flaw}
-use Rattle.block_text.specs.Lines.{Line}
-use Rattle.block_text.specs.Kind.{Kind}
-use Rattle.block_text.specs.Blocks.{Keeps, TextBound, bounds, flaw_of}
-use Rattle.block_text.specs.Texts.{GoesOn, IsFlawed, misfit, passes}
+use Rattle.block_text.proofs.Prelude.{◌≡◌, List, [], ◌∷◌, ◌++◌, refl, sym, ap, ap₂, ◌∙◌, subst, length, All, take-append_seam, All-nil, All-take, All-contains, Contains-push, Flaw, Line, Kind, Keeps, TextBound, bounds, flaw_of, GoesOn, IsFlawed, misfit}
+use Rattle.std.proofs.Common.{append_assoc}
+use Rattle.block_text.specs.Texts.{passes}
 
 -- the last of some
 pub last_kept : {B : Type 0} (K : B → Type 0) (front : List B) (b : B) → All K (front ++ b ∷ []) → K b

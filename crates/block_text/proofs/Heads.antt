@@ -1,6 +1,5 @@
 -- The words that blocks begin with.
-use Rattle.std.proofs.Common.{◌≡◌, ◌||◌, Bool, List, [], ◌∷◌, refl, ap, map}
-use Rattle.std.specs.List.{list_any}
+use Rattle.block_text.proofs.Prelude.{◌≡◌, ◌||◌, Bool, List, [], ◌∷◌, refl, ap, map, list_any}
 
 pub any_mapped : {A B : Type 0} (p : B → Bool) (f : A → B) (xs : List A) → list_any p (map f xs) ≡ list_any (λ x. p (f x)) xs
 any_mapped p f [] = refl

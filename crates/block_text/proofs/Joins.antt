@@ -1,15 +1,5 @@
 -- Words are written letter by letter, and only by the texts of their letters.
-use Rattle.std.proofs.Common.{◌≡◌, ◌<◌, ◌+◌, ◌==◌, ℕ, false, List, [], ◌∷◌, ◌++◌, arith, refl, ap, ap₂, length, take, map, get_or, codes}
-use Rattle.std.proofs.lemmas.Bool.{ne_eqb}
-use Rattle.std.proofs.lemmas.List.{append_assoc, take_more, map-append, length-map, length-take-le}
-use Rattle.std.proofs.lemmas.List.Elements.{All-head, All-tail}
-use Rattle.std.specs.Int.{is_negative}
-use Rattle.std.specs.Int.RustNames.{unsigned_abs}
-use Rattle.std.specs.List.{All, flat_map, join_with_byte}
-use Rattle.std.specs.Prelude.{if◌then◌else◌}
-use Rattle.definitions.specs.Poly.{Poly, Term}
-use Rattle.word_core.specs.Letters.{IsOver}
-use Rattle.block_text.specs.Written.{gap_text, factor_text, word_by, later_by, poly_by}
+use Rattle.block_text.proofs.Prelude.{◌≡◌, ◌<◌, ◌+◌, ◌==◌, ℕ, false, List, [], ◌∷◌, ◌++◌, arith, refl, ap, ap₂, length, take, map, get_or, codes, ne_eqb, append_assoc, take_more, map-append, length-map, length-take-le, All-head, All-tail, is_negative, unsigned_abs, All, flat_map, join_with_byte, if◌then◌else◌, Poly, Term, IsOver, gap_text, factor_text, word_by, later_by, poly_by}
 
 -- one more part after others
 join_behind : (x : List ℕ) (xs : List (List ℕ)) (y : List ℕ) → join_with_byte 32 ((x ∷ xs) ++ y ∷ []) ≡ join_with_byte 32 (x ∷ xs) ++ (32 ∷ []) ++ y

@@ -1,20 +1,5 @@
 -- What the name of a letter stands for.
-use Rattle.std.proofs.Common.{◌≡◌, ◌≢◌, ◌<◌, ◌≤◌, ◌+◌, ◌-◌, ℕ, zero, suc, Bool, true, false, nat_eq, nat_lt, List, [], ◌∷◌, ◌++◌, Some, arith, refl, sym, ap, ◌∙◌, subst, length, map, eq-eqb, ltb-true, IsTrue}
-use Rattle.std.specs.List.{AllPairs, AllByRecursion, list_all}
-use Rattle.std.specs.Map.{lookup}
-use Rattle.std.specs.Str.{bytes_eq}
-use Rattle.std.proofs.lemmas.Bool.{and_parts, ne_eqb, false_from_ne_true, ltb-false}
-use Rattle.std.proofs.lemmas.List.{length-map, length-append}
-use Rattle.std.proofs.lemmas.Slice.Eq.{bytes_eq-Decides}
-use Rattle.definitions.specs.Quiver.{star}
-use Rattle.quiver.specs.declared.named.Named.{Named}
-use Rattle.quiver.specs.Declarations.{Declaration, object, arrow, name_of, objects_of, letters_of, object_count, letter_count, named_by, letter_at, object_name, letter_name, identity_in, quiver_of, named_in, IsDeclared}
-use Rattle.quiver.proofs.Counts.{letter_count-append}
-use Rattle.quiver.proofs.Found.{name_at-split, object_at-split, letter_at-split, object_name-split, letter_name-split, plus_zero}
-use Rattle.quiver.proofs.Growth.{turn, names_from}
-use Rattle.quiver.proofs.Letters.{star-quiver_of}
-use Rattle.block_text.specs.Letters.{is_name}
-use Rattle.block_text.specs.Back.{is_named}
+use Rattle.block_text.proofs.Prelude.{◌≡◌, ◌≢◌, ◌<◌, ◌≤◌, ◌+◌, ◌-◌, ℕ, zero, suc, Bool, true, false, nat_eq, nat_lt, List, [], ◌∷◌, ◌++◌, Some, arith, refl, sym, ap, ◌∙◌, subst, length, map, eq-eqb, ltb-true, IsTrue, AllPairs, AllByRecursion, list_all, lookup, bytes_eq, and_parts, ne_eqb, false_from_ne_true, ltb-false, length-map, length-append, bytes_eq-Decides, star, Named, Declaration, object, arrow, name_of, objects_of, letters_of, object_count, letter_count, named_by, letter_at, object_name, letter_name, identity_in, quiver_of, named_in, IsDeclared, letter_count-append, name_at-split, object_at-split, letter_at-split, object_name-split, letter_name-split, plus_zero, turn, names_from, star-quiver_of, is_name, is_named}
 use Rattle.block_text.proofs.LettersBack.{Comes}
 
 -- the declaration of a letter

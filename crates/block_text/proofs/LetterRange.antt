@@ -1,14 +1,6 @@
 -- The letters that tokens spell are letters of the quiver.
-use Rattle.std.proofs.Common.{◌≡◌, ◌<◌, ℕ, Bool, true, false, List, [], ◌∷◌, Some, subst}
-use Rattle.std.proofs.lemmas.List.Elements.{All-nil, All-cons}
-use Rattle.std.proofs.lemmas.Option.{option_and_then_some}
-use Rattle.word_core.specs.Letters.{IsOver}
-use Rattle.quiver.specs.declared.named.Named.{Named}
-use Rattle.quiver.specs.declared.named.Named.TheVariants.{Object, Map}
-use Rattle.quiver.specs.Declarations.{Declaration, letter_count, named_in, identity_in, IsNamed}
+use Rattle.block_text.proofs.Prelude.{◌≡◌, ◌<◌, ℕ, Bool, true, false, List, [], ◌∷◌, Some, subst, All-nil, All-cons, option_and_then_some, IsOver, Named, Object, Map, Declaration, letter_count, named_in, identity_in, IsNamed, identity_in_range, spelled_by, letter_named, starred, letter_of, word_of}
 use Rattle.quiver.proofs.Found.{is_named}
-use Rattle.quiver.proofs.Identities.{identity_in_range}
-use Rattle.block_text.specs.Letters.{spelled_by, letter_named, starred, letter_of, word_of}
 use Rattle.block_text.proofs.Results.{option_map_some}
 use Rattle.block_text.proofs.Stars.{star_in_range}
 

@@ -1,15 +1,5 @@
 -- Letters that are written are read.
-use Rattle.std.proofs.Common.{◌≡◌, ◌<◌, ◌+◌, ◌-◌, ℕ, Bool, true, false, cond, nat_eq, ◌&&◌, List, [], ◌∷◌, ◌++◌, Option, Some, None, arith, refl, sym, ap, length, take, drop, get_or, codes}
-use Rattle.std.specs.List.{list_all, ends_with, starts_with}
-use Rattle.std.proofs.lemmas.Bool.{ne_eqb, true_from_ne_false}
-use Rattle.std.proofs.lemmas.List.{drop_more, drop_all, take_at, drop_at, length-append}
-use Rattle.std.proofs.lemmas.List.Folds.{list_all_at}
-use Rattle.definitions.specs.Quiver.{star}
-use Rattle.quiver.specs.declared.named.Named.{Named}
-use Rattle.quiver.specs.declared.named.Named.TheVariants.{Object, Map}
-use Rattle.quiver.specs.Declarations.{Declaration, named_in, letter_name, identity_in, quiver_of}
-use Rattle.block_text.specs.Letters.{Spelled, is_name, name_in, without_brackets, spelled_by, letter_named, letter_of}
-use Rattle.block_text.specs.Written.{spelled_as, letter_text}
+use Rattle.block_text.proofs.Prelude.{◌≡◌, ◌<◌, ◌+◌, ◌-◌, ℕ, Bool, true, false, cond, nat_eq, ◌&&◌, List, [], ◌∷◌, ◌++◌, Option, Some, None, arith, refl, sym, ap, length, take, drop, get_or, codes, list_all, ends_with, starts_with, ne_eqb, true_from_ne_false, drop_more, drop_all, take_at, drop_at, length-append, list_all_at, star, Named, Object, Map, Declaration, named_in, letter_name, identity_in, quiver_of, Spelled, is_name, name_in, without_brackets, spelled_by, letter_named, letter_of, spelled_as, letter_text}
 use Rattle.block_text.proofs.NameBytes.{is_name_byte, IsNameText, name_text, differs}
 
 abbrev spelling : List ℕ → Bool → Bool → Spelled

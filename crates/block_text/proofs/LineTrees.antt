@@ -1,10 +1,5 @@
 -- A line that is read is the line of what is read.
-use Rattle.std.proofs.Common.{◌≡◌, ℕ, Bool, true, false, ◌&&◌, List, [], ◌∷◌, ◌++◌, Some, IsTrue, ap, ap₂, subst, codes}
-use Rattle.std.proofs.lemmas.Bool.{and_parts, false_from_ne_true}
-use Rattle.std.proofs.lemmas.Option.{cond_some}
-use Rattle.std.proofs.lemmas.Slice.Eq.{bytes_eq-Decides}
-use Rattle.block_text.specs.Letters.{is_number}
-use Rattle.block_text.specs.Lines.{Line, is, is_pair, is_end, number_behind, end_line, is_open, is_close, closed, bracketed}
+use Rattle.block_text.proofs.Prelude.{◌≡◌, ℕ, Bool, true, false, ◌&&◌, List, [], ◌∷◌, ◌++◌, Some, IsTrue, ap, ap₂, subst, codes, and_parts, false_from_ne_true, cond_some, bytes_eq-Decides, is_number, Line, is, is_pair, is_end, number_behind, end_line, is_open, is_close, closed, bracketed}
 use Rattle.block_text.proofs.Results.{by_test, option_map_some, cond_option}
 
 pub is_word : (word token : List ℕ) → is word token ≡ true → token ≡ word

@@ -1,13 +1,5 @@
 -- Lines that are written are read.
-use Rattle.std.proofs.Common.{◌≡◌, ◌<◌, ◌-◌, ◌==◌, ℕ, Bool, true, false, not, List, [], ◌∷◌, ◌++◌, arith, refl, ap, ◌∙◌, length, get_or}
-use Rattle.std.specs.List.{All, list_all, slice_split}
-use Rattle.std.specs.Str.Lines.{lines, lines_of_parts, strip_carriage_return}
-use Rattle.std.proofs.lemmas.Bool.{and_parts, true_from_ne_false}
-use Rattle.std.proofs.lemmas.List.Folds.{list_all_at}
-use Rattle.std.proofs.lemmas.List.Splits.{slice_split_at}
-use Rattle.std.proofs.lemmas.List.Sums.{AllPass-from_list_all}
-use Rattle.block_text.specs.Tokens.{is_line_end}
-use Rattle.block_text.specs.Back.{is_whole, is_inside}
+use Rattle.block_text.proofs.Prelude.{◌≡◌, ◌<◌, ◌-◌, ◌==◌, ℕ, Bool, true, false, not, List, [], ◌∷◌, ◌++◌, arith, refl, ap, ◌∙◌, length, get_or, All, list_all, slice_split, lines, lines_of_parts, strip_carriage_return, and_parts, true_from_ne_false, list_all_at, slice_split_at, AllPass-from_list_all, is_line_end, is_whole, is_inside}
 use Rattle.block_text.proofs.Cuts.{first_part, part_is_line}
 
 not_false : (b : Bool) → not b ≡ true → b ≡ false

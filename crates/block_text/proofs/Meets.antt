@@ -1,7 +1,5 @@
 -- A result of reading within some bounds: a value of which a fact holds, or the flaw of another bound.
-use Rattle.std.proofs.Common.{◌≡◌, Bool, true, false, Option, Some, None, Result, Ok, Err, if◌then◌else◌, refl}
-use Rattle.block_text.specs.declared.fault.Flaw.{Flaw}
-use Rattle.block_text.specs.Fault.{◌>>=◌, asked}
+use Rattle.block_text.proofs.Prelude.{◌≡◌, Bool, true, false, Option, Some, None, Result, Ok, Err, if◌then◌else◌, refl, Flaw, ◌>>=◌, asked}
 
 -- flaw_of gives the flaw of a line that exceeds a bound, and K says which bounds are met
 pub data Meets {Bound A : Type 0} (flaw_of : Bound → Flaw) (K : Bound → Type 0) (P : A → Type 0) (r : Result A Flaw) : Type 0 where

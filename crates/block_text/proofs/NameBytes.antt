@@ -1,16 +1,5 @@
 -- The bytes of a name are letters, digits, _ and bytes that are not ASCII.
-use Rattle.std.proofs.Common.{◌≡◌, ◌≢◌, ◌<◌, ◌==◌, ℕ, suc, Bool, true, false, ◌&&◌, ◌||◌, List, [], ◌∷◌, arith, refl, sym, ap, ◌∙◌, subst, length, drop, get_or, eqb-true}
-use Rattle.std.specs.Prelude.{nat_le}
-use Rattle.std.specs.Char.{is_ascii_alphanumeric, encode_utf8}
-use Rattle.std.specs.List.{list_all}
-use Rattle.std.specs.Str.{IsUtf8, is_utf8, chars, encode_utf8_all}
-use Rattle.std.proofs.lemmas.Bool.{and_parts, leb-false}
-use Rattle.std.proofs.lemmas.List.{append-nil, length-append}
-use Rattle.std.proofs.lemmas.List.Folds.{list_all-append}
-use Rattle.std.proofs.lemmas.Str.{IsUtf8-from_is_utf8, chars-encodes, inside_one, length-encode, len_utf8_bounds}
-use Rattle.unicode_ident.specs.Ident.{is_xid_start, is_xid_continue}
-use Rattle.unicode_ident.proofs.IdentLemmas.{is_xid_continue-ascii, is_xid_start-is_xid_continue}
-use Rattle.block_text.specs.Letters.{starts_name, begins_name, is_name}
+use Rattle.block_text.proofs.Prelude.{◌≡◌, ◌≢◌, ◌<◌, ◌==◌, ℕ, suc, Bool, true, false, ◌&&◌, ◌||◌, List, [], ◌∷◌, arith, refl, sym, ap, ◌∙◌, subst, length, drop, get_or, eqb-true, nat_le, is_ascii_alphanumeric, encode_utf8, list_all, IsUtf8, is_utf8, chars, encode_utf8_all, and_parts, leb-false, append-nil, length-append, list_all-append, IsUtf8-from_is_utf8, chars-encodes, inside_one, length-encode, len_utf8_bounds, is_xid_start, is_xid_continue, is_xid_continue-ascii, is_xid_start-is_xid_continue, starts_name, begins_name, is_name}
 
 abbrev pub is_name_byte : ℕ → Bool
 is_name_byte b = nat_le 128 b || (is_ascii_alphanumeric b || (b == 95))

@@ -1,9 +1,5 @@
 -- Lines that end with a number, and the line `end`.
-use Rattle.std.proofs.Common.{◌≡◌, ℕ, false, List, [], ◌∷◌, ◌++◌, refl, sym, ap, ◌∙◌, codes}
-use Rattle.std.proofs.lemmas.List.{append-nil}
-use Rattle.block_text.specs.Tokens.{tokens_of, is_skipped}
-use Rattle.block_text.specs.Lines.{Line, end_line}
-use Rattle.block_text.specs.Back.{IsLineText}
+use Rattle.block_text.proofs.Prelude.{◌≡◌, ℕ, false, List, [], ◌∷◌, ◌++◌, refl, sym, ap, ◌∙◌, codes, append-nil, tokens_of, is_skipped, Line, end_line, IsLineText}
 use Rattle.block_text.proofs.ContentBack.{IsTextOf, text_of_tokens}
 use Rattle.block_text.proofs.NameBytes.{IsNameText}
 use Rattle.block_text.proofs.TextsBack.{line_text-append, literal, plain_name}

@@ -1,9 +1,5 @@
 -- The lines of a text with their numbers, of which those are read one after another that are neither blank nor comments.
-use Rattle.std.proofs.Common.{◌≡◌, ◌+◌, ℕ, suc, Bool, true, false, List, [], ◌∷◌, ◌++◌, Result, Ok, Err, if◌then◌else◌, arith, refl, ap, ◌∙◌, length, zero-add}
-use Rattle.block_text.specs.declared.fault.Flaw.{Flaw}
-use Rattle.block_text.specs.Fault.{Fault, ◌>>=◌, in_line, at_line}
-use Rattle.block_text.specs.Tokens.{tokens_of, is_skipped}
-use Rattle.block_text.specs.Lines.{Line, content}
+use Rattle.block_text.proofs.Prelude.{◌≡◌, ◌+◌, ℕ, suc, Bool, true, false, List, [], ◌∷◌, ◌++◌, Result, Ok, Err, if◌then◌else◌, arith, refl, ap, ◌∙◌, length, zero-add, Flaw, Fault, ◌>>=◌, in_line, at_line, tokens_of, is_skipped, Line, content}
 use Rattle.block_text.proofs.Results.{bind_assoc}
 use Rattle.block_text.proofs.ContentBack.{content-append}
 

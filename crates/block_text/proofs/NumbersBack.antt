@@ -1,22 +1,7 @@
 -- Numbers that are written are read.
-use Rattle.std.proofs.Common.{◌≡◌, ◌<◌, ◌≤◌, ◌+◌, ◌%◌, ◌^◌, ◌==◌, ℕ, suc, ℤ, pos, negsuc, Bool, true, false, ◌||◌, List, [], ◌∷◌, Some, arith, refl, subst, length}
+use Rattle.block_text.proofs.Prelude.{◌≡◌, ◌<◌, ◌≤◌, ◌+◌, ◌%◌, ◌^◌, ◌==◌, ℕ, suc, ℤ, pos, negsuc, Bool, true, false, ◌||◌, List, [], ◌∷◌, Some, arith, refl, subst, length, decimal, nat_le, is_ascii_digit, is_in_range, signed_decimal, list_all, IsUtf8, is_utf8, chars, digits_value, and_parts, le-leb, lt-ltb, ne_eqb, decimal_by_steps_wide, decimal_is_IsNumeral_wide, IsAscii-decimal_wide, length-append, list_all-append, IsUtf8-from_ascii, IsUtf8-append, IsUtf8-from_is_utf8, IsCoefficient, is_number, number_within, is_integer, integer_within, integer_limit, is_inside}
 use lib.Utf8.{encode}
-use Rattle.std.specs.Prelude.{decimal, nat_le}
-use Rattle.std.specs.Char.{is_ascii_digit}
-use Rattle.std.specs.Int.{is_in_range}
-use Rattle.std.specs.Fmt.{signed_decimal}
-use Rattle.std.specs.List.{list_all}
-use Rattle.std.specs.Str.{IsUtf8, is_utf8, chars}
-use Rattle.std.specs.Str.Parse.{digits_value}
-use Rattle.std.proofs.lemmas.Bool.{and_parts, le-leb, lt-ltb, ne_eqb}
-use Rattle.std.proofs.lemmas.Fmt.{decimal_by_steps_wide, decimal_is_IsNumeral_wide, IsAscii-decimal_wide}
-use Rattle.std.proofs.lemmas.List.{length-append}
-use Rattle.std.proofs.lemmas.List.Folds.{list_all-append}
-use Rattle.std.proofs.lemmas.Str.{IsUtf8-from_ascii, IsUtf8-append, IsUtf8-from_is_utf8}
-use Rattle.coef_int.specs.Range.{IsCoefficient}
-use Rattle.block_text.specs.Letters.{is_number, number_within, is_negative, is_integer, integer_within}
-use Rattle.block_text.specs.Lines.{integer_limit}
-use Rattle.block_text.specs.Back.{is_inside}
+use Rattle.block_text.specs.Letters.{is_negative}
 use Rattle.block_text.proofs.NameBytes.{is_name_byte, IsNameText, differs}
 use Rattle.block_text.proofs.TokensBack.{IsToken, bytes_plain, plain_token}
 

@@ -1,21 +1,10 @@
 -- What a reader of a kind of block owes: facts of single blocks, from which those of whole texts follow.
-use Rattle.std.proofs.Common.{◌≡◌, ◌⊎◌, ℕ, false, List, [], ◌∷◌, ◌++◌, Some, None, Result, Ok, Err, refl, sym, ap, ap₂, ◌∙◌, subst, inl, inr, if◌then◌else◌}
-use Rattle.std.specs.List.{All, list_any}
-use Rattle.block_text.specs.declared.fault.Flaw.{Flaw}
-use Rattle.block_text.specs.declared.fault.Flaw.TheVariants.{BadLine, TooMany}
-use Rattle.block_text.specs.Fault.{◌>>=◌, asked}
-use Rattle.block_text.specs.Tokens.{begins_comment}
-use Rattle.block_text.specs.Lines.{Line, block_limit, is_end, is_pair}
-use Rattle.block_text.specs.Kind.{Kind}
-use Rattle.block_text.specs.Blocks.{is_other_head}
-use Rattle.block_text.specs.Steps.{Steps}
+use Rattle.block_text.proofs.Prelude.{◌≡◌, ◌⊎◌, ℕ, false, List, [], ◌∷◌, ◌++◌, Some, None, Result, Ok, Err, refl, sym, ap, ap₂, ◌∙◌, subst, inl, inr, if◌then◌else◌, All, list_any, Flaw, BadLine, TooMany, ◌>>=◌, asked, begins_comment, Line, block_limit, is_end, is_pair, Kind, is_other_head, Steps, All-head, All-tail, cond_some, same_Some}
 use Rattle.block_text.proofs.Bounds.{bound_of, before}
 use Rattle.block_text.proofs.LineTrees.{pair_is}
 use Rattle.block_text.proofs.Meets.{Meets}
 use Rattle.block_text.proofs.NumberedLines.{run}
 use Rattle.block_text.proofs.Results.{bind_assoc}
-use Rattle.std.proofs.lemmas.List.Elements.{All-head, All-tail}
-use Rattle.std.proofs.lemmas.Option.{cond_some, same_Some}
 
 -- a block whose lines are read
 module _ {Begun Value : Type 0} (steps : Steps Begun Value) where

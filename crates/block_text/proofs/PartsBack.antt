@@ -1,22 +1,7 @@
 -- Texts one after another, and texts of several parts: written blocks, comments and blocks of other kinds.
-use Rattle.std.proofs.Common.{◌≡◌, ◌≤◌, ◌<◌, ◌+◌, ◌==◌, ℕ, zero, suc, Bool, true, false, not, cond, ◌||◌, List, [], ◌∷◌, ◌++◌, arith, refl, sym, ap, ◌∙◌, subst, length, get_or, take, map, codes, IsTrue, flat_map}
-use Rattle.std.specs.List.{All, AllZip, list_all, list_any, onto_first, slice_split}
-use Rattle.std.specs.Str.{IsUtf8}
-use Rattle.std.specs.Str.Lines.{lines, strip_carriage_return}
-use Rattle.std.proofs.lemmas.Bool.{and_parts, or_parts}
-use Rattle.std.proofs.lemmas.Grind.{flat_map-append}
-use Rattle.std.proofs.lemmas.List.{length-append, append-nil, append_assoc}
-use Rattle.std.proofs.lemmas.List.Elements.{All-nil, All-cons, All-head, All-tail, All-append, All-weaker, All-map, All-filter}
-use Rattle.std.proofs.lemmas.List.Splits.{slice_split_at}
-use Rattle.std.proofs.lemmas.List.Sums.{AllPass-from_list_all}
-use Rattle.std.proofs.lemmas.Slice.Eq.{bytes_eq-Decides}
-use Rattle.std.proofs.lemmas.Str.{IsUtf8-append, IsUtf8-from_is_utf8, is_utf8-from_IsUtf8}
-use Rattle.block_text.specs.Tokens.{is_line_end, goes_on, begins_comment, tokens_of, is_skipped}
-use Rattle.block_text.specs.Lines.{Line, OtherTokens, block_limit, is, is_end, content, end_line}
-use Rattle.block_text.specs.Kind.{Kind}
-use Rattle.block_text.specs.Blocks.{Block, own, other as other_block, own_in, block_lines, IsBlock, TextBound, on_block, on_count, Keeps, bounds, is_other_head}
-use Rattle.block_text.specs.Texts.{HasBlocks}
-use Rattle.block_text.specs.Back.{is_whole, is_inside, IsLineText, ended, IsBodyLine, Part, block, comment, other, part_text, values_in, IsPart}
+use Rattle.block_text.proofs.Prelude.{◌≡◌, ◌≤◌, ◌<◌, ◌+◌, ◌==◌, ℕ, zero, suc, Bool, true, false, not, cond, ◌||◌, List, [], ◌∷◌, ◌++◌, arith, refl, sym, ap, ◌∙◌, subst, length, get_or, take, map, codes, IsTrue, All, AllZip, list_all, list_any, onto_first, slice_split, IsUtf8, lines, strip_carriage_return, and_parts, or_parts, flat_map-append, length-append, append-nil, append_assoc, All-nil, All-cons, All-head, All-tail, All-append, All-weaker, All-map, All-filter, slice_split_at, AllPass-from_list_all, bytes_eq-Decides, IsUtf8-append, IsUtf8-from_is_utf8, is_utf8-from_IsUtf8, is_line_end, goes_on, begins_comment, tokens_of, is_skipped, Line, OtherTokens, block_limit, is, is_end, content, end_line, Kind, Block, own, other_block, own_in, block_lines, IsBlock, TextBound, on_block, on_count, Keeps, bounds, is_other_head, HasBlocks, is_whole, is_inside, IsLineText, IsBodyLine, Part, block, comment, part_text, values_in, IsPart, AllZip-append, zip_length}
+use Rattle.std.proofs.Common.{flat_map}
+use Rattle.block_text.specs.Back.{ended, other}
 use Rattle.block_text.proofs.ContentBack.{IsTextOf, no_text, content-append, text-append, text_of_line, text_of_tokens, whole_line, whole_append}
 use Rattle.block_text.proofs.Cuts.{part_is_line}
 use Rattle.block_text.proofs.LinesBack.{lines_append}
@@ -24,7 +9,6 @@ use Rattle.block_text.proofs.NumberLines.{end_is_text}
 use Rattle.block_text.proofs.Standing.{everywhere}
 use Rattle.block_text.proofs.TextLines.{own_in-append}
 use Rattle.block_text.proofs.TextsBack.{ascii}
-use Rattle.lists.proofs.Zips.{AllZip-append, zip_length}
 
 -- a run that begins with # is a comment
 comment_by : (cs : List ℕ) (tokens : List (List ℕ)) (alone : Bool) → is_skipped (cond alone ((35 ∷ []) ∷ tokens) (onto_first 35 tokens)) ≡ true

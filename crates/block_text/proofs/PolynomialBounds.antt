@@ -1,22 +1,5 @@
 -- What a reader tests of the terms of a line is what they are bound to.
-use Rattle.std.proofs.Common.{◌≡◌, ◌<◌, ◌≤◌, ◌-◌, ℕ, Bool, true, false, not, cond, ◌&&◌, List, [], ◌∷◌, ◌++◌, Option, Some, None, arith, refl, sym, ap, ap₂, ◌∙◌, subst, length, take, codes, IsTrue, nat_eq, nat_le, eqb-true}
-use Rattle.std.specs.Prelude.{is_some}
-use Rattle.std.specs.List.{All, list_all, starts_with, ends_with}
-use Rattle.std.specs.Option.{option_and_then}
-use Rattle.std.specs.Str.Parse.{digits_value}
-use Rattle.std.proofs.lemmas.Bool.{and_parts, false_from_ne_true, leb-true, leb-false, lt-leb}
-use Rattle.std.proofs.lemmas.List.{length-append, take_at}
-use Rattle.std.proofs.lemmas.List.Elements.{All-nil, All-cons, All-head, All-tail}
-use Rattle.std.proofs.lemmas.Option.{option_and_then_some, cond_some}
-use Rattle.std.proofs.lemmas.Slice.Eq.{bytes_eq-Decides}
-use Rattle.quiver.specs.declared.named.Named.{Named}
-use Rattle.quiver.specs.declared.named.Named.TheVariants.{Object, Map}
-use Rattle.quiver.specs.Declarations.{Declaration, named_in, letter_name}
-use Rattle.block_text.specs.Letters.{is_name, is_number, number_within, letter_of}
-use Rattle.block_text.specs.Lines.{is}
-use Rattle.block_text.specs.PolynomialLines.{is_term_letter}
-use Rattle.block_text.specs.PolynomialReading.{is_bracketed, is_adjoint, is_spelling, is_written_as, written_letter, is_above_one}
-use Rattle.block_text.specs.Written.{spelled_as, letter_text}
+use Rattle.block_text.proofs.Prelude.{◌≡◌, ◌<◌, ◌≤◌, ◌-◌, ℕ, Bool, true, false, not, cond, ◌&&◌, List, [], ◌∷◌, ◌++◌, Option, Some, None, arith, refl, sym, ap, ap₂, ◌∙◌, subst, length, take, codes, IsTrue, nat_eq, nat_le, eqb-true, is_some, All, list_all, starts_with, ends_with, option_and_then, digits_value, and_parts, false_from_ne_true, leb-true, leb-false, lt-leb, length-append, take_at, All-nil, All-cons, All-head, All-tail, option_and_then_some, cond_some, bytes_eq-Decides, Named, Object, Map, Declaration, named_in, letter_name, is_name, is_number, number_within, letter_of, is, is_term_letter, is_bracketed, is_adjoint, is_spelling, is_written_as, written_letter, is_above_one, spelled_as, letter_text}
 use Rattle.block_text.proofs.LettersBack.{ended_by, without_last}
 use Rattle.block_text.proofs.LineTrees.{is_word}
 use Rattle.block_text.proofs.NameBytes.{name_text}

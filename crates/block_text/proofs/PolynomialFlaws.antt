@@ -1,22 +1,6 @@
 -- The tokens of a line are those of one polynomial, and a line is refused for its first flaw.
-use Rattle.std.proofs.Common.{◌≡◌, ◌≤◌, ℕ, true, false, ◌&&◌, List, [], ◌∷◌, Option, Some, None, arith, Err, refl, sym, ap, ◌∙◌, subst}
-use Rattle.std.specs.List.{All, list_all}
-use Rattle.std.proofs.lemmas.Bool.{and_parts, false_from_ne_true}
-use Rattle.std.proofs.lemmas.List.Elements.{All-nil, All-head, All-tail}
-use Rattle.definitions.specs.Poly.{Poly}
-use Rattle.nc_polynomial.specs.Limits.{word_limit, term_limit}
-use Rattle.nc_polynomial.specs.Terms.{IsDescending}
-use Rattle.nc_polynomial.proofs.Shapes.{IsDescending-from_recursion, recursion_from_IsDescending}
-use Rattle.quiver.specs.Declarations.{Declaration}
-use Rattle.block_text.specs.declared.fault.Flaw.{Flaw}
-use Rattle.block_text.specs.declared.fault.Flaw.TheVariants.{BadLine, UnknownName, NotAsWritten, NumberTooLarge, TooMany}
-use Rattle.block_text.specs.declared.polynomial.Asked.TheVariants.{Form, Known, Written, Within}
-use Rattle.block_text.specs.Fault.{asked}
-use Rattle.block_text.specs.Lines.{Line, integer_limit}
-use Rattle.block_text.specs.PolynomialBack.{IsPolynomialLine}
-use Rattle.block_text.specs.PolynomialFlaws.{Fits, IsPolynomialFlaw, misfit, unknown, unwritten, large, many, long, PolynomialLinesAreRead, PolynomialFlawsAreTold}
-use Rattle.block_text.specs.PolynomialLines.{TermTokens, PolynomialTokens, zero as zero_line, terms, polynomial_line, IsTerm, IsPolynomialTokens, factor_value, IsWrittenLetter, HasKnownLetters, IsAsWritten, HasNumbersWithin, HasFewTerms, HasShortWords}
-use Rattle.block_text.specs.PolynomialReading.{terms_of, is_zero, poly_behind, passes, descend, at_most, first_flaw, polynomial_of}
+use Rattle.block_text.proofs.Prelude.{◌≡◌, ◌≤◌, ℕ, true, false, ◌&&◌, List, [], ◌∷◌, Option, Some, None, arith, Err, refl, sym, ap, ◌∙◌, subst, All, list_all, and_parts, false_from_ne_true, All-nil, All-head, All-tail, Poly, word_limit, term_limit, IsDescending, IsDescending-from_recursion, recursion_from_IsDescending, Declaration, Flaw, BadLine, UnknownName, NotAsWritten, NumberTooLarge, TooMany, Form, Known, Written, Within, asked, Line, integer_limit, IsPolynomialLine, Fits, IsPolynomialFlaw, unknown, unwritten, large, many, long, PolynomialLinesAreRead, PolynomialFlawsAreTold, TermTokens, PolynomialTokens, zero_line, terms, polynomial_line, IsTerm, IsPolynomialTokens, factor_value, IsWrittenLetter, HasKnownLetters, IsAsWritten, HasNumbersWithin, HasFewTerms, HasShortWords, terms_of, is_zero, poly_behind, passes, descend, at_most, first_flaw, polynomial_of}
+use Rattle.block_text.specs.PolynomialFlaws.{misfit}
 use Rattle.block_text.proofs.PolynomialBounds.{all_from, all_to, all_with}
 use Rattle.block_text.proofs.PolynomialLaws.{IsKnown, form_is, form_there, known_is, known_there, writing_is, writing_there, within_is, within_there, at_most_is, at_most_there, all_terms, nought_is, nought_read, nought_there, poly_said, no_poly, polynomial_is, polynomial_there, flaw_is}
 use Rattle.block_text.proofs.PolynomialTokens.{terms_back, terms_no_zero, has_terms}

@@ -1,37 +1,12 @@
 -- A line is read as the polynomial that it spells within all bounds, or by the first that is wrong with it.
-use Rattle.std.proofs.Common.{◌≡◌, ◌<◌, ◌≤◌, ◌-◌, ◌≢◌, ◌==◌, ℕ, zero, suc, ℤ, pos, Bool, true, false, not, cond, ◌&&◌, List, [], ◌∷◌, Option, Some, None, Result, Ok, Err, arith, refl, sym, ap, ap₂, ◌∙◌, subst, length, IsTrue}
-use Rattle.std.specs.Prelude.{is_some}
-use Rattle.std.specs.Int.RustNames.{unsigned_abs}
-use Rattle.std.specs.List.{All, AllZip, list_all}
-use Rattle.std.specs.Str.Parse.{digits_value}
-use Rattle.std.proofs.lemmas.Bool.{and_parts, le-leb, ne_eqb}
-use Rattle.std.proofs.lemmas.List.Elements.{All-nil, All-cons, All-head, All-tail}
-use Rattle.word_core.specs.Letters.{IsOver}
-use Rattle.coef_int.specs.Range.{IsCoefficient}
-use Rattle.definitions.specs.Poly.{Poly, Term}
-use Rattle.nc_polynomial.specs.Limits.{word_limit, term_limit}
-use Rattle.nc_polynomial.specs.Shape.{IsCanonical}
-use Rattle.nc_polynomial.specs.Terms.{IsDescending}
-use Rattle.nc_polynomial.proofs.Shapes.{IsDescending-from_recursion, recursion_from_IsDescending}
-use Rattle.quiver.specs.Declarations.{Declaration, letter_count}
-use Rattle.block_text.specs.declared.fault.Flaw.{Flaw}
-use Rattle.block_text.specs.declared.fault.Flaw.TheVariants.{BadLine, UnknownName, NotAsWritten, NumberTooLarge, TooMany}
-use Rattle.block_text.specs.declared.polynomial.Asked.{Asked}
-use Rattle.block_text.specs.declared.polynomial.Asked.TheVariants.{Form, Known, Written, Within}
-use Rattle.block_text.specs.Fault.{asked}
-use Rattle.block_text.specs.Letters.{is_number, number_within, letter_of, word_of, signed}
-use Rattle.block_text.specs.Lines.{Line, integer_limit}
-use Rattle.block_text.specs.PolynomialBack.{IsPolynomialLine}
-use Rattle.block_text.specs.PolynomialFlaws.{Fits, IsPolynomialFlaw, misfit, unknown, unwritten, large, many, long}
-use Rattle.block_text.specs.PolynomialLines.{TermTokens, PolynomialTokens, zero as zero_line, terms, polynomial_line, is_term_letter, IsFactor, IsTerm, IsPolynomialTokens, terms_in, factor_value, coefficient_value, IsTermOf, IsPolynomialOf, IsWrittenLetter, HasKnownLetters, IsAsWritten, HasNumbersWithin, HasFewTerms, HasShortWords}
-use Rattle.block_text.specs.PolynomialReading.{terms_of, is_zero, poly_behind, passes_letter, passes_number, is_some_token, pass_letters, passes, descend, at_most, first_flaw, polynomial_of, written_letter}
+use Rattle.block_text.proofs.Prelude.{◌≡◌, ◌<◌, ◌≤◌, ◌-◌, ◌≢◌, ◌==◌, ℕ, zero, suc, ℤ, pos, Bool, true, false, not, cond, ◌&&◌, List, [], ◌∷◌, Option, Some, None, Result, Ok, Err, arith, refl, sym, ap, ap₂, ◌∙◌, subst, length, IsTrue, is_some, unsigned_abs, All, AllZip, list_all, digits_value, and_parts, le-leb, ne_eqb, All-nil, All-cons, All-head, All-tail, IsOver, IsCoefficient, Poly, Term, word_limit, term_limit, IsCanonical, IsDescending, IsDescending-from_recursion, recursion_from_IsDescending, Declaration, letter_count, Flaw, BadLine, UnknownName, NotAsWritten, NumberTooLarge, TooMany, Asked, Form, Known, Written, Within, asked, is_number, number_within, letter_of, word_of, signed, Line, integer_limit, IsPolynomialLine, Fits, IsPolynomialFlaw, unknown, unwritten, large, many, long, TermTokens, PolynomialTokens, zero_line, terms, polynomial_line, is_term_letter, IsFactor, IsTerm, IsPolynomialTokens, terms_in, factor_value, coefficient_value, IsTermOf, IsPolynomialOf, IsWrittenLetter, HasKnownLetters, IsAsWritten, HasNumbersWithin, HasFewTerms, HasShortWords, terms_of, is_zero, poly_behind, passes_letter, passes_number, is_some_token, pass_letters, passes, descend, at_most, first_flaw, polynomial_of, written_letter, AllZip-unique, AllZip-weaker, zip_left, zip_right, zip_length}
+use Rattle.block_text.specs.PolynomialFlaws.{misfit}
 use Rattle.block_text.proofs.PolynomialBounds.{all_from, all_to, all_with, some_of, above_one, above_one_from, within_by, written_is, written_there}
 use Rattle.block_text.proofs.LetterRange.{word_is_over}
 use Rattle.block_text.proofs.PolynomialTerms.{some_same, word_count, MakesTerm, MakesPoly, poly_is, poly_there}
 use Rattle.block_text.proofs.PolynomialTokens.{terms_back, terms_no_zero, has_terms}
 use Rattle.block_text.proofs.PolynomialWords.{descends_is, descends_there}
 use Rattle.block_text.proofs.Results.{by_test, asked_ok}
-use Rattle.lists.proofs.Zips.{AllZip-unique, AllZip-weaker, zip_left, zip_right, zip_length}
 
 -- the tests of a term
 tokens_there : (tokens : Line) → 0 < length tokens → is_some_token tokens ≡ true

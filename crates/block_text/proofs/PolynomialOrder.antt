@@ -1,11 +1,5 @@
 -- The last term of a polynomial, and those after it.
-use Rattle.std.proofs.Common.{◌≡◌, ◌+◌, ◌==◌, ℕ, zero, suc, List, [], ◌∷◌, arith, refl, sym, ap, length, get_or}
-use Rattle.std.specs.Ordering.{ordering_index}
-use Rattle.std.specs.declared.cmp.Ordering.{Ordering}
-use Rattle.std.specs.declared.cmp.Ordering.TheVariants.{Less, Equal, Greater}
-use Rattle.definitions.specs.Poly.{Poly, Term}
-use Rattle.word_core.specs.Canonical.{word_cmp}
-use Rattle.block_text.specs.PolynomialReading.{is_greater, may_follow}
+use Rattle.block_text.proofs.Prelude.{◌≡◌, ◌+◌, ◌==◌, ℕ, zero, suc, List, [], ◌∷◌, arith, refl, sym, ap, length, get_or, ordering_index, Ordering, Less, Equal, Greater, Poly, Term, word_cmp, is_greater, may_follow}
 
 pub greater_is : (o : Ordering) → (ordering_index o == 2) ≡ is_greater o
 greater_is Less = refl

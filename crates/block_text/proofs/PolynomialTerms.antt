@@ -1,25 +1,5 @@
 -- The polynomial that the terms of a line make.
-use Rattle.std.proofs.Common.{◌≡◌, ◌<◌, ◌≤◌, ◌+◌, ℕ, suc, Bool, true, false, not, cond, ◌||◌, List, [], ◌∷◌, ◌++◌, Option, Some, None, arith, refl, sym, ap, ◌∙◌, subst, length, IsTrue, nat_le}
-use Rattle.std.specs.List.{All, AllZip}
-use Rattle.std.specs.Option.{option_map, option_and_then}
-use Rattle.std.specs.declared.cmp.Ordering.{Ordering}
-use Rattle.std.specs.declared.cmp.Ordering.TheVariants.{Less, Equal, Greater}
-use Rattle.std.specs.Str.Parse.{digits_value}
-use Rattle.std.proofs.lemmas.Bool.{leb-true, leb-false, le-leb, lt-leb}
-use Rattle.std.proofs.lemmas.List.{append_assoc, append-nil, length-append}
-use Rattle.std.proofs.lemmas.List.Elements.{All-nil, All-cons, All-head, All-tail, All-push}
-use Rattle.std.proofs.lemmas.Option.{option_and_then_some, cond_some}
-use Rattle.definitions.specs.Poly.{Poly, Term}
-use Rattle.word_core.specs.Canonical.{word_cmp}
-use Rattle.word_core.proofs.Order.{word_cmp-trans}
-use Rattle.nc_polynomial.specs.Limits.{word_limit, term_limit}
-use Rattle.nc_polynomial.proofs.Shapes.{Descends, IsBelow, descends_one}
-use Rattle.quiver.specs.Declarations.{Declaration}
-use Rattle.block_text.specs.Letters.{number_within, letter_of, word_of, signed}
-use Rattle.block_text.specs.Lines.{Line, integer_limit}
-use Rattle.block_text.specs.PolynomialLines.{TermTokens, is_term_letter, IsFactor, IsTerm, factor_value, IsTermOf, IsWrittenLetter}
-use Rattle.block_text.specs.PolynomialReading.{written_letter, word_behind, is_above_one, value_within, some_word, term_value, is_greater, may_follow, poly_behind}
-use Rattle.block_text.specs.Written.{letter_text}
+use Rattle.block_text.proofs.Prelude.{◌≡◌, ◌<◌, ◌≤◌, ◌+◌, ℕ, suc, Bool, true, false, not, cond, ◌||◌, List, [], ◌∷◌, ◌++◌, Option, Some, None, arith, refl, sym, ap, ◌∙◌, subst, length, IsTrue, nat_le, All, AllZip, option_map, option_and_then, Ordering, Less, Equal, Greater, digits_value, leb-true, leb-false, le-leb, lt-leb, append_assoc, append-nil, length-append, All-nil, All-cons, All-head, All-tail, All-push, option_and_then_some, cond_some, Poly, Term, word_cmp, word_cmp-trans, word_limit, term_limit, Descends, IsBelow, descends_one, Declaration, number_within, letter_of, word_of, signed, Line, integer_limit, TermTokens, is_term_letter, IsFactor, IsTerm, factor_value, IsTermOf, IsWrittenLetter, written_letter, word_behind, is_above_one, value_within, some_word, term_value, is_greater, may_follow, poly_behind, letter_text}
 use Rattle.block_text.proofs.PolynomialBounds.{above_one, above_one_from, IsWritten, written_is, written_there}
 use Rattle.block_text.proofs.Results.{by_test, option_map_some, cond_option}
 

@@ -1,18 +1,5 @@
 -- The terms that a reader finds in a line are those that the line spells.
-use Rattle.std.proofs.Common.{◌≡◌, ◌<◌, ◌≤◌, ℕ, Bool, true, false, cond, ◌||◌, ◌&&◌, List, [], ◌∷◌, ◌++◌, Option, Some, None, arith, refl, sym, ap, ap₂, ◌∙◌, subst, length, codes, IsTrue, ltb-true, nat_lt, nat_le, drop}
-use Rattle.std.specs.Char.{is_ascii_digit}
-use Rattle.std.specs.List.{All, AllByRecursion, list_all, flat_map}
-use Rattle.std.specs.Str.{chars, is_utf8}
-use Rattle.std.proofs.lemmas.Bool.{and_parts, false_from_ne_true, leb-true, lt-leb, lt-ltb, ne_eqb}
-use Rattle.std.proofs.lemmas.List.Elements.{All-head, All-tail}
-use Rattle.std.proofs.lemmas.Str.{chars-IsAscii}
-use Rattle.unicode_ident.specs.Ident.{is_xid_continue}
-use Rattle.unicode_ident.proofs.IdentLemmas.{is_xid_start-ascii}
-use Rattle.statement_tokens.specs.Limits.{name_limit}
-use Rattle.block_text.specs.Letters.{starts_name, begins_name, is_name, is_number}
-use Rattle.block_text.specs.Lines.{Line, is}
-use Rattle.block_text.specs.PolynomialLines.{TermTokens, terms, factor_line, term_line, first_line, later_line, polynomial_line, is_term_letter, IsFactor, IsTerm}
-use Rattle.block_text.specs.PolynomialReading.{is_minus, is_term_sign, part_in, term_of, later_in, terms_behind, terms_of, is_zero}
+use Rattle.block_text.proofs.Prelude.{◌≡◌, ◌<◌, ◌≤◌, ℕ, Bool, true, false, cond, ◌||◌, ◌&&◌, List, [], ◌∷◌, ◌++◌, Option, Some, None, arith, refl, sym, ap, ap₂, ◌∙◌, subst, length, codes, IsTrue, ltb-true, nat_lt, nat_le, drop, is_ascii_digit, All, AllByRecursion, list_all, flat_map, chars, is_utf8, and_parts, false_from_ne_true, leb-true, lt-leb, lt-ltb, ne_eqb, All-head, All-tail, chars-IsAscii, is_xid_continue, is_xid_start-ascii, name_limit, starts_name, begins_name, is_name, is_number, Line, is, TermTokens, terms, factor_line, term_line, first_line, later_line, polynomial_line, is_term_letter, IsFactor, IsTerm, is_minus, is_term_sign, part_in, term_of, later_in, terms_behind, terms_of, is_zero}
 use Rattle.block_text.proofs.NameBytes.{is_name_byte, IsNameText, name_text}
 use Rattle.block_text.proofs.NumbersBack.{digits_bytes}
 use Rattle.block_text.proofs.LettersBack.{not_ended, not_begun}

@@ -1,22 +1,5 @@
 -- The order of words, by the tokens of their letters.
-use Rattle.std.proofs.Common.{◌≡◌, ◌<◌, ◌==◌, ℕ, suc, Bool, true, false, nat_lt, eq-eqb, eqb-true, ltb-true, List, [], ◌∷◌, Some, arith, refl, sym, ap, ◌∙◌, subst, length}
-use Rattle.std.specs.List.{AllZip}
-use Rattle.std.specs.Option.{option_map}
-use Rattle.std.specs.Ordering.{nat_cmp, ordering_then}
-use Rattle.std.specs.Cmp.Lexicographic.{slice_cmp}
-use Rattle.std.specs.declared.cmp.Ordering.{Ordering}
-use Rattle.std.specs.declared.cmp.Ordering.TheVariants.{Less, Equal, Greater}
-use Rattle.std.proofs.lemmas.Bool.{and_parts, false_from_ne_true, lt-ltb, ltb-false, ne_eqb}
-use Rattle.std.proofs.lemmas.List.Elements.{All-cons, All-head}
-use Rattle.std.proofs.lemmas.Option.{option_and_then_some}
-use Rattle.definitions.specs.Poly.{Poly, Term}
-use Rattle.word_core.specs.Canonical.{word_cmp}
-use Rattle.nc_polynomial.proofs.Shapes.{Descends, IsBelow, descends_one, higher}
-use Rattle.quiver.specs.Declarations.{Declaration}
-use Rattle.block_text.specs.Letters.{letter_of, word_of}
-use Rattle.block_text.specs.Lines.{Line}
-use Rattle.block_text.specs.PolynomialLines.{TermTokens, IsTermOf}
-use Rattle.block_text.specs.PolynomialReading.{is_greater, letters_cmp, words_cmp, descend_behind, descend}
+use Rattle.block_text.proofs.Prelude.{◌≡◌, ◌<◌, ◌==◌, ℕ, suc, Bool, true, false, nat_lt, eq-eqb, eqb-true, ltb-true, List, [], ◌∷◌, Some, arith, refl, sym, ap, ◌∙◌, subst, length, AllZip, option_map, nat_cmp, ordering_then, slice_cmp, Ordering, Less, Equal, Greater, and_parts, false_from_ne_true, lt-ltb, ltb-false, ne_eqb, All-cons, All-head, option_and_then_some, Poly, Term, word_cmp, Descends, IsBelow, descends_one, higher, Declaration, letter_of, word_of, Line, TermTokens, IsTermOf, is_greater, letters_cmp, words_cmp, descend_behind, descend}
 use Rattle.block_text.proofs.PolynomialTerms.{some_same, greater_from}
 use Rattle.block_text.proofs.Results.{option_map_some}
 

@@ -1,30 +1,5 @@
 -- A polynomial that is written is what its line spells.
-use Rattle.std.proofs.Common.{◌≡◌, ◌≢◌, ◌<◌, ◌≤◌, ◌^◌, ◌==◌, ℕ, zero, suc, ℤ, pos, negsuc, Bool, true, false, cond, List, [], ◌∷◌, ◌++◌, Option, Some, None, arith, refl, sym, ap, ◌∙◌, subst, length, map, codes, IsTrue, nat_eq, nat_lt, eqb-true, ltb-true}
-use Rattle.std.specs.Prelude.{decimal}
-use Rattle.std.specs.Int.{is_negative}
-use Rattle.std.specs.Int.RustNames.{unsigned_abs}
-use Rattle.std.specs.List.{All, AllZip, AllByRecursion, list_all, flat_map}
-use Rattle.std.specs.Str.Parse.{digits_value}
-use Rattle.std.proofs.lemmas.Bool.{false_from_ne_true}
-use Rattle.std.proofs.lemmas.Fmt.{decimal_is_IsNumeral_wide}
-use Rattle.std.proofs.lemmas.List.{append_assoc, append-nil, length-map}
-use Rattle.std.proofs.lemmas.List.Elements.{All-nil, All-cons, All-head, All-tail}
-use Rattle.coef_int.specs.Range.{IsCoefficient}
-use Rattle.definitions.specs.Poly.{Poly, Term}
-use Rattle.word_core.specs.Letters.{IsOver}
-use Rattle.nc_polynomial.specs.Limits.{word_limit, term_limit}
-use Rattle.nc_polynomial.specs.Shape.{IsCanonical}
-use Rattle.nc_polynomial.specs.Terms.{IsDescending}
-use Rattle.quiver.specs.declared.named.Named.{Named}
-use Rattle.quiver.specs.declared.named.Named.TheVariants.{Object, Map}
-use Rattle.quiver.specs.Declarations.{Declaration, letter_count, letter_name, named_in, IsDeclared}
-use Rattle.block_text.specs.Back.{is_named}
-use Rattle.block_text.specs.Letters.{is_name, letter_of, signed}
-use Rattle.block_text.specs.Lines.{Line, integer_limit}
-use Rattle.block_text.specs.PolynomialBack.{IsPolynomialLine, PolynomialsAreReadBack}
-use Rattle.block_text.specs.PolynomialLines.{TermTokens, PolynomialTokens, zero as zero_line, terms, factor_line, term_line, first_line, later_line, polynomial_line, is_term_letter, IsFactor, IsTerm, IsPolynomialTokens, terms_in, factor_value, IsTermOf, IsPolynomialOf, IsWrittenLetter}
-use Rattle.block_text.specs.Tokens.{tokens_of, goes_on}
-use Rattle.block_text.specs.Written.{spelled_as, letter_text, word_text, factor_text, term_text, later_text, poly_text}
+use Rattle.block_text.proofs.Prelude.{◌≡◌, ◌≢◌, ◌<◌, ◌≤◌, ◌^◌, ◌==◌, ℕ, zero, suc, ℤ, pos, negsuc, Bool, true, false, cond, List, [], ◌∷◌, ◌++◌, Option, Some, None, arith, refl, sym, ap, ◌∙◌, subst, length, map, codes, IsTrue, nat_eq, nat_lt, eqb-true, ltb-true, decimal, is_negative, unsigned_abs, All, AllZip, AllByRecursion, list_all, flat_map, digits_value, false_from_ne_true, decimal_is_IsNumeral_wide, append_assoc, append-nil, length-map, All-nil, All-cons, All-head, All-tail, IsCoefficient, Poly, Term, IsOver, word_limit, term_limit, IsCanonical, IsDescending, Named, Object, Map, Declaration, letter_count, letter_name, named_in, IsDeclared, is_named, is_name, letter_of, signed, Line, integer_limit, IsPolynomialLine, PolynomialsAreReadBack, TermTokens, PolynomialTokens, zero_line, terms, factor_line, term_line, first_line, later_line, polynomial_line, is_term_letter, IsFactor, IsTerm, IsPolynomialTokens, terms_in, factor_value, IsTermOf, IsPolynomialOf, IsWrittenLetter, tokens_of, goes_on, spelled_as, letter_text, word_text, factor_text, term_text, later_text, poly_text}
 use Rattle.block_text.proofs.LettersBack.{Comes, spelled_map, spelled_adjoint, spelled_identity}
 use Rattle.block_text.proofs.LetterNames.{letter_is_spelled}
 use Rattle.block_text.proofs.NumbersBack.{decimal_number, decimal_text}

@@ -1,16 +1,5 @@
 -- Numbers, words and polynomials that are written are text without line ends.
-use Rattle.std.proofs.Common.{◌<◌, ◌^◌, ◌==◌, ℕ, ℤ, Bool, true, false, cond, List, [], ◌∷◌, ◌++◌, arith, refl, codes, IsTrue}
-use Rattle.std.specs.Prelude.{decimal}
-use Rattle.std.specs.Int.{is_negative}
-use Rattle.std.specs.Int.RustNames.{unsigned_abs}
-use Rattle.std.specs.List.{All, list_all, flat_map}
-use Rattle.std.proofs.lemmas.List.Elements.{All-head, All-tail}
-use Rattle.std.proofs.lemmas.Str.{IsUtf8-nil}
-use Rattle.coef_int.specs.Range.{IsCoefficient}
-use Rattle.word_core.specs.Letters.{IsOver}
-use Rattle.quiver.specs.Declarations.{Declaration, letter_count, IsDeclared}
-use Rattle.block_text.specs.Written.{word_text, factor_text, term_text, later_text, poly_text}
-use Rattle.block_text.specs.Back.{is_named, IsLineText}
+use Rattle.block_text.proofs.Prelude.{◌<◌, ◌^◌, ◌==◌, ℕ, ℤ, Bool, true, false, cond, List, [], ◌∷◌, ◌++◌, arith, refl, codes, IsTrue, decimal, is_negative, unsigned_abs, All, list_all, flat_map, All-head, All-tail, IsUtf8-nil, IsCoefficient, IsOver, Declaration, letter_count, IsDeclared, word_text, factor_text, term_text, later_text, poly_text, is_named, IsLineText}
 use Rattle.block_text.proofs.TextsBack.{letters_written, line_text-append, literal, plain_name, word_written}
 use Rattle.block_text.proofs.NumbersBack.{decimal_text}
 

@@ -1,8 +1,6 @@
 -- Parts of a text that are appended one after another.
-use Rattle.std.proofs.Common.{◌≡◌, ◌<◌, ◌+◌, ℕ, List, [], ◌∷◌, ◌++◌, Result, Ok, Err, OnOk, length, take, get_or, sym, ap, ◌∙◌, append_assoc}
-use Rattle.std.proofs.lemmas.Grind.{flat_map-append}
-use Rattle.std.proofs.lemmas.List.{append-nil, take_more}
-use Rattle.std.specs.List.{flat_map}
+use Rattle.block_text.proofs.Prelude.{◌≡◌, ◌<◌, ◌+◌, ℕ, List, [], ◌∷◌, ◌++◌, Result, Ok, Err, OnOk, length, take, get_or, sym, ap, ◌∙◌, flat_map-append, append-nil, take_more, flat_map}
+use Rattle.std.proofs.Common.{append_assoc}
 
 pub four_put : {E : Type 0} (r : Result (Unit {0}) E) (before first second third fourth one two three last : List ℕ) → one ≡ before ++ first → two ≡ one ++ second → three ≡ two ++ third
     → OnOk r (last ≡ three ++ fourth) → OnOk r (last ≡ before ++ (((first ++ second) ++ third) ++ fourth))

@@ -1,17 +1,8 @@
 -- The first line that is not read is the first flawed one.
-use Rattle.std.proofs.Common.{◌≡◌, ◌⊎◌, List, [], ◌∷◌, ◌++◌, Result, Ok, Err, refl, sym, ap, ◌∙◌, subst, inl, inr, append_assoc, append-nil, map}
-use Rattle.std.specs.List.{All, AllZip}
-use Rattle.block_text.specs.declared.fault.Flaw.{Flaw}
-use Rattle.block_text.specs.declared.fault.Flaw.TheVariants.{BadLine, TooMany}
-use Rattle.block_text.specs.declared.place.Place.{Place}
+use Rattle.block_text.proofs.Prelude.{◌≡◌, ◌⊎◌, List, [], ◌∷◌, ◌++◌, Result, Ok, Err, refl, sym, ap, ◌∙◌, subst, inl, inr, map, All, AllZip, Flaw, BadLine, TooMany, Place, Progress, Fault, truncated, Line, block_limit, Kind, Block, own_in, AreBlocks, TextBound, on_block, on_count, Keeps, bounds, flaw_of, GoesOn, IsFlawed, misfit, IsCutOff, Steps, progress, beginning, step, ended, AllZip-unique}
+use Rattle.std.proofs.Common.{append_assoc, append-nil}
 use Rattle.block_text.specs.declared.place.Place.TheVariants as at
-use Rattle.block_text.specs.declared.place.Progress.{Progress}
-use Rattle.block_text.specs.Fault.{Fault, truncated}
-use Rattle.block_text.specs.Lines.{Line, block_limit}
-use Rattle.block_text.specs.Kind.{Kind}
-use Rattle.block_text.specs.Blocks.{Block, own_in, AreBlocks, TextBound, on_block, on_count, Keeps, bounds, flaw_of}
-use Rattle.block_text.specs.Texts.{GoesOn, IsFlawed, misfit, passes, IsCutOff}
-use Rattle.block_text.specs.Steps.{Steps, progress, beginning, step, ended}
+use Rattle.block_text.specs.Texts.{passes}
 use Rattle.block_text.proofs.Bounds.{before, listed}
 use Rattle.block_text.proofs.Owed.{IsReader, same_told, told_for_none}
 use Rattle.block_text.proofs.Results.{bind_ok}
@@ -21,7 +12,6 @@ use Rattle.block_text.proofs.NumberedLines.{run, run-append, run_past}
 use Rattle.block_text.proofs.TextLines.{step_at, AreRead, text_meets}
 use Rattle.block_text.proofs.Standing.{Stands, stands_first, stands_next, goes_on, GoesUpTo, split_up, goes_on_before}
 use Rattle.block_text.proofs.FirstBounds.{last_kept, up_to_kept, goes_on_within_none, goes_on_up_to, one_flaw}
-use Rattle.lists.proofs.Zips.{AllZip-unique}
 
 module _ {Begun Value : Type 0} (kind : Kind Value) (steps : Steps Begun Value) (reader : IsReader kind steps) where
   stands_behind : (p q : Progress Begun Value) (front ls : List Line) → Stands kind steps reader front p → run (step_at steps) p ls ≡ Ok q → Stands kind steps reader (front ++ ls) q

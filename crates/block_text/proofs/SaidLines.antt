@@ -1,13 +1,5 @@
 -- Lines whose tokens say a value: what was read of one, what was wrong with one, and one that is read but for a bound.
-use Rattle.std.proofs.Common.{◌≡◌, ◌≤◌, ◌⊎◌, ℕ, true, List, [], ◌∷◌, Option, Some, Ok, Err, IsTrue, arith, refl, nat_le, inl, inr}
-use Rattle.std.specs.Str.Parse.{digits_value}
-use Rattle.std.proofs.lemmas.Bool.Decides.{nat_tests}
-use Rattle.std.proofs.lemmas.Option.{cond_some}
-use Rattle.block_text.specs.declared.fault.Flaw.{Flaw}
-use Rattle.block_text.specs.declared.fault.Flaw.TheVariants.{BadLine, NumberTooLarge}
-use Rattle.block_text.specs.Fault.{asked}
-use Rattle.block_text.specs.Letters.{is_number, number_within}
-use Rattle.block_text.specs.Lines.{Line, said, number_behind, number_of}
+use Rattle.block_text.proofs.Prelude.{◌≡◌, ◌≤◌, ◌⊎◌, ℕ, true, List, [], ◌∷◌, Option, Some, Ok, Err, IsTrue, arith, refl, nat_le, inl, inr, digits_value, nat_tests, cond_some, Flaw, BadLine, NumberTooLarge, asked, is_number, number_within, Line, said, number_behind, number_of}
 use Rattle.block_text.proofs.LineTrees.{number_is}
 use Rattle.block_text.proofs.Meets.{Meets, asked_meets}
 use Rattle.block_text.proofs.Results.{bind_ok, bind_err, asked_ok, asked_err}

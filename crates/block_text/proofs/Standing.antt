@@ -1,26 +1,12 @@
 -- What the lines that were read are: whole blocks and the first lines of one more.
-use Rattle.std.proofs.Common.{◌≡◌, ◌<◌, ◌⊎◌, ℕ, Bool, true, false, List, [], ◌∷◌, ◌++◌, Option, Some, None, Result, Ok, Err, arith, refl, sym, ap, ap₂, ◌∙◌, subst, length, length-append, map, nat_le, leb-false, append_assoc, append-nil, flat_map, inl, inr}
-use Rattle.std.specs.Bool.{⊤}
-use Rattle.std.specs.List.{All, AllZip}
-use Rattle.std.proofs.lemmas.Grind.{flat_map-append}
-use Rattle.std.proofs.lemmas.List.{map-append}
-use Rattle.std.proofs.lemmas.List.Elements.{All-nil, All-cons, All-push, All-append, All-map, All-weaker}
-use Rattle.block_text.specs.declared.fault.Flaw.{Flaw}
-use Rattle.block_text.specs.declared.fault.Flaw.TheVariants.{BadLine}
-use Rattle.block_text.specs.declared.place.Place.{Place}
+use Rattle.block_text.proofs.Prelude.{◌≡◌, ◌<◌, ◌⊎◌, ℕ, Bool, true, false, List, [], ◌∷◌, ◌++◌, Option, Some, None, Result, Ok, Err, arith, refl, sym, ap, ap₂, ◌∙◌, subst, length, map, nat_le, inl, inr, ⊤, All, AllZip, flat_map-append, map-append, All-nil, All-cons, All-push, All-append, All-map, All-weaker, Flaw, BadLine, Place, Progress, Line, OtherTokens, block_limit, is_end, end_line, Kind, Block, own, other, own_in, block_lines, IsBlock, IsOtherBlock, TextBound, on_block, on_count, AreBlocks, Keeps, bounds, flaw_of, is_other_head, GoesOn, Steps, progress, beginning, step, headed, finished, inside, AllZip-append, zip_length}
+use Rattle.std.proofs.Common.{length-append, leb-false, append_assoc, append-nil, flat_map}
 use Rattle.block_text.specs.declared.place.Place.TheVariants as at
-use Rattle.block_text.specs.declared.place.Progress.{Progress}
-use Rattle.block_text.specs.Lines.{Line, OtherTokens, block_limit, is_end, end_line}
-use Rattle.block_text.specs.Kind.{Kind}
-use Rattle.block_text.specs.Blocks.{Block, own, other, own_in, block_lines, IsBlock, IsOtherBlock, TextBound, on_block, on_count, AreBlocks, Keeps, bounds, flaw_of, is_other_head}
-use Rattle.block_text.specs.Texts.{GoesOn}
-use Rattle.block_text.specs.Steps.{Steps, progress, beginning, step, headed, finished, inside}
 use Rattle.block_text.proofs.LineTrees.{end_is}
 use Rattle.block_text.proofs.Bounds.{before, listed}
 use Rattle.block_text.proofs.Owed.{Begins, IsStopped, misfit, passes, IsReader}
 use Rattle.block_text.proofs.Results.{by_test, bind_ok, bind_err}
 use Rattle.block_text.proofs.TextLines.{own_in-append}
-use Rattle.lists.proofs.Zips.{AllZip-append, zip_length}
 
 pub everywhere : {X : Type 0} (P : X → Type 0) → ((x : X) → P x) → (xs : List X) → All P xs
 everywhere P each xs = λ k d below. each _

@@ -1,11 +1,5 @@
 -- The adjoint of a letter is a letter.
-use Rattle.std.proofs.Common.{◌≡◌, ◌<◌, ◌+◌, ℕ, true, false, List, [], ◌∷◌, arith, sym, subst, length}
-use Rattle.std.specs.List.{AllByRecursion, flat_map}
-use Rattle.std.proofs.lemmas.List.Elements.{All-from_recursion, All-get_or}
-use Rattle.definitions.specs.Quiver.{star}
-use Rattle.quiver.specs.Declarations.{Declaration, object, arrow, letter_count, LetterEntry, letter_table, letters_made, turns_from, no_letter, quiver_of}
-use Rattle.quiver.proofs.Counts.{length-letter_table}
-use Rattle.quiver.proofs.Letters.{star-quiver_of}
+use Rattle.block_text.proofs.Prelude.{◌≡◌, ◌<◌, ◌+◌, ℕ, true, false, List, [], ◌∷◌, arith, sym, subst, length, AllByRecursion, flat_map, All-from_recursion, All-get_or, star, Declaration, object, arrow, letter_count, LetterEntry, letter_table, letters_made, turns_from, no_letter, quiver_of, length-letter_table, star-quiver_of}
 
 abbrev letters_from : ℕ → ℕ → ℕ → List Declaration → List LetterEntry
 letters_from p v a ds = flat_map (λ t. letters_made t.declared t) (turns_from p v a ds)

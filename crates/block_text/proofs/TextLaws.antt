@@ -1,11 +1,5 @@
 -- The laws of texts hold of each kind whose reader owes what it has to, and of each writer whose texts are blocks.
-use Rattle.std.proofs.Common.{◌≡◌, ℕ, false, List}
-use Rattle.std.specs.List.{list_any}
-use Rattle.block_text.specs.Tokens.{begins_comment}
-use Rattle.block_text.specs.Kind.{Kind}
-use Rattle.block_text.specs.Laws.{AreTold, AreReadBack}
-use Rattle.block_text.specs.Steps.{Steps}
-use Rattle.block_text.specs.Texts.{HasBlocks, IsBlocks, IsFirstFault}
+use Rattle.block_text.proofs.Prelude.{◌≡◌, ℕ, false, List, list_any, begins_comment, Kind, AreTold, AreReadBack, Steps, HasBlocks, IsBlocks, IsFirstFault}
 use Rattle.block_text.proofs.Owed.{IsReader}
 use Rattle.block_text.proofs.EachText.{text_is_read, values_are_unique, fault_is_unique, values_have_no_fault}
 use Rattle.block_text.proofs.PartsBack.{IsWritten, written_between, parts_have}

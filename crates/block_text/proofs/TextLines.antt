@@ -1,24 +1,11 @@
 -- Texts whose blocks keep bounds are read.
-use Rattle.std.proofs.Common.{◌≡◌, ◌≤◌, ◌<◌, ◌+◌, ℕ, Bool, true, false, List, [], ◌∷◌, ◌++◌, Option, Some, None, Result, Ok, Err, arith, leb-false, refl, sym, ap, ◌∙◌, subst, length, length-append, nat_le, flat_map}
-use Rattle.std.specs.List.{All, AllZip}
-use Rattle.std.proofs.lemmas.Bool.{lt-leb}
-use Rattle.std.proofs.lemmas.List.{append_assoc, append-nil}
-use Rattle.std.proofs.lemmas.List.Elements.{All-head, All-tail}
-use Rattle.block_text.specs.declared.fault.Flaw.{Flaw}
-use Rattle.block_text.specs.declared.fault.Flaw.TheVariants.{BadLine, TooMany}
-use Rattle.block_text.specs.declared.place.Place.{Place}
+use Rattle.block_text.proofs.Prelude.{◌≡◌, ◌≤◌, ◌<◌, ◌+◌, ℕ, Bool, true, false, List, [], ◌∷◌, ◌++◌, Option, Some, None, Result, Ok, Err, arith, refl, sym, ap, ◌∙◌, subst, length, nat_le, All, AllZip, lt-leb, append_assoc, append-nil, All-head, All-tail, Flaw, BadLine, TooMany, Place, Progress, asked, Line, OtherTokens, block_limit, is_end, end_line, Kind, Block, own, other, own_in, block_lines, IsBlock, IsOtherBlock, TextBound, on_block, on_count, told_for, AreBlocks, Keeps, flaw_of, is_other_head, Steps, progress, beginning, step, AllZip-append, zip_length}
+use Rattle.std.proofs.Common.{leb-false, length-append, flat_map}
 use Rattle.block_text.specs.declared.place.Place.TheVariants as at
-use Rattle.block_text.specs.declared.place.Progress.{Progress}
-use Rattle.block_text.specs.Fault.{asked}
-use Rattle.block_text.specs.Lines.{Line, OtherTokens, block_limit, is_end, end_line}
-use Rattle.block_text.specs.Kind.{Kind}
-use Rattle.block_text.specs.Blocks.{Block, own, other, own_in, block_lines, IsBlock, IsOtherBlock, TextBound, on_block, on_count, told_for, AreBlocks, Keeps, flaw_of, is_other_head}
-use Rattle.block_text.specs.Steps.{Steps, progress, beginning, step}
 use Rattle.block_text.proofs.Owed.{read_inside, read_block, IsReader, told_for_none}
 use Rattle.block_text.proofs.Meets.{Meets, reads, passes, then_meets, meets-weaker}
 use Rattle.block_text.proofs.NumberedLines.{run, run-append}
 use Rattle.block_text.proofs.Results.{bind_ok, bind_err, by_test}
-use Rattle.lists.proofs.Zips.{AllZip-append, zip_length}
 
 abbrev pub step_at : {Begun Value : Type 0} → Steps Begun Value → Progress Begun Value → Line → Result (Progress Begun Value) Flaw
 step_at steps p line = step steps p.values p.place line

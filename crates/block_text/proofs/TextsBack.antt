@@ -1,21 +1,5 @@
 -- What is written is text without line ends, and its letters and words are tokens.
-use Rattle.std.proofs.Common.{◌≡◌, ◌<◌, ℕ, zero, suc, Bool, true, false, cond, nat_eq, nat_lt, List, [], ◌∷◌, ◌++◌, Option, Some, None, arith, refl, subst, length, IsTrue, map, get_or, codes, ltb-true}
-use Rattle.std.specs.List.{AllByRecursion, list_all}
-use Rattle.std.proofs.lemmas.List.Elements.{All-head, All-tail}
-use Rattle.std.specs.Str.{IsUtf8, IsAscii}
-use Rattle.std.proofs.lemmas.Bool.{and_parts, ne_eqb}
-use Rattle.std.proofs.lemmas.List.{length-append}
-use Rattle.std.proofs.lemmas.List.Folds.{list_all-append}
-use Rattle.std.proofs.lemmas.Str.{IsUtf8-nil, IsUtf8-append, IsUtf8-from_ascii}
-use Rattle.quiver.specs.declared.named.Named.{Named}
-use Rattle.quiver.specs.declared.named.Named.TheVariants.{Object, Map}
-use Rattle.word_core.specs.Letters.{IsOver}
-use Rattle.quiver.specs.Declarations.{Declaration, named_in, letter_count, letter_name, IsDeclared}
-use Rattle.block_text.specs.Tokens.{is_plain}
-use Rattle.block_text.specs.Letters.{is_name, is_letter, letter_of, word_of}
-use Rattle.block_text.specs.Lines.{is_close}
-use Rattle.block_text.specs.Written.{spelled_as, letter_text, word_text}
-use Rattle.block_text.specs.Back.{is_inside, is_named, IsLineText}
+use Rattle.block_text.proofs.Prelude.{◌≡◌, ◌<◌, ℕ, zero, suc, Bool, true, false, cond, nat_eq, nat_lt, List, [], ◌∷◌, ◌++◌, Option, Some, None, arith, refl, subst, length, IsTrue, map, get_or, codes, ltb-true, AllByRecursion, list_all, All-head, All-tail, IsUtf8, IsAscii, and_parts, ne_eqb, length-append, list_all-append, IsUtf8-nil, IsUtf8-append, IsUtf8-from_ascii, Named, Object, Map, IsOver, Declaration, named_in, letter_count, letter_name, IsDeclared, is_plain, is_name, is_letter, letter_of, word_of, is_close, spelled_as, letter_text, word_text, is_inside, is_named, IsLineText}
 use Rattle.block_text.proofs.LettersBack.{Comes, letter_read, spelled_map, spelled_adjoint, spelled_identity}
 use Rattle.block_text.proofs.LetterNames.{IsSpelled, letter_is_spelled}
 use Rattle.block_text.proofs.NameBytes.{IsNameText, name_text}

@@ -1,9 +1,5 @@
 -- Tokens that are written are read.
-use Rattle.std.proofs.Common.{◌≡◌, ◌<◌, ℕ, Bool, true, false, not, ◌||◌, List, [], ◌∷◌, ◌++◌, arith, refl, sym, ap, ◌∙◌, subst, length}
-use Rattle.std.specs.List.{AllByRecursion, list_all, onto_first, join_with_byte}
-use Rattle.std.proofs.lemmas.Bool.{ne_eqb, and_parts}
-use Rattle.std.proofs.lemmas.List.{append_assoc}
-use Rattle.block_text.specs.Tokens.{is_gap, is_sign, is_plain, goes_on, tokens_of}
+use Rattle.block_text.proofs.Prelude.{◌≡◌, ◌<◌, ℕ, Bool, true, false, not, ◌||◌, List, [], ◌∷◌, ◌++◌, arith, refl, sym, ap, ◌∙◌, subst, length, AllByRecursion, list_all, onto_first, join_with_byte, ne_eqb, and_parts, append_assoc, is_gap, is_sign, is_plain, goes_on, tokens_of}
 use Rattle.block_text.proofs.Cuts.{tokens-alone, tokens-joined}
 use Rattle.block_text.proofs.NameBytes.{is_name_byte, IsNameText, differs}
 

@@ -1,21 +1,8 @@
 -- A letter is written as it is spelled, but for a ' after one that is its own adjoint.
-use Rattle.std.proofs.Common.{◌≡◌, ◌-◌, ℕ, Bool, true, false, not, cond, ◌&&◌, List, [], ◌∷◌, Option, Some, None, arith, refl, ap, ◌∙◌, subst, length, take, drop, codes, nat_eq, eq-eqb}
-use Rattle.std.specs.Bool.{⊤}
-use Rattle.std.specs.List.{starts_with, ends_with}
-use Rattle.std.specs.Option.{option_and_then, option_map}
-use Rattle.std.proofs.lemmas.Bool.{false_from_ne_true}
-use Rattle.std.proofs.lemmas.List.{length-take-le}
-use Rattle.std.proofs.lemmas.Option.{cond_some}
-use Rattle.definitions.specs.Quiver.{star}
-use Rattle.quiver.specs.declared.named.Named.{Named}
-use Rattle.quiver.specs.declared.named.Named.TheVariants.{Object, Map}
-use Rattle.quiver.specs.Declarations.{Declaration, named_in, letter_name, identity_in, quiver_of}
+use Rattle.block_text.proofs.Prelude.{◌≡◌, ◌-◌, ℕ, Bool, true, false, not, cond, ◌&&◌, List, [], ◌∷◌, Option, Some, None, arith, refl, ap, ◌∙◌, subst, length, take, drop, codes, nat_eq, eq-eqb, ⊤, starts_with, ends_with, option_and_then, option_map, false_from_ne_true, length-take-le, cond_some, star, Named, Object, Map, Declaration, named_in, letter_name, identity_in, quiver_of, Spelled, is_name, name_in, spelled_by, letter_named, starred, is, is_bracketed, is_adjoint, is_spelling, is_written_as, written_letter, marked, written_by}
 use Rattle.quiver.proofs.Found.{is_named}
-use Rattle.block_text.specs.Letters.{Spelled, is_name, name_in, named_by, spelled_by, letter_named, starred}
-use Rattle.block_text.specs.Lines.{is}
+use Rattle.block_text.specs.Letters.{named_by}
 use Rattle.block_text.specs.PolynomialLines.{is_plain}
-use Rattle.block_text.specs.PolynomialReading.{is_bracketed, is_adjoint, is_spelling, is_written_as, written_letter}
-use Rattle.block_text.specs.WrittenLetters.{marked, written_by}
 use Rattle.block_text.proofs.LetterNames.{star_name, identity_name}
 use Rattle.block_text.proofs.LineTrees.{is_word}
 use Rattle.block_text.proofs.PolynomialBounds.{is_same}

@@ -1,7 +1,5 @@
 -- The item that a number names, and what holds of it.
-use Rattle.std.proofs.Common.{◌≡◌, ℕ, ◌<◌, List, All, Some, slice_get, subst, arith}
-use Rattle.std.proofs.lemmas.Option.{slice_get_within, get_or_from_slice_get}
-use Rattle.definitions.specs.Quiver.{Quiver, IsQuiver, letters}
+use Rattle.cancel_rules.proofs.Prelude.{◌≡◌, ℕ, ◌<◌, List, All, Some, slice_get, subst, arith, slice_get_within, get_or_from_slice_get, Quiver, IsQuiver, letters}
 
 pub holds_there : {X : Type 0} (P : X → Type 0) (xs : List X) (i : ℕ) (x : X) → All P xs → slice_get xs i ≡ Some x → P x
 holds_there P xs i x all there = subst P (get_or_from_slice_get xs i x x there) (all i x (slice_get_within xs i x there))

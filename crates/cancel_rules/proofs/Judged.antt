@@ -1,37 +1,10 @@
 -- Each proof has exactly one outcome: it is accepted, or one of its tests is the first that fails.
-use Rattle.std.proofs.Common.{◌≡◌, ◌⊎◌, inl, inr, ℕ, ◌+◌, ◌≤◌, ℤ, List, [], ◌∷◌, ◌++◌, length, All, Result, Ok, Err, IfErr, refl, sym, subst, ap, arith}
-use Rattle.std.specs.List.{Contains}
-use Rattle.std.proofs.lemmas.Bool.{cases_eq}
-use Rattle.std.proofs.lemmas.List.Elements.{Contains-append_right, Contains-append_cases, Contains-push_cases}
-use Rattle.word_core.specs.declared.letter.Letter.{Letter}
+use Rattle.cancel_rules.proofs.Prelude.{◌≡◌, ◌⊎◌, inl, inr, ℕ, ◌+◌, ◌≤◌, ℤ, List, [], ◌∷◌, ◌++◌, length, All, Result, Ok, Err, IfErr, refl, sym, subst, ap, arith, Contains, cases_eq, Contains-append_right, Contains-append_cases, Contains-push_cases, Letter, Quiver, generator_at, HasSignature, Lemma, IsDecided, le_decided, HasOneOutcome, each_decided, no_test, one_test, then_test, reworded, IsNumberUpTo, term_total, kept_limit, HasScale, IsTight, ArePositive, IsLoose, AreTight, Starts, TellsStart, RefusesGoal, Refusal, numbered_or, memory_decided, goal_outcome, divides_or, positive_or, lemma_outcome, start_outcome, Side, Item, Cancellation, CancelRefusal, declared_for, stripped, item_polynomial, row_total, rows_in, HasAtEnd, IsDeclaredLetter, IsTypedItem, ComesOff, InCommon, CancelPasses, RefusesCancel, ItemPasses, ItemsPass, RefusesItem, RefusesItems, claim_named, all_items, OfLemma, HasPositiveScales, CancelHasShares, CancelBegins, AcceptsCancellation, IsFirstLooseItem, CancelHasLooseGoal, RefusesBeginning, RefusesParts, RefusesCommon, RefusesCancellation, IsMemory, CancellationIsJudged, CancellationRefusalIsUnique, AcceptedCancellationIsNotRefused}
 use Rattle.definitions.specs.Poly.{Poly}
-use Rattle.definitions.specs.Quiver.{Quiver}
-use Rattle.definitions.specs.Combination.{generator_at}
-use Rattle.definitions.specs.Soundness.{HasSignature}
-use Rattle.traced_rows.specs.declared.evidence.Lemma.{Lemma}
-use Rattle.lists.proofs.Decided.{IsDecided, le_decided}
-use Rattle.lists.proofs.FirstFailure.{HasOneOutcome, each_decided, no_test, one_test, then_test, reworded}
-use Rattle.cofactor_checker.specs.Rows.{IsNumberUpTo}
-use Rattle.cofactor_checker.specs.Lemmas.{term_total, kept_limit}
-use Rattle.cofactor_checker.specs.LemmaAcceptance.{HasScale, IsTight}
-use Rattle.cofactor_checker.specs.Starts.{ArePositive, IsLoose, AreTight, Starts, TellsStart}
-use Rattle.cofactor_checker.specs.Goals.{RefusesGoal}
 use Rattle.cofactor_checker.specs.Acceptance as certificates
-use Rattle.cofactor_checker.specs.declared.refusal.Refusal.{Refusal}
 use Rattle.cofactor_checker.specs.declared.refusal.Refusal.TheVariants as common
-use Rattle.cofactor_checker.proofs.RowTests.{numbered_or, memory_decided, goal_outcome}
-use Rattle.cofactor_checker.proofs.LemmaTests.{divides_or, positive_or, lemma_outcome}
-use Rattle.cofactor_checker.proofs.Judged.{start_outcome}
-use Rattle.cancel_rules.specs.declared.cancellation.Side.{Side}
-use Rattle.cancel_rules.specs.declared.cancellation.Item.{Item}
 use Rattle.cancel_rules.specs.declared.cancellation.Item.TheVariants as item
-use Rattle.cancel_rules.specs.declared.cancellation.Cancellation.{Cancellation}
-use Rattle.cancel_rules.specs.declared.refusal.CancelRefusal.{CancelRefusal}
 use Rattle.cancel_rules.specs.declared.refusal.CancelRefusal.TheVariants as refusal
-use Rattle.cancel_rules.specs.Cancellations.{declared_for}
-use Rattle.cancel_rules.specs.Items.{stripped, item_polynomial, row_total, rows_in, HasAtEnd, IsDeclaredLetter, IsTypedItem, ComesOff, InCommon, CancelPasses, RefusesCancel, ItemPasses, ItemsPass, RefusesItem, RefusesItems}
-use Rattle.cancel_rules.specs.Acceptance.{claim_named, all_items, OfLemma, HasPositiveScales, CancelHasShares, CancelBegins, AcceptsCancellation, IsFirstLooseItem, CancelHasLooseGoal, RefusesBeginning, RefusesParts, RefusesCommon, RefusesCancellation, IsMemory}
-use Rattle.cancel_rules.specs.Laws.{CancellationIsJudged, CancellationRefusalIsUnique, AcceptedCancellationIsNotRefused}
 use Rattle.cancel_rules.proofs.Outcomes.{refuses_from_beginning, refuses_from_items, refuses_from_goal}
 use Rattle.cancel_rules.proofs.Typing.{has_signature_or}
 use Rattle.cancel_rules.proofs.Without.{at_end_or}

@@ -1,27 +1,8 @@
 -- The polynomials of items have letters of the quiver alone, and so do the words that refusals name.
-use Rattle.std.proofs.Common.{◌≡◌, inl, inr, ℕ, zero, suc, ◌+◌, ℤ, true, List, [], ◌∷◌, ◌++◌, All}
-use Rattle.std.specs.List.{AllByRecursion}
-use Rattle.std.proofs.lemmas.List.Elements.{All-nil, All-cons, All-head, All-tail, All-push, All-map}
-use Rattle.definitions.specs.Poly.{Term}
-use Rattle.definitions.specs.Combination.{generator_at}
-use Rattle.word_core.specs.Letters.{IsOver}
-use Rattle.nc_polynomial.specs.declared.poly.Poly.{Poly}
-use Rattle.quiver.specs.Declarations.{letter_count}
-use Rattle.traced_rows.specs.declared.evidence.Lemma.{Lemma}
-use Rattle.adjoint_rules.specs.declared.problem.Problem.{Problem}
-use Rattle.adjoint_rules.specs.Problem.{polynomials}
-use Rattle.cofactor_checker.specs.Lemmas.{lemma_polynomial}
-use Rattle.cofactor_checker.specs.PlainRows.{plain_sum}
+use Rattle.cancel_rules.proofs.Prelude.{◌≡◌, inl, inr, ℕ, zero, suc, ◌+◌, ℤ, true, List, [], ◌∷◌, ◌++◌, All, AllByRecursion, All-nil, All-cons, All-head, All-tail, All-push, All-map, Term, generator_at, IsOver, Poly, letter_count, Lemma, Problem, polynomials, lemma_polynomial, plain_sum, is_over, Lists, Stays, IsLemmaOver, listed_stays, plain_stays, lemma_lists, rest_is_over, difference_is_over, drawn, word_over, over_word, generators_stay, claim_stays, Side, Item, Cancellation, word_without, stripped, item_polynomial, item_polynomials, rows_in, RefusesItems, claim_named, all_items, IsReadableLemma, IsReadableItem, IsReadableCancellation, RefusesParts, IsRefused, IsPolyOver}
 use Rattle.cofactor_checker.specs.declared.refusal.Refusal.TheVariants as common
-use Rattle.cofactor_checker.proofs.LetterSums.{is_over, Lists, Stays, IsLemmaOver, listed_stays, plain_stays, lemma_lists, rest_is_over, difference_is_over, drawn, word_over, over_word, generators_stay, claim_stays}
-use Rattle.cancel_rules.specs.declared.cancellation.Side.{Side}
-use Rattle.cancel_rules.specs.declared.cancellation.Item.{Item}
 use Rattle.cancel_rules.specs.declared.cancellation.Item.TheVariants as item
-use Rattle.cancel_rules.specs.declared.cancellation.Cancellation.{Cancellation}
 use Rattle.cancel_rules.specs.declared.refusal.CancelRefusal.TheVariants as refusal
-use Rattle.cancel_rules.specs.Items.{word_without, stripped, item_polynomial, item_polynomials, rows_in, RefusesItems}
-use Rattle.cancel_rules.specs.Acceptance.{claim_named, all_items, IsReadableLemma, IsReadableItem, IsReadableCancellation, RefusesParts, IsRefused}
-use Rattle.quiver.specs.Over.{IsPolyOver}
 use Rattle.cancel_rules.proofs.Without as without
 
 module _ (problem : Problem) where

@@ -1,3 +1,4 @@
+mod Prelude
 pub mod Words
 pub mod Stripped
 pub mod Meaning

@@ -1,11 +1,5 @@
 -- Tables that mark letters, one letter after another.
-use Rattle.std.proofs.Common.{◌≡◌, ◌≢◌, ◌⊎◌, inl, inr, ℕ, ◌<◌, Bool, true, false, List, [], ◌∷◌, ◌++◌, length, get_or, set, sym, ap, subst, ◌∙◌}
-use Rattle.std.specs.List.{Contains}
-use Rattle.std.proofs.lemmas.Bool.{cases_eq}
-use Rattle.std.proofs.lemmas.List.{get_or-set_same, get_or-set_other}
-use Rattle.std.proofs.lemmas.List.Elements.{Contains-push, Contains-push_cases, Contains-append_left}
-use Rattle.word_core.specs.declared.letter.Letter.{Letter}
-use Rattle.cancel_rules.specs.Inner.{MarksLetters}
+use Rattle.cancel_rules.proofs.Prelude.{◌≡◌, ◌≢◌, ◌⊎◌, inl, inr, ℕ, ◌<◌, Bool, true, false, List, [], ◌∷◌, ◌++◌, length, get_or, set, sym, ap, subst, ◌∙◌, Contains, cases_eq, get_or-set_same, get_or-set_other, Contains-push, Contains-push_cases, Contains-append_left, Letter, MarksLetters}
 
 pub one_more : (letters : List Letter) (a : Letter) (marks : List Bool) → a.0 < length marks → MarksLetters letters marks → MarksLetters (letters ++ a ∷ []) (set marks a.0 true)
 one_more letters a marks inside so_far = record { each = λ b. by b (cases_eq b.0 a.0) }

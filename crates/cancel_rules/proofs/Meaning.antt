@@ -1,27 +1,8 @@
 -- Items vanish one after another, and with them the claim.
-use Rattle.std.proofs.Common.{◌≡◌, ◌≢◌, ℕ, ◌<◌, ℤ, true, List, [], ◌∷◌, ◌++◌, All, sym, refl, ap, ap₂, subst, ◌∙◌, append_assoc, append-nil}
-use Rattle.std.proofs.lemmas.Bool.{and_from}
-use Rattle.std.proofs.lemmas.List.Elements.{All-head, All-tail, All-contains}
-use Rattle.std.specs.List.{AllByRecursion, list_all}
-use Rattle.definitions.specs.Category.{Structure, PreadditiveLaws, InvolutionLaws}
-use Rattle.definitions.specs.Poly.{SamePolynomial, poly_between}
-use Rattle.definitions.specs.Quiver.{Quiver, IsQuiver, letters}
-use Rattle.definitions.specs.Representation.{Representation, Represents, Cancels}
-use Rattle.definitions.specs.Combination.{generator_at}
-use Rattle.definitions.specs.Soundness.{HasSignature, HasValueZero}
-use Rattle.definitions.proofs.StarSound.{all-append, star_sound}
-use Rattle.definitions.proofs.Values.{value_at-linear}
-use Rattle.representations.specs.Cancelling.{IsMonic, IsEpic}
+use Rattle.cancel_rules.proofs.Prelude.{◌≡◌, ◌≢◌, ℕ, ◌<◌, ℤ, true, List, [], ◌∷◌, ◌++◌, All, sym, refl, ap, ap₂, subst, ◌∙◌, append_assoc, append-nil, and_from, All-head, All-tail, All-contains, AllByRecursion, list_all, Structure, PreadditiveLaws, InvolutionLaws, SamePolynomial, poly_between, Quiver, IsQuiver, letters, Representation, Represents, Cancels, generator_at, HasSignature, HasValueZero, all-append, star_sound, value_at-linear, IsMonic, IsEpic, Lemma, AddsUpTo, IsShareOf, Side, Item, Cancellation, put_back, declared_for, IsOfItem, AreOfItems, AreMonic, AreEpic, IsCancellationSound, IsCancellationStarSound}
 use Rattle.representations.proofs.Lemmas as lemmas
-use Rattle.traced_rows.specs.declared.evidence.Lemma.{Lemma}
-use Rattle.traced_rows.specs.LemmaRows.{AddsUpTo, IsShareOf}
-use Rattle.cancel_rules.specs.declared.cancellation.Side.{Side}
 use Rattle.cancel_rules.specs.declared.cancellation.Side.TheVariants as side
-use Rattle.cancel_rules.specs.declared.cancellation.Item.{Item}
 use Rattle.cancel_rules.specs.declared.cancellation.Item.TheVariants as item
-use Rattle.cancel_rules.specs.declared.cancellation.Cancellation.{Cancellation}
-use Rattle.cancel_rules.specs.Cancellations.{put_back, declared_for, IsOfItem, AreOfItems}
-use Rattle.cancel_rules.specs.Meaning.{AreMonic, AreEpic, IsCancellationSound, IsCancellationStarSound}
 use Rattle.cancel_rules.proofs.Stripped.{is_some, IsNothing, whole_is_zero, front_is_nothing, behind_is_nothing}
 
 some_word : (w : List ℕ) → w ≢ [] → is_some w ≡ true

@@ -1,17 +1,8 @@
 -- What is told of a part of a proof is told of the proof.
-use Rattle.std.proofs.Common.{◌≡◌, inl, inr, ℕ, ℤ, List, [], Result, Ok, Err, IfErr, IsErrAnd, sym, subst}
-use Rattle.definitions.specs.Quiver.{Quiver}
-use Rattle.cofactor_checker.specs.Goals.{RefusesGoal}
-use Rattle.cofactor_checker.specs.declared.refusal.Refusal.{Refusal}
+use Rattle.cancel_rules.proofs.Prelude.{◌≡◌, inl, inr, ℕ, ℤ, List, [], Result, Ok, Err, IfErr, IsErrAnd, sym, subst, Quiver, RefusesGoal, Refusal, Letter, Side, Cancellation, CancelRefusal, row_total, RefusesCancel, RefusesItem, RefusesItems, claim_named, all_items, CancelBegins, HasItems, RefusesBeginning, RefusesParts, RefusesCancellation, IsMemory}
 use Rattle.cofactor_checker.specs.declared.refusal.Refusal.TheVariants as common
-use Rattle.word_core.specs.declared.letter.Letter.{Letter}
-use Rattle.cancel_rules.specs.declared.cancellation.Side.{Side}
 use Rattle.cancel_rules.specs.declared.cancellation.Item.TheVariants as item
-use Rattle.cancel_rules.specs.declared.cancellation.Cancellation.{Cancellation}
-use Rattle.cancel_rules.specs.declared.refusal.CancelRefusal.{CancelRefusal}
 use Rattle.cancel_rules.specs.declared.refusal.CancelRefusal.TheVariants as refusal
-use Rattle.cancel_rules.specs.Items.{row_total, RefusesCancel, RefusesItem, RefusesItems}
-use Rattle.cancel_rules.specs.Acceptance.{claim_named, all_items, CancelBegins, HasItems, RefusesBeginning, RefusesParts, RefusesCancellation, IsMemory}
 
 module _ (q : Quiver) (claims generators : List (List (ℤ × List ℕ))) (proof : Cancellation) where
   -- before the items

@@ -1,20 +1,7 @@
 -- What an accepted proof shows.
-use Rattle.std.proofs.Common.{ℕ, ℤ, List, [], ◌∷◌, ◌++◌, sym, ap, ◌∙◌, arith}
+use Rattle.cancel_rules.proofs.Prelude.{ℕ, ℤ, List, [], ◌∷◌, ◌++◌, sym, ap, ◌∙◌, arith, ints, All-head, All-tail, coefficient_of, Quiver, generator_at, HasScale, IsTight, sums_agree, lemma_adds_up, Item, Cancellation, IsOfItem, AreOfItems, item_polynomial, item_polynomials, ItemPasses, ItemsPass, OfLemma, all_items, AcceptedCancellationLeads}
 use Rattle.std.specs.List.{All}
-use Rattle.std.proofs.lemmas.Int.{ints}
-use Rattle.std.proofs.lemmas.List.Elements.{All-head, All-tail}
-use Rattle.definitions.specs.Poly.{coefficient_of}
-use Rattle.definitions.specs.Quiver.{Quiver}
-use Rattle.definitions.specs.Combination.{generator_at}
-use Rattle.cofactor_checker.specs.LemmaAcceptance.{HasScale, IsTight}
-use Rattle.cofactor_checker.proofs.LemmaSums.{sums_agree, lemma_adds_up}
-use Rattle.cancel_rules.specs.declared.cancellation.Item.{Item}
 use Rattle.cancel_rules.specs.declared.cancellation.Item.TheVariants as item
-use Rattle.cancel_rules.specs.declared.cancellation.Cancellation.{Cancellation}
-use Rattle.cancel_rules.specs.Cancellations.{IsOfItem, AreOfItems}
-use Rattle.cancel_rules.specs.Items.{item_polynomial, item_polynomials, ItemPasses, ItemsPass}
-use Rattle.cancel_rules.specs.Acceptance.{OfLemma, all_items}
-use Rattle.cancel_rules.specs.Laws.{AcceptedCancellationLeads}
 use Rattle.cancel_rules.proofs.Without.{put_back_stripped, words_left}
 
 module _ (q : Quiver) (proof : Cancellation) (generators : List (List (ℤ × List ℕ))) where

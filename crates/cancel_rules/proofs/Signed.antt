@@ -1,12 +1,5 @@
 -- What the signature of a polynomial tells of its type.
-use Rattle.std.proofs.Common.{eqb-true, ◌≡◌, ◌≢◌, ℕ, ◌<◌, Bool, true, false, List, [], ◌∷◌, All, length, Option, Some, None, IfSome, IfNone, is_some, refl, sym, ap, subst, arith}
-use Rattle.definitions.specs.Poly.{Term}
-use Rattle.definitions.specs.Quiver.{Quiver, IsQuiver, source, leads, is_path, IsTyped}
-use Rattle.definitions.specs.Soundness.{HasSignature}
-use Rattle.definitions.proofs.Paths.{step}
-use Rattle.quiver.specs.declared.named.Sig.{Sig}
-use Rattle.quiver.specs.Signatures.{HasPaths}
-use Rattle.cofactor_checker.proofs.Each.{clash}
+use Rattle.cancel_rules.proofs.Prelude.{eqb-true, ◌≡◌, ◌≢◌, ℕ, ◌<◌, Bool, true, false, List, [], ◌∷◌, All, length, Option, Some, None, IfSome, IfNone, is_some, refl, sym, ap, subst, arith, Term, Quiver, IsQuiver, source, leads, is_path, IsTyped, HasSignature, step, Sig, HasPaths, clash}
 
 module _ (q : Quiver) (quiver : IsQuiver q) where
   -- the ends of a path are objects

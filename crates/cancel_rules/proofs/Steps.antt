@@ -1,18 +1,8 @@
 -- One item after another.
-use Rattle.std.proofs.Common.{◌≡◌, inl, inr, ℕ, ◌+◌, ◌<◌, ◌≤◌, ℤ, List, [], ◌∷◌, ◌++◌, length, drop, get_or, Result, Ok, Err, IfErr, IsErrAnd, sym, ap, subst, ◌∙◌, append_assoc, arith}
-use Rattle.std.specs.declared.alloc.AllocError.{AllocError}
-use Rattle.definitions.specs.Quiver.{Quiver}
-use Rattle.nc_polynomial.proofs.Steps.{drop_next}
-use Rattle.cofactor_checker.specs.Lemmas.{term_total}
-use Rattle.cancel_rules.specs.declared.cancellation.Item.{Item}
+use Rattle.cancel_rules.proofs.Prelude.{◌≡◌, inl, inr, ℕ, ◌+◌, ◌<◌, ◌≤◌, ℤ, List, [], ◌∷◌, ◌++◌, length, drop, get_or, Result, Ok, Err, IfErr, IsErrAnd, sym, ap, subst, ◌∙◌, append_assoc, arith, AllocError, Quiver, drop_next, term_total, Item, Cancellation, CancelRefusal, item_polynomial, item_polynomials, row_total, rows_in, ItemPasses, ItemsPass, RefusesItem, RefusesItems, IsMemory, IsMadeItem}
 use Rattle.cancel_rules.specs.declared.cancellation.Item.TheVariants as item
-use Rattle.cancel_rules.specs.declared.cancellation.Cancellation.{Cancellation}
-use Rattle.cancel_rules.specs.declared.refusal.CancelRefusal.{CancelRefusal}
 use Rattle.cancel_rules.specs.declared.refusal.CancelRefusal.TheVariants as refusal
 use Rattle.cofactor_checker.specs.declared.refusal.Refusal.TheVariants as common
-use Rattle.cancel_rules.specs.Items.{item_polynomial, item_polynomials, row_total, rows_in, ItemPasses, ItemsPass, RefusesItem, RefusesItems}
-use Rattle.cancel_rules.specs.Acceptance.{IsMemory}
-use Rattle.cancel_rules.specs.Inner.{IsMadeItem}
 
 -- The items before this one are made: these are their polynomials, and they have so many rows.
 pub record ItemsUpTo (q : Quiver) (proof : Cancellation) (gs ps : List (List (ℤ × List ℕ))) (items : List Item) (rows i : ℕ) : Type 0 where

@@ -1,18 +1,5 @@
 -- What is left of a typed polynomial that vanishes between any words, where a monic letter is taken off in front of each word or an epic one behind it, vanishes between any words.
-use Rattle.std.proofs.Common.{◌≡◌, ◌≢◌, ◌⊎◌, inl, inr, ℕ, ◌<◌, ℤ, pos, Bool, true, false, cond, List, [], ◌∷◌, ◌++◌, sym, ap, ap₂, subst, ◌∙◌, eqb-true, append-nil}
-use Rattle.std.specs.List.{list_all}
-use Rattle.definitions.specs.Category.{Structure, IsArrow, PreadditiveLaws}
-use Rattle.definitions.specs.Poly.{coefficient_of, SamePolynomial, poly_between}
-use Rattle.definitions.specs.Quiver.{Quiver, IsQuiver, letters, source, target, leads, is_path, IsTyped}
-use Rattle.definitions.specs.Representation.{Representation, Represents, path_value}
-use Rattle.definitions.specs.Soundness.{HasSignature}
-use Rattle.definitions.proofs.Linear.{linear, linear_in, linear_agree, linear_same, linear-between, additive-linear}
-use Rattle.definitions.proofs.Coefficients.{at_word}
-use Rattle.definitions.proofs.Paths.{step, split}
-use Rattle.definitions.proofs.Values.{word_at, word_at_is_arrow, group_at, value_at-linear}
-use Rattle.definitions.proofs.Rows.{path_value-append, between_is_zero}
-use Rattle.representations.specs.Cancelling.{IsMonic, IsEpic}
-use Rattle.traced_rows.proofs.Between.{between-nothing}
+use Rattle.cancel_rules.proofs.Prelude.{◌≡◌, ◌≢◌, ◌⊎◌, inl, inr, ℕ, ◌<◌, ℤ, pos, Bool, true, false, cond, List, [], ◌∷◌, ◌++◌, sym, ap, ap₂, subst, ◌∙◌, eqb-true, append-nil, list_all, Structure, IsArrow, PreadditiveLaws, coefficient_of, SamePolynomial, poly_between, Quiver, IsQuiver, letters, source, target, leads, is_path, IsTyped, Representation, Represents, path_value, HasSignature, linear, linear_in, linear_agree, linear_same, linear-between, additive-linear, at_word, step, split, word_at, word_at_is_arrow, group_at, value_at-linear, path_value-append, between_is_zero, IsMonic, IsEpic, between-nothing}
 use Rattle.cancel_rules.proofs.Words.{coefficient_front, coefficient_behind}
 
 -- whether a word has a letter

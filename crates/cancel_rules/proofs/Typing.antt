@@ -1,17 +1,6 @@
 -- Each polynomial is typed or not.
-use Rattle.std.proofs.Common.{◌≡◌, ◌⊎◌, inl, inr, ℕ, ◌<◌, ◌≤◌, Bool, true, false, List, [], ◌∷◌, Option, Some, None, refl, sym, ap, subst, ◌∙◌, arith}
-use Rattle.std.proofs.lemmas.Bool.{cases_lt}
+use Rattle.cancel_rules.proofs.Prelude.{◌≡◌, ◌⊎◌, inl, inr, ℕ, ◌<◌, ◌≤◌, Bool, true, false, List, [], ◌∷◌, Option, Some, None, refl, sym, ap, subst, ◌∙◌, arith, cases_lt, All-nil, All-head, Term, Quiver, is_path, signature_of, IsTyped, HasSignature, signature_from_path, collected, coefficient_of-collected, descending-collected, nonzero-collected, distinct-descending, words_listed, typed_from_paths, each_decided}
 use Rattle.std.specs.List.{All}
-use Rattle.std.proofs.lemmas.List.Elements.{All-nil, All-head}
-use Rattle.definitions.specs.Poly.{Term}
-use Rattle.definitions.specs.Quiver.{Quiver, is_path, signature_of, IsTyped}
-use Rattle.definitions.specs.Soundness.{HasSignature}
-use Rattle.definitions.proofs.Typed.{signature_from_path}
-use Rattle.nc_polynomial.specs.Collected.{collected}
-use Rattle.nc_polynomial.proofs.CollectedTerms.{coefficient_of-collected, descending-collected, nonzero-collected}
-use Rattle.nc_polynomial.proofs.Distinct.{distinct-descending, words_listed}
-use Rattle.quiver.proofs.TypedTerms.{typed_from_paths}
-use Rattle.lists.proofs.FirstFailure.{each_decided}
 
 module _ (q : Quiver) where
   -- each word is a path from u to v, or one isn't

@@ -1,21 +1,7 @@
 -- Words without the letter at an end, and polynomials without it, which stay in their order.
-use Rattle.std.proofs.Common.{◌≡◌, ◌≢◌, ◌⊎◌, inl, inr, ℕ, suc, ◌-◌, ◌<◌, ◌≤◌, pos, Bool, true, false, List, [], ◌∷◌, ◌++◌, All, length, take, get_or, refl, sym, ap, ap₂, ◌∙◌, arith, length-append, length-drop, append-nil}
-use Rattle.std.proofs.lemmas.List.{length-take}
-use Rattle.std.proofs.lemmas.List.Elements.{All-head, All-tail, All-map, All-take, All-drop}
-use Rattle.std.proofs.Math.Seq.{take-append_seam}
-use Rattle.definitions.specs.Poly.{Term, word_eq}
-use Rattle.definitions.proofs.Linear.{word_eq-true, word_eq-same}
-use Rattle.std.specs.declared.cmp.Ordering.TheVariants.{Greater}
-use Rattle.coef_int.specs.Range.{IsCoefficient}
-use Rattle.word_core.specs.Canonical.{word_cmp}
-use Rattle.word_core.specs.Letters.{IsOver}
-use Rattle.word_core.proofs.CanonicalLaws.{word_cmp-around}
-use Rattle.nc_polynomial.specs.Shape.{IsCanonical}
-use Rattle.nc_polynomial.proofs.Shapes.{Descends, IsDescending-from_recursion, recursion_from_IsDescending}
-use Rattle.cancel_rules.specs.declared.cancellation.Side.{Side}
+use Rattle.cancel_rules.proofs.Prelude.{◌≡◌, ◌≢◌, ◌⊎◌, inl, inr, ℕ, suc, ◌-◌, ◌<◌, ◌≤◌, pos, Bool, true, false, List, [], ◌∷◌, ◌++◌, All, length, take, get_or, refl, sym, ap, ap₂, ◌∙◌, arith, length-drop, append-nil, length-take, All-head, All-tail, All-map, All-take, All-drop, take-append_seam, Term, word_eq, word_eq-true, word_eq-same, Greater, IsCoefficient, word_cmp, IsOver, word_cmp-around, IsCanonical, Descends, IsDescending-from_recursion, recursion_from_IsDescending, Side, with_letter, put_back, word_without, stripped, HasAtEnd}
+use Rattle.std.proofs.Common.{length-append}
 use Rattle.cancel_rules.specs.declared.cancellation.Side.TheVariants as side
-use Rattle.cancel_rules.specs.Cancellations.{with_letter, put_back}
-use Rattle.cancel_rules.specs.Items.{word_without, stripped, HasAtEnd}
 
 -- the letter put on and taken off again
 pub without_with : (end : Side) (a : ℕ) (w : List ℕ) → word_without end (with_letter end a w) ≡ w

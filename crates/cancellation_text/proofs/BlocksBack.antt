@@ -1,46 +1,7 @@
 -- A proof that cancels letters that is written is a block of evidence text, and is read back.
-use Rattle.std.proofs.Common.{◌≡◌, ◌<◌, ◌+◌, ◌^◌, ℕ, suc, List, [], ◌∷◌, ◌++◌, None, Option, arith, refl, ap₂, ◌∙◌, subst, length, map, codes, IsTrue}
-use Rattle.std.specs.Prelude.{decimal}
-use Rattle.std.specs.Fmt.{signed_decimal}
-use Rattle.std.specs.List.{All, AllZip, cons_option, list_all, flat_map, sum_by}
-use Rattle.std.proofs.lemmas.List.{append_assoc, append-nil, length-append, length-map, map-append}
-use Rattle.std.proofs.lemmas.List.Elements.{All-nil, All-head, All-tail, All-weaker, All-append, All-map, filter_map-append}
-use Rattle.std.proofs.lemmas.List.Sums.{sum_by-cons, sum_by_push}
-use Rattle.word_core.specs.declared.letter.Letter.{Letter}
-use Rattle.quiver.specs.Declarations.{Declaration, IsDeclared}
-use Rattle.traced_rows.specs.declared.evidence.LemmaRow.{LemmaRow}
-use Rattle.traced_rows.specs.declared.evidence.Lemma.{Lemma}
-use Rattle.cofactor_trace.specs.Lemmas.{row_count, letter_count as letters_of_lemmas}
-use Rattle.cancel_rules.specs.declared.cancellation.Side.{Side}
-use Rattle.cancel_rules.specs.declared.cancellation.Side.TheVariants.{Left, Right}
-use Rattle.cancel_rules.specs.declared.cancellation.Item.{Item}
+use Rattle.cancellation_text.proofs.Prelude.{◌≡◌, ◌<◌, ◌+◌, ◌^◌, ℕ, suc, List, [], ◌∷◌, ◌++◌, None, Option, arith, refl, ap₂, ◌∙◌, subst, length, map, codes, IsTrue, decimal, signed_decimal, All, AllZip, cons_option, list_all, flat_map, sum_by, append_assoc, append-nil, length-map, map-append, All-nil, All-head, All-tail, All-weaker, All-append, All-map, filter_map-append, sum_by-cons, sum_by_push, Letter, Declaration, IsDeclared, LemmaRow, Lemma, row_count, letters_of_lemmas, Side, Left, Right, Item, Cancellation, is_named, number_limit, Line, claim_line, end_line, AreReadBack, HasBlocks, letter_text, IsTextOf, no_text, text-append, text_of_tokens, decimal_number, decimal_within, IsWritten, are_read_back, literal, zip_length, denominator_line, goal_lines, letters_in, no_rows, IsWrittenLemma, scaled_tree, of_rows, is_scaled, lemma_says, goal_is_text, lemma_tree, lemma_is_text, lemma_written, AreRows, rows-append, letters_in-append, letters_in-trees, RowsWithin, IsSize, size_written, number_is_value, headed_is_text, Opened, IsMapLetter, AreCalledOnce, IsWritableItem, lemmas_in, IsWritable, CalledTokens, ItemTokens, lemma, cancel, CancellationTokens, head_line, called_line, item_lines, cancellation_lines, is_map_letter, called_on, AreItems, Bound, names, numbers, words, rows, letters, rows_in, IsKnown, IsItemOf, cancellation_kind, other_words, called_of, cancel_by, on_left, on_right, called_text, items_text, cancellation_text}
+use Rattle.std.proofs.lemmas.List.{length-append}
 use Rattle.cancel_rules.specs.declared.cancellation.Item.TheVariants as item
-use Rattle.cancel_rules.specs.declared.cancellation.Cancellation.{Cancellation}
-use Rattle.block_text.specs.Back.{is_named}
-use Rattle.block_text.specs.Lines.{number_limit, Line, claim_line, end_line}
-use Rattle.block_text.specs.Laws.{AreReadBack}
-use Rattle.block_text.specs.Texts.{HasBlocks}
-use Rattle.block_text.specs.Written.{letter_text}
-use Rattle.block_text.proofs.ContentBack.{IsTextOf, no_text, text-append, text_of_tokens}
-use Rattle.block_text.proofs.NumbersBack.{decimal_number, decimal_within}
-use Rattle.block_text.proofs.PartsBack.{IsWritten}
-use Rattle.block_text.proofs.TextLaws.{are_read_back}
-use Rattle.block_text.proofs.TextsBack.{literal}
-use Rattle.lists.proofs.Zips.{zip_length}
-use Rattle.certificate_text.specs.Blocks.{denominator_line, goal_lines}
-use Rattle.certificate_text.specs.Bounds.{letters_in}
-use Rattle.certificate_text.specs.Lines.{no_rows}
-use Rattle.certificate_text.proofs.LemmasBack.{IsWrittenLemma, scaled_tree, of_rows, is_scaled, says as lemma_says, goal_is_text, lemma_tree, lemma_is_text, lemma_written}
-use Rattle.certificate_text.proofs.RowsBack.{AreRows, rows-append, letters_in-append, letters_in-trees}
-use Rattle.certificate_text.proofs.RowTrees.{RowsWithin}
-use Rattle.certificate_text.proofs.SizesBack.{IsSize, size_written, number_is_value, headed_is_text}
-use Rattle.cancellation_text.specs.declared.place.Opened.{Opened}
-use Rattle.cancellation_text.specs.Back.{IsMapLetter, AreCalledOnce, IsWritableItem, lemmas_in, IsWritable}
-use Rattle.cancellation_text.specs.Blocks.{CalledTokens, ItemTokens, lemma, cancel, CancellationTokens, head_line, called_line, item_lines, cancellation_lines, is_map_letter, called_on, AreItems}
-use Rattle.cancellation_text.specs.Bounds.{Bound, names, numbers, words, rows, letters, rows_in, IsKnown, IsItemOf}
-use Rattle.cancellation_text.specs.Cancellations.{cancellation_kind, other_words}
-use Rattle.cancellation_text.specs.Reading.{called_of, cancel_by, on_left, on_right}
-use Rattle.cancellation_text.specs.Written.{called_text, items_text, cancellation_text}
 use Rattle.cancellation_text.proofs.Letters.{letters_by, AreCalled, AreApart}
 use Rattle.cancellation_text.proofs.LinesBack.{IsWrittenMap, map_written, called_is_text, cancel_is_text}
 use Rattle.cancellation_text.proofs.Parts.{Parts, with_goal, rows_of, AreParts, led_is, led_keeps, parts_say}

@@ -1,39 +1,9 @@
 -- Blocks that keep bounds are read.
-use Rattle.std.proofs.Common.{◌≡◌, ◌<◌, ◌≤◌, ◌+◌, ℕ, ℤ, false, List, [], ◌∷◌, ◌++◌, Some, None, Result, Ok, IsTrue, arith, refl, sym, ◌∙◌, subst, get_or, length, length-append, map, codes, flat_map, add-zero}
-use Rattle.std.specs.List.{All, AllZip}
-use Rattle.std.proofs.lemmas.Bool.{lt-leb}
-use Rattle.std.proofs.lemmas.List.{append_assoc, append-nil}
-use Rattle.std.proofs.lemmas.List.Elements.{All-cons, All-head, All-tail, All-append, All-map}
-use Rattle.word_core.specs.declared.letter.Letter.{Letter}
-use Rattle.quiver.specs.Declarations.{Declaration}
-use Rattle.traced_rows.specs.declared.certificate.CertRow.{CertRow}
-use Rattle.traced_rows.specs.declared.evidence.Lemma.{Lemma}
-use Rattle.traced_rows.specs.declared.evidence.LemmaRow.{LemmaRow}
-use Rattle.cancel_rules.specs.declared.cancellation.Side.TheVariants.{Left, Right}
-use Rattle.cancel_rules.specs.declared.cancellation.Item.{Item}
+use Rattle.cancellation_text.proofs.Prelude.{◌≡◌, ◌<◌, ◌≤◌, ◌+◌, ℕ, ℤ, false, List, [], ◌∷◌, ◌++◌, Some, None, Result, Ok, IsTrue, arith, refl, sym, ◌∙◌, subst, get_or, length, length-append, map, codes, add-zero, All, AllZip, lt-leb, append_assoc, append-nil, All-cons, All-head, All-tail, All-append, All-map, Letter, Declaration, CertRow, Lemma, LemmaRow, Left, Right, Item, Cancellation, Flaw, ◌>>=◌, is_number, number_within, number_limit, integer_limit, begins, integer_of, Line, claim_line, run, run-append, read_block, read_inside-run, Meets, reads, then_meets, meets-weaker, asked_meets, unless_meets, Size, RowTokens, row_limit, is_row, over_lemma, no_rows, ScaledTokens, row_line, denominator_line, goal_lines, IsWithin, IsScaledOf, lemma_of, lemma_row, GoesOn, lemma_row_takes, rows_go_on, behind_rows, integer_meets, scale_meets, RowsFit, with_rows, with_rows-append, rows_fit_parts, TakesRow, rows_meet, Opened, Stage, CalledTokens, CancelTokens, ItemTokens, lemma, cancel, CancellationTokens, called_line, cancel_line, item_lines, cancellation_lines, is_map_letter, known_letter, AreItems, IsItem, IsCancellationBlock, Bound, flaw_of, item_rows, rows_in, IsKnown, HasItemName, HasItemNumber, KeepsOne, IsItemOf, IsCancelOf, IsCancellationOf, called_tokens, letters_on, on_left, on_right, begun, resized, cancel_of, item_or_goal, next, finish, cancellation_steps}
+use Rattle.std.proofs.Common.{flat_map}
 use Rattle.cancel_rules.specs.declared.cancellation.Item.TheVariants as item
-use Rattle.cancel_rules.specs.declared.cancellation.Cancellation.{Cancellation}
-use Rattle.block_text.specs.declared.fault.Flaw.{Flaw}
-use Rattle.block_text.specs.Fault.{◌>>=◌}
-use Rattle.block_text.specs.Letters.{is_number, number_within}
-use Rattle.block_text.specs.Lines.{number_limit, integer_limit, begins, integer_of, Line, claim_line}
-use Rattle.block_text.proofs.NumberedLines.{run, run-append}
-use Rattle.block_text.proofs.Owed.{read_block, read_inside-run}
-use Rattle.block_text.proofs.Meets.{Meets, reads, then_meets, meets-weaker, asked_meets, unless_meets}
-use Rattle.certificate_text.specs.declared.place.Size.{Size}
-use Rattle.certificate_text.specs.Lines.{RowTokens, row_limit, is_row, over_lemma, no_rows}
-use Rattle.certificate_text.specs.Blocks.{ScaledTokens, row_line, denominator_line, goal_lines}
-use Rattle.certificate_text.specs.Bounds.{IsWithin, IsScaledOf}
-use Rattle.certificate_text.specs.Reading.{lemma_of, lemma_row}
-use Rattle.certificate_text.proofs.BlockLines.{GoesOn, lemma_row_takes, rows_go_on, behind_rows, integer_meets, scale_meets}
-use Rattle.certificate_text.proofs.RowValues.{RowsFit, with_rows, with_rows-append, rows_fit_parts, TakesRow, rows_meet}
-use Rattle.cancellation_text.specs.declared.place.Opened.{Opened}
-use Rattle.cancellation_text.specs.declared.place.Stage.{Stage}
 use Rattle.cancellation_text.specs.declared.place.Stage.TheVariants as at
-use Rattle.cancellation_text.specs.Blocks.{CalledTokens, CancelTokens, ItemTokens, lemma, cancel, CancellationTokens, called_line, cancel_line, item_lines, cancellation_lines, is_map_letter, known_letter, AreItems, IsItem, IsCancellationBlock}
 use Rattle.cancellation_text.specs.Bounds as bound
-use Rattle.cancellation_text.specs.Bounds.{Bound, flaw_of, item_rows, rows_in, IsKnown, HasItemName, HasItemNumber, KeepsOne, IsItemOf, IsCancelOf, IsCancellationOf}
-use Rattle.cancellation_text.specs.Reading.{called_tokens, letters_on, on_left, on_right, begun, resized, cancel_of, item_or_goal, next, finish, cancellation_steps}
 use Rattle.cancellation_text.proofs.Letters.{AreCalled, AreOnce, none_called, called_more, letter_is_new}
 use Rattle.cancellation_text.proofs.Lines.{called_read, cancel_read}
 use Rattle.cancellation_text.proofs.Parts.{rows_of}

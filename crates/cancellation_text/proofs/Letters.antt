@@ -1,15 +1,6 @@
 -- The letters that the lines so far call monic and epic, and one more.
-use Rattle.std.proofs.Common.{◌≡◌, ℕ, Bool, true, false, nat_eq, List, [], ◌∷◌, ◌++◌, Option, Some, None, arith, refl, sym, ap, ap₂, ◌∙◌, subst, append-nil, eq-eqb}
-use Rattle.std.specs.List.{cons_option}
-use Rattle.std.proofs.lemmas.Bool.{eqb-true}
-use Rattle.std.proofs.lemmas.List.Elements.{filter_map-append}
-use Rattle.block_lines.proofs.Names.{AreDistinct, distinct_push, distinct_apart}
-use Rattle.word_core.specs.declared.letter.Letter.{Letter}
-use Rattle.quiver.specs.Declarations.{Declaration}
-use Rattle.cancel_rules.specs.declared.cancellation.Side.{Side}
-use Rattle.cancel_rules.specs.declared.cancellation.Side.TheVariants.{Left, Right}
-use Rattle.cancellation_text.specs.Blocks.{CalledTokens, known_letter, on_side, called_on, called_letters}
-use Rattle.cancellation_text.specs.Reading.{called_of, is_called, on_left, on_right}
+use Rattle.cancellation_text.proofs.Prelude.{◌≡◌, ℕ, Bool, true, false, nat_eq, List, [], ◌∷◌, ◌++◌, Option, Some, None, arith, refl, sym, ap, ap₂, ◌∙◌, subst, eq-eqb, cons_option, eqb-true, filter_map-append, AreDistinct, distinct_push, distinct_apart, Letter, Declaration, Side, Left, Right, CalledTokens, known_letter, on_side, called_on, called_letters, called_of, is_called, on_left, on_right}
+use Rattle.std.proofs.Common.{append-nil}
 
 -- those on this side
 abbrev pub letters_by : List Letter → List Letter → Side → List Letter

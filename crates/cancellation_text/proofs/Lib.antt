@@ -1,3 +1,4 @@
+mod Prelude
 mod Lines
 mod Letters
 mod Parts

@@ -1,18 +1,5 @@
 -- The lines of letters that are called monic or epic, and of cancellations: what is read of one, and how one is read.
-use Rattle.std.proofs.Common.{◌≡◌, ℕ, ◌&&◌, List, [], ◌∷◌, Some, None, IsTrue, if◌then◌else◌, refl, ap, ap₂, subst, codes}
-use Rattle.std.specs.Option.{option_map}
-use Rattle.std.proofs.lemmas.Bool.{and_parts}
-use Rattle.std.proofs.lemmas.Option.{option_and_then_some}
-use Rattle.cancel_rules.specs.declared.cancellation.Side.{Side}
-use Rattle.cancel_rules.specs.declared.cancellation.Side.TheVariants.{Left, Right}
-use Rattle.block_text.specs.Letters.{is_number}
-use Rattle.block_text.specs.Lines.{Line, is}
-use Rattle.block_text.specs.Tokens.{two_tokens}
-use Rattle.block_text.proofs.LineTrees.{is_word}
-use Rattle.block_text.proofs.Results.{by_test, option_map_some, cond_option}
-use Rattle.certificate_text.specs.Lines.{is_value}
-use Rattle.cancellation_text.specs.Blocks.{CalledTokens, CancelTokens, cancel, called_word, side_word, called_line, cancel_line, is_map_letter, IsItem}
-use Rattle.cancellation_text.specs.Reading.{called_side, side_of, called_of, called_pair, called_tokens, cancel_by, cancel_pair, cancel_tokens}
+use Rattle.cancellation_text.proofs.Prelude.{◌≡◌, ℕ, ◌&&◌, List, [], ◌∷◌, Some, None, IsTrue, if◌then◌else◌, refl, ap, ap₂, subst, codes, option_map, and_parts, option_and_then_some, Side, Left, Right, is_number, Line, is, two_tokens, is_word, by_test, option_map_some, cond_option, is_value, CalledTokens, CancelTokens, cancel, called_word, side_word, called_line, cancel_line, is_map_letter, IsItem, called_side, side_of, called_of, called_pair, called_tokens, cancel_by, cancel_pair, cancel_tokens}
 
 abbrev Pair : Type 0
 Pair = List ℕ × List ℕ

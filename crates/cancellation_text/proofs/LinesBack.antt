@@ -1,28 +1,5 @@
 -- Letters that are called monic or epic, and cancellations, that are written are lines of tokens.
-use Rattle.std.proofs.Common.{◌≡◌, ◌<◌, ◌^◌, ℕ, Bool, true, false, cond, nat_eq, List, [], ◌∷◌, ◌++◌, Some, arith, refl, sym, ap, ◌∙◌, codes, IsTrue, length}
-use Rattle.std.specs.Prelude.{decimal}
-use Rattle.std.specs.List.{list_all}
-use Rattle.std.proofs.lemmas.List.{append_assoc, append-nil}
-use Rattle.word_core.specs.declared.letter.Letter.{Letter}
-use Rattle.quiver.specs.Declarations.{Declaration, IsDeclared, letter_name}
-use Rattle.cancel_rules.specs.declared.cancellation.Side.{Side}
-use Rattle.cancel_rules.specs.declared.cancellation.Side.TheVariants.{Left, Right}
-use Rattle.block_text.specs.Back.{IsLineText, is_inside, is_named}
-use Rattle.block_text.specs.Letters.{is_name}
-use Rattle.block_text.specs.Lines.{Line}
-use Rattle.block_text.specs.Tokens.{is_plain, is_skipped, tokens_of}
-use Rattle.block_text.specs.Written.{letter_text}
-use Rattle.block_text.proofs.ContentBack.{IsTextOf, text_of_tokens}
-use Rattle.block_text.proofs.LetterNames.{IsSpelled, letter_is_spelled}
-use Rattle.block_text.proofs.LettersBack.{not_ended, ended_by, without_last}
-use Rattle.block_text.proofs.NameBytes.{name_text}
-use Rattle.block_text.proofs.NumbersBack.{decimal_text}
-use Rattle.block_text.proofs.TextsBack.{IsWrittenLetter, letter_written, are_low, line_text-append, literal, plain_name}
-use Rattle.block_text.proofs.TokensBack.{IsToken, token_read, name_token, plain_token}
-use Rattle.cancellation_text.specs.Back.{IsMapLetter}
-use Rattle.cancellation_text.specs.Blocks.{called_word, side_word, called_line, cancel_line, is_map_letter, known_letter}
-use Rattle.cancellation_text.specs.Reading.{called_of, cancel_by}
-use Rattle.cancellation_text.specs.Written.{called_text, cancel_text}
+use Rattle.cancellation_text.proofs.Prelude.{◌≡◌, ◌<◌, ◌^◌, ℕ, Bool, true, false, cond, nat_eq, List, [], ◌∷◌, ◌++◌, Some, arith, refl, sym, ap, ◌∙◌, codes, IsTrue, length, decimal, list_all, append_assoc, append-nil, Letter, Declaration, IsDeclared, letter_name, Side, Left, Right, IsLineText, is_inside, is_named, is_name, Line, is_plain, is_skipped, tokens_of, letter_text, IsTextOf, text_of_tokens, IsSpelled, letter_is_spelled, not_ended, ended_by, without_last, name_text, decimal_text, IsWrittenLetter, letter_written, are_low, line_text-append, literal, plain_name, IsToken, token_read, name_token, plain_token, IsMapLetter, called_word, side_word, called_line, cancel_line, is_map_letter, known_letter, called_of, cancel_by, called_text, cancel_text}
 
 -- what is read of a letter of a map that is written
 pub record IsWrittenMap (ds : List Declaration) (a : Letter) : Type 0 where

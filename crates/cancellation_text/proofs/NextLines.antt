@@ -1,37 +1,10 @@
 -- A line at its place in a block: the place after it, or that it does not fit the grammar or is the first that passes a bound.
-use Rattle.std.proofs.Common.{◌≡◌, ◌<◌, ◌⊎◌, ◌+◌, ℕ, ℤ, false, List, [], ◌∷◌, ◌++◌, Option, Some, None, Result, Ok, IsTrue, inl, inr, arith, refl, sym, ap, ap₂, ◌∙◌, subst, length, nat_le, leb-false, append-nil, append_assoc, codes}
-use Rattle.std.specs.List.{All}
-use Rattle.std.proofs.lemmas.List.Elements.{All-nil, All-cons, All-push, All-replicate, All-weaker}
-use Rattle.quiver.specs.Declarations.{Declaration}
-use Rattle.traced_rows.specs.declared.evidence.Lemma.{Lemma}
+use Rattle.cancellation_text.proofs.Prelude.{◌≡◌, ◌<◌, ◌⊎◌, ◌+◌, ℕ, ℤ, false, List, [], ◌∷◌, ◌++◌, Option, Some, None, Result, Ok, IsTrue, inl, inr, arith, refl, sym, ap, ap₂, ◌∙◌, subst, length, nat_le, leb-false, codes, All, All-nil, All-cons, All-push, All-replicate, All-weaker, Declaration, Lemma, Flaw, BadLine, UnknownName, NumberTooLarge, TooMany, ◌>>=◌, asked, is_number, number_within, Line, said, begins, claim_line, number_behind, number_limit, integer_limit, integer_of, IsStopped, misfit, passes, stopped_by, IsNumberLine, number_said, number_unsaid, zip_length, Size, RowTokens, row_limit, lemma_scale_of, goal_scale_of, is_row, is_value, ScaledTokens, row_line, denominator_line, goal_lines, IsWithin, lemma_of, lemma_row, RowPasses, row_passes, goal_unread, IsLemmaPast, lemma_unread, behind, integer_in, goal_read, lemma_read, lead_push, scaled_push, scaled_more, row_more, led_more, led_first, Lead, lead_lines, unit_goal, unit_scaled, before, RowsWithin, HaveSize, no_rows_size, integer_is_within, Opened, Stage, CalledTokens, CancelTokens, ItemTokens, cancel, CancellationTokens, head_line, called_line, item_lines, cancellation_lines, is_map_letter, known_letter, IsItem, IsCancellationBlock, Bound, names, numbers, words, rows, flaw_of, item_rows, KeepsOne, IsKnown, HasItemName, HasItemNumber, IsItemOf, IsCancelOf, cancellation_kind, called_tokens, cancel_tokens, is_called, letters_on, with_letters, called, begun, with_item, resized, lemma_begun, goal_begun, cancelled, item_or_goal, calling, next, Told, gives, refuses, then_told, result_told, asked_told, test_told}
+use Rattle.std.proofs.Common.{append-nil, append_assoc}
 use Rattle.cancel_rules.specs.declared.cancellation.Item.TheVariants as item
-use Rattle.block_text.specs.declared.fault.Flaw.{Flaw}
-use Rattle.block_text.specs.declared.fault.Flaw.TheVariants.{BadLine, UnknownName, NumberTooLarge, TooMany}
-use Rattle.block_text.specs.Fault.{◌>>=◌, asked}
-use Rattle.block_text.specs.Letters.{is_number, number_within}
-use Rattle.block_text.specs.Lines.{Line, said, begins, claim_line, number_behind, number_limit, integer_limit, integer_of}
-use Rattle.block_text.proofs.Owed.{IsStopped, misfit, passes, stopped_by}
-use Rattle.block_text.proofs.SaidLines.{IsNumberLine, number_said, number_unsaid}
-use Rattle.lists.proofs.Zips.{zip_length}
-use Rattle.certificate_text.specs.declared.place.Size.{Size}
-use Rattle.certificate_text.specs.Lines.{RowTokens, row_limit, lemma_scale_of, goal_scale_of, is_row, is_value}
-use Rattle.certificate_text.specs.Blocks.{ScaledTokens, row_line, denominator_line, goal_lines}
-use Rattle.certificate_text.specs.Bounds.{IsWithin}
-use Rattle.certificate_text.specs.Reading.{lemma_of, lemma_row}
-use Rattle.certificate_text.proofs.FlawedLines.{RowPasses, row_passes, goal_unread, IsLemmaPast, lemma_unread}
-use Rattle.certificate_text.proofs.NextLines.{behind, integer_in, goal_read, lemma_read, lead_push, scaled_push, scaled_more, row_more, led_more, led_first}
-use Rattle.certificate_text.proofs.OpenBlocks.{Lead, lead_lines, unit_goal, unit_scaled}
-use Rattle.certificate_text.proofs.RowTrees.{before, RowsWithin, HaveSize, no_rows_size, integer_is_within}
-use Rattle.cancellation_text.specs.declared.place.Opened.{Opened}
-use Rattle.cancellation_text.specs.declared.place.Stage.{Stage}
 use Rattle.cancellation_text.specs.declared.place.Stage.TheVariants as at
-use Rattle.cancellation_text.specs.Blocks.{CalledTokens, CancelTokens, ItemTokens, cancel, CancellationTokens, head_line, called_line, item_lines, cancellation_lines, is_map_letter, known_letter, IsItem, IsCancellationBlock}
-use Rattle.cancellation_text.specs.Bounds.{Bound, names, numbers, words, rows, flaw_of, item_rows, KeepsOne, IsKnown, HasItemName, HasItemNumber, IsItemOf, IsCancelOf}
-use Rattle.cancellation_text.specs.Cancellations.{cancellation_kind}
-use Rattle.cancellation_text.specs.Reading.{called_tokens, cancel_tokens, is_called, letters_on, with_letters, called, begun, with_item, resized, lemma_begun, goal_begun, cancelled, item_or_goal, calling, next}
 use Rattle.cancellation_text.proofs.Letters.{AreApart, none_once, called_more, called_unknown, once_more}
 use Rattle.cancellation_text.proofs.Lines.{called_is, cancel_is}
-use Rattle.block_lines.proofs.Outcomes.{Told, gives, refuses, then_told, result_told, asked_told, test_told}
 use Rattle.cancellation_text.proofs.Parts as parts
 use Rattle.cancellation_text.proofs.Parts.{Parts, parts_front, with_goal, more_item, lines_of_parts, front-item, front-called, rows_of, rows-item, begun_parts, lemma_item, led, led_behind, led_lines, IsNext, HasRoom, item_is, item_keeps, parts-more, led_is, led_keeps, IsClaimed, IsOpenedBy, IsCalling, IsInside, IsOpen}
 

@@ -1,34 +1,8 @@
 -- The first lines of a block, by the place after them, and the blocks that continue them.
-use Rattle.std.proofs.Common.{◌≡◌, ◌<◌, ◌≤◌, ◌+◌, ℕ, ℤ, pos, List, [], ◌∷◌, ◌++◌, Some, None, Ok, IsTrue, arith, refl, sym, ap, ◌∙◌, subst, length, map, append_assoc, append-nil, length-append, codes}
-use Rattle.std.specs.Bool.{⊤}
-use Rattle.std.specs.List.{All, AllZip, flat_map}
-use Rattle.std.proofs.lemmas.Grind.{flat_map-append}
-use Rattle.std.proofs.lemmas.List.{map-append}
-use Rattle.std.proofs.lemmas.List.Elements.{All-nil, All-cons, All-push}
-use Rattle.word_core.specs.declared.letter.Letter.{Letter}
-use Rattle.quiver.specs.Declarations.{Declaration}
-use Rattle.traced_rows.specs.declared.evidence.Lemma.{Lemma}
-use Rattle.cancel_rules.specs.declared.cancellation.Item.{Item}
+use Rattle.cancellation_text.proofs.Prelude.{◌≡◌, ◌<◌, ◌≤◌, ◌+◌, ℕ, ℤ, pos, List, [], ◌∷◌, ◌++◌, Some, None, Ok, IsTrue, arith, refl, sym, ap, ◌∙◌, subst, length, map, length-append, codes, ⊤, All, AllZip, flat_map, flat_map-append, map-append, All-nil, All-cons, All-push, Letter, Declaration, Lemma, Item, Side, Left, Right, is_number, number_within, Line, number_limit, integer_limit, integer_of, claim_line, Begins, everywhere, zip_push, RowTokens, row_limit, is_value, ScaledTokens, denominator_line, goal_lines, IsScaled, IsWithin, IsScaledOf, Lead, IsLed, lemma_tokens, lead_lines, unit_goal, unit_scaled, unit_within, RowsWithin, HaveSize, no_rows_size, integer_is_within, Opened, Stage, CalledTokens, ItemTokens, lemma, cancel, CancellationTokens, head_line, called_line, item_lines, cancellation_lines, is_map_letter, AreItems, IsItem, IsCancellationBlock, Bound, names, numbers, rows, bounds, item_rows, IsKnown, HasItemName, HasItemNumber, KeepsOne, IsItemOf, IsCancellationOf, cancellation_kind, begun, with_item, proof_of}
+use Rattle.std.proofs.Common.{append_assoc, append-nil}
 use Rattle.cancel_rules.specs.declared.cancellation.Item.TheVariants as item
-use Rattle.cancel_rules.specs.declared.cancellation.Side.{Side}
-use Rattle.cancel_rules.specs.declared.cancellation.Side.TheVariants.{Left, Right}
-use Rattle.block_text.specs.Letters.{is_number, number_within}
-use Rattle.block_text.specs.Lines.{Line, number_limit, integer_limit, integer_of, claim_line}
-use Rattle.block_text.proofs.Owed.{Begins}
-use Rattle.block_text.proofs.Standing.{everywhere}
-use Rattle.lists.proofs.Zips.{zip_push}
-use Rattle.certificate_text.specs.Lines.{RowTokens, row_limit, is_value}
-use Rattle.certificate_text.specs.Blocks.{ScaledTokens, denominator_line, goal_lines, IsScaled}
-use Rattle.certificate_text.specs.Bounds.{IsWithin, IsScaledOf}
-use Rattle.certificate_text.proofs.OpenBlocks.{Lead, IsLed, lemma_tokens, lead_lines, unit_goal, unit_scaled, unit_within}
-use Rattle.certificate_text.proofs.RowTrees.{RowsWithin, HaveSize, no_rows_size, integer_is_within}
-use Rattle.cancellation_text.specs.declared.place.Opened.{Opened}
-use Rattle.cancellation_text.specs.declared.place.Stage.{Stage}
 use Rattle.cancellation_text.specs.declared.place.Stage.TheVariants as at
-use Rattle.cancellation_text.specs.Blocks.{CalledTokens, ItemTokens, lemma, cancel, CancellationTokens, head_line, called_line, item_lines, cancellation_lines, is_map_letter, AreItems, IsItem, IsCancellationBlock}
-use Rattle.cancellation_text.specs.Bounds.{Bound, names, numbers, rows, bounds, item_rows, IsKnown, HasItemName, HasItemNumber, KeepsOne, IsItemOf, IsCancellationOf}
-use Rattle.cancellation_text.specs.Cancellations.{cancellation_kind}
-use Rattle.cancellation_text.specs.Reading.{begun, with_item, proof_of}
 use Rattle.cancellation_text.proofs.Letters.{letters_by, AreCalled, AreApart, none_called, none_once}
 
 -- what is before the goal

@@ -1,34 +1,6 @@
 -- The proofs that are read can be checked.
-use Rattle.std.proofs.Common.{◌≡◌, ℕ, List, [], ◌∷◌, Option, Some, None, Result, arith, refl, subst, sym, length, length-append, IfOk}
-use Rattle.std.specs.List.{All, AllZip, cons_option}
-use Rattle.std.proofs.lemmas.List.Elements.{All-nil, All-cons}
-use Rattle.word_core.specs.declared.letter.Letter.{Letter}
-use Rattle.quiver.specs.Declarations.{Declaration}
-use Rattle.traced_rows.specs.declared.evidence.Lemma.{Lemma}
-use Rattle.cancel_rules.specs.declared.cancellation.Side.{Side}
-use Rattle.cancel_rules.specs.declared.cancellation.Side.TheVariants.{Left, Right}
-use Rattle.cancel_rules.specs.declared.cancellation.Item.{Item}
+use Rattle.cancellation_text.proofs.Prelude.{◌≡◌, ℕ, List, [], ◌∷◌, Option, Some, None, Result, arith, refl, subst, sym, length, length-append, IfOk, All, AllZip, cons_option, All-nil, All-cons, Letter, Declaration, Lemma, Side, Left, Right, Item, Cancellation, IsLetterOf, IsRowOver, IsReadableLemma, IsReadableItem, IsReadableCancellation, row_total, CertFault, ReadsText, letter_of, all_values, read_values_are, values_are, letter_in_range, option_map_some, zip_length, zip_right, ScaledTokens, IsLemmaRowOf, IsScaledOf, IsLemmaRowOver, positive_in_range, scaled_checkable, All-weaker, CalledTokens, ItemTokens, lemma, cancel, CancellationTokens, known_letter, called_on, called_letters, Bound, rows, item_rows, KeepsOne, IsItemOf, IsCancellationOf, cancellation_kind, IsCancellations, cancellation_steps, called_of}
 use Rattle.cancel_rules.specs.declared.cancellation.Item.TheVariants as item
-use Rattle.cancel_rules.specs.declared.cancellation.Cancellation.{Cancellation}
-use Rattle.cancel_rules.specs.Acceptance.{IsLetterOf, IsRowOver, IsReadableLemma, IsReadableItem, IsReadableCancellation}
-use Rattle.cancel_rules.specs.Items.{row_total}
-use Rattle.block_text.specs.declared.fault.CertFault.{CertFault}
-use Rattle.block_text.specs.Fault.{ReadsText}
-use Rattle.block_text.specs.Letters.{letter_of}
-use Rattle.block_text.specs.Steps.{all_values}
-use Rattle.block_text.proofs.EachText.{read_values_are, values_are}
-use Rattle.block_text.proofs.LetterRange.{letter_in_range}
-use Rattle.block_text.proofs.Results.{option_map_some}
-use Rattle.lists.proofs.Zips.{zip_length, zip_right}
-use Rattle.certificate_text.specs.Blocks.{ScaledTokens}
-use Rattle.certificate_text.specs.Bounds.{IsLemmaRowOf, IsScaledOf}
-use Rattle.certificate_text.specs.Evidence.{IsLemmaRowOver}
-use Rattle.certificate_text.proofs.Checkable.{positive_in_range, scaled_checkable}
-use Rattle.std.proofs.lemmas.List.Elements.{All-weaker}
-use Rattle.cancellation_text.specs.Blocks.{CalledTokens, ItemTokens, lemma, cancel, CancellationTokens, known_letter, called_on, called_letters}
-use Rattle.cancellation_text.specs.Bounds.{Bound, rows, item_rows, KeepsOne, IsItemOf, IsCancellationOf}
-use Rattle.cancellation_text.specs.Cancellations.{cancellation_kind, IsCancellations}
-use Rattle.cancellation_text.specs.Reading.{cancellation_steps, called_of}
 use Rattle.cancellation_text.proofs.Parts.{rows_of}
 use Rattle.cancellation_text.proofs.Reader.{reader}
 

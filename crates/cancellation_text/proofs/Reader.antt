@@ -1,28 +1,9 @@
 -- The reader of proofs that cancel letters owes what a reader of blocks owes.
-use Rattle.std.proofs.Common.{◌≡◌, List, Some, None, refl, sym, ap, ◌∙◌, subst, codes}
-use Rattle.quiver.specs.Declarations.{Declaration}
-use Rattle.traced_rows.specs.declared.evidence.Lemma.{Lemma}
-use Rattle.cancel_rules.specs.declared.cancellation.Item.{Item}
+use Rattle.cancellation_text.proofs.Prelude.{◌≡◌, List, Some, None, refl, sym, ap, ◌∙◌, subst, codes, Declaration, Lemma, Item, Cancellation, AreTold, number_within, Line, number_limit, integer_of, bound_of, IsWhole, IsReader, reader_by_head, are_told, AllZip-unique, same_value, same_result, same_scaled, Opened, Stage, CancelTokens, ItemTokens, lemma, cancel, CancellationTokens, known_letter, Bound, names, bounds, flaw_of, IsItemOf, IsCancelOf, IsCancellationOf, cancellation_kind, IsCancellations, IsFirstFault, proof_of, finish, cancellation_steps, told_given, told_refused}
 use Rattle.cancel_rules.specs.declared.cancellation.Item.TheVariants as item
-use Rattle.cancel_rules.specs.declared.cancellation.Cancellation.{Cancellation}
-use Rattle.block_text.specs.Laws.{AreTold}
-use Rattle.block_text.specs.Letters.{number_within}
-use Rattle.block_text.specs.Lines.{Line, number_limit, integer_of}
-use Rattle.block_text.proofs.Bounds.{bound_of}
-use Rattle.block_text.proofs.Owed.{IsWhole, IsReader, reader_by_head}
-use Rattle.block_text.proofs.TextLaws.{are_told}
-use Rattle.lists.proofs.Zips.{AllZip-unique}
-use Rattle.certificate_text.proofs.OneCertificate.{same_value, same_result, same_scaled}
-use Rattle.cancellation_text.specs.declared.place.Opened.{Opened}
-use Rattle.cancellation_text.specs.declared.place.Stage.{Stage}
 use Rattle.cancellation_text.specs.declared.place.Stage.TheVariants as at
-use Rattle.cancellation_text.specs.Blocks.{CancelTokens, ItemTokens, lemma, cancel, CancellationTokens, known_letter}
-use Rattle.cancellation_text.specs.Bounds.{Bound, names, bounds, flaw_of, IsItemOf, IsCancelOf, IsCancellationOf}
-use Rattle.cancellation_text.specs.Cancellations.{cancellation_kind, IsCancellations, IsFirstFault}
-use Rattle.cancellation_text.specs.Reading.{proof_of, finish, cancellation_steps}
 use Rattle.cancellation_text.proofs.ItemLines.{block_meets}
 use Rattle.cancellation_text.proofs.NextLines.{outcome}
-use Rattle.block_lines.proofs.Outcomes.{told_given, told_refused}
 use Rattle.cancellation_text.proofs.Parts.{with_goal, lines_of_parts, led_is, parts_say, IsInside, IsOpen, inside_keeps, goes_on}
 
 -- each has a bound of its own

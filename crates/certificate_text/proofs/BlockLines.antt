@@ -1,35 +1,10 @@
 -- Certificates that keep bounds are read.
-use Rattle.std.proofs.Common.{◌≡◌, ◌<◌, ◌≤◌, ◌+◌, ℕ, ℤ, pos, false, List, [], ◌∷◌, ◌++◌, Some, Result, Ok, Err, IsTrue, arith, refl, sym, subst, length, length-append, map, codes, flat_map, add-zero}
-use Rattle.std.specs.List.{All, AllZip}
-use Rattle.std.specs.Option.{option_map}
-use Rattle.std.proofs.lemmas.Bool.{lt-leb}
-use Rattle.std.proofs.lemmas.List.{append_assoc, append-nil}
-use Rattle.std.proofs.lemmas.List.Elements.{All-cons, All-head, All-tail, All-append, All-map, All-weaker}
-use Rattle.quiver.specs.Declarations.{Declaration}
-use Rattle.traced_rows.specs.declared.certificate.CertRow.{CertRow}
-use Rattle.traced_rows.specs.declared.evidence.Lemma.{Lemma}
-use Rattle.traced_rows.specs.declared.evidence.Evidence.{Evidence}
+use Rattle.certificate_text.proofs.Prelude.{◌≡◌, ◌<◌, ◌≤◌, ◌+◌, ℕ, ℤ, pos, false, List, [], ◌∷◌, ◌++◌, Some, Result, Ok, Err, IsTrue, arith, refl, sym, subst, length, map, codes, add-zero, All, AllZip, option_map, lt-leb, append_assoc, append-nil, All-cons, All-head, All-tail, All-append, All-map, All-weaker, Declaration, CertRow, Lemma, Evidence, Format, Plain, Lemmas, Size, Opened, Stage, Flaw, ◌>>=◌, is_number, number_within, number_limit, integer_limit, begins, integer_of, Line, claim_line, is_end, RowTokens, row_limit, lemma_scale_of, goal_scale_of, is_value, is_row, row_values, over_lemma, no_rows, grown, ScaledTokens, LemmaTokens, PlainTokens, LemmasTokens, BlockTokens, row_line, denominator_line, lemma_lines, goal_lines, certificate_lines, IsBlock, IsPlainRow, AreLemmas, IsPlainBlock, IsLemmasBlock, Bound, flaw_of, IsWithin, HasNumbersOutside, rows_in, IsScaledOf, IsCertificateOf, KeepsOne, step, begun, finish, scaled, closed_by, resized, certificate_of, opened_of, lemma_of, lemma_row, certificate_steps, run, run-append, read_inside, read_block, read_inside-run, Meets, reads, then_meets, meets-weaker, asked_meets, unless_meets, AllZip-weaker}
+use Rattle.std.proofs.Common.{length-append, flat_map}
 use Rattle.traced_rows.specs.declared.evidence.Evidence.TheVariants as evidence
-use Rattle.traced_rows.specs.declared.evidence.Format.{Format}
-use Rattle.traced_rows.specs.declared.evidence.Format.TheVariants.{Plain, Lemmas}
-use Rattle.certificate_text.specs.declared.place.Size.{Size}
-use Rattle.certificate_text.specs.declared.place.Opened.{Opened}
-use Rattle.certificate_text.specs.declared.place.Stage.{Stage}
 use Rattle.certificate_text.specs.declared.place.Stage.TheVariants as at
-use Rattle.block_text.specs.declared.fault.Flaw.{Flaw}
-use Rattle.block_text.specs.Fault.{◌>>=◌}
-use Rattle.block_text.specs.Letters.{is_number, number_within}
-use Rattle.block_text.specs.Lines.{number_limit, integer_limit, begins, integer_of, Line, claim_line, is_end}
-use Rattle.certificate_text.specs.Lines.{RowTokens, row_limit, lemma_scale_of, goal_scale_of, is_value, is_row, row_values, over_lemma, no_rows, grown}
 use Rattle.certificate_text.specs.Blocks as tokens
-use Rattle.certificate_text.specs.Blocks.{ScaledTokens, LemmaTokens, PlainTokens, LemmasTokens, BlockTokens, row_line, denominator_line, lemma_lines, goal_lines, certificate_lines, IsBlock, IsPlainRow, AreLemmas, IsPlainBlock, IsLemmasBlock}
 use Rattle.certificate_text.specs.Bounds as bound
-use Rattle.certificate_text.specs.Bounds.{Bound, flaw_of, IsWithin, HasNumbersOutside, rows_in, IsScaledOf, IsCertificateOf, KeepsOne}
-use Rattle.certificate_text.specs.Reading.{next as step, begun, finish, scaled, closed_by, resized, certificate_of, opened_of, lemma_of, lemma_row, certificate_steps}
-use Rattle.block_text.proofs.NumberedLines.{run, run-append}
-use Rattle.block_text.proofs.Owed.{read_inside, read_block, read_inside-run}
-use Rattle.block_text.proofs.Meets.{Meets, reads, then_meets, meets-weaker, asked_meets, unless_meets}
-use Rattle.lists.proofs.Zips.{AllZip-weaker}
 use Rattle.certificate_text.proofs.RowLines.{row_line_read, lemma_row_line_read}
 use Rattle.certificate_text.proofs.OpenBlocks.{IsMadeBy, plain_row, lemma_made}
 use Rattle.certificate_text.proofs.RowValues.{RowsFit, with_rows, with_rows-append, rows_fit_parts, TakesRow, rows_meet}

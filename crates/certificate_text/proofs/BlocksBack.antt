@@ -1,29 +1,10 @@
 -- A certificate of format 1 that is written is a block of evidence text.
-use Rattle.std.proofs.Common.{◌≡◌, List, Ok, refl, IsTrue}
-use Rattle.std.specs.List.{All, list_all}
-use Rattle.std.proofs.lemmas.List.{length-map}
-use Rattle.std.proofs.lemmas.List.Elements.{All-weaker, All-map}
-use Rattle.quiver.specs.Declarations.{Declaration, IsDeclared}
-use Rattle.traced_rows.specs.declared.certificate.CertRow.{CertRow}
-use Rattle.traced_rows.specs.declared.certificate.Certificate.{Certificate}
-use Rattle.traced_rows.specs.declared.evidence.LemmaRow.{LemmaRow}
+use Rattle.certificate_text.proofs.Prelude.{◌≡◌, List, Ok, refl, IsTrue, All, list_all, length-map, All-weaker, All-map, Declaration, IsDeclared, CertRow, Certificate, LemmaRow, Format, RowTokens, row_values, IsPlainRow, certificate_kind, certificate_text, is_named, IsWritableRow, IsWritable, IsWritableLemmaRow, text-append, IsWritten, integer_read, end_is_text, word_written, letters_written}
 use Rattle.traced_rows.specs.declared.evidence.Evidence.TheVariants as evidence
-use Rattle.traced_rows.specs.declared.evidence.Format.{Format}
 use Rattle.traced_rows.specs.declared.evidence.Format.TheVariants as format
-use Rattle.certificate_text.specs.Lines.{RowTokens, row_values}
-use Rattle.certificate_text.specs.Blocks.{IsPlainRow}
-use Rattle.certificate_text.specs.Evidence.{certificate_kind}
-use Rattle.certificate_text.specs.Written.{certificate_text}
-use Rattle.block_text.specs.Back.{is_named}
-use Rattle.certificate_text.specs.Back.{IsWritableRow, IsWritable, IsWritableLemmaRow}
-use Rattle.block_text.proofs.ContentBack.{text-append}
-use Rattle.block_text.proofs.PartsBack.{IsWritten}
-use Rattle.block_text.proofs.NumbersBack.{integer_read}
 use Rattle.certificate_text.proofs.RowsBack.{row_tree, over_generator, IsWrittenRow, row_is_row, row_says, rows_within, zip_by, trees, rows_are_text, rows_are_rows, letters_in-trees}
-use Rattle.block_text.proofs.NumberLines.{end_is_text}
 use Rattle.certificate_text.proofs.SizesBack.{size_written, head_written, opening_is_text}
 use Rattle.certificate_text.proofs.OpenBlocks.{IsHead, plain_place}
-use Rattle.block_text.proofs.TextsBack.{word_written, letters_written}
 
 -- rows
 module _ (ds : List Declaration) (declared : IsDeclared ds) (known : IsTrue (list_all is_named ds)) where

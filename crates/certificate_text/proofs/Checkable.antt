@@ -1,36 +1,8 @@
 -- The certificates that are read can be checked.
-use Rattle.std.proofs.Common.{◌≡◌, ◌≤◌, ◌+◌, ℕ, zero, suc, ℤ, pos, Bool, true, false, List, [], ◌∷◌, Some, Ok, arith, refl, sym, ap₂, ◌∙◌, subst, length, map, IfOk, Result}
-use Rattle.std.specs.List.{All, flat_map, AllZip}
-use Rattle.std.proofs.lemmas.List.{length-append, length-map, get_or-map}
-use Rattle.std.proofs.lemmas.List.Elements.{All-nil, All-cons}
-use Rattle.coef_int.specs.Range.{IsCoefficient}
-use Rattle.quiver.specs.Declarations.{Declaration}
-use Rattle.traced_rows.specs.declared.certificate.CertRow.{CertRow}
-use Rattle.traced_rows.specs.declared.certificate.Certificate.{Certificate}
-use Rattle.traced_rows.specs.declared.evidence.Lemma.{Lemma}
-use Rattle.traced_rows.specs.declared.evidence.LemmaCertificate.{LemmaCertificate}
-use Rattle.traced_rows.specs.declared.evidence.Evidence.{Evidence}
+use Rattle.certificate_text.proofs.Prelude.{◌≡◌, ◌≤◌, ◌+◌, ℕ, zero, suc, ℤ, pos, Bool, true, false, List, [], ◌∷◌, Some, Ok, arith, refl, sym, ap₂, ◌∙◌, subst, length, map, IfOk, Result, All, flat_map, AllZip, length-append, length-map, get_or-map, All-nil, All-cons, IsCoefficient, Declaration, CertRow, Certificate, Lemma, LemmaCertificate, Evidence, Format, row_limit, UnknownName, NumberTooLarge, asked, ReadsText, number_within, is_negative, digits_of, signed, integer_within, word_of, integer_of, integer_limit, number_limit, RowTokens, row_values, IsRowOver, IsLemmaRowOver, IsCheckable, IsCheckableLemma, IsCheckableByLemmas, IsCheckableEvidence, certificate_kind, IsEvidence, bind_ok, asked_ok, ok_has, option_map_some, word_is_over, within_limit, CertFault, all_values, ScaledTokens, LemmaTokens, PlainTokens, LemmasTokens, BlockTokens, IsBlock, Bound, rows, rows_in, KeepsOne, IsLemmaRowOf, IsScaledOf, IsPlainOf, IsLemmasOf, IsCertificateOf, IsPlain, certificate_steps, values_are, read_values_are, zip_length, zip_right}
 use Rattle.traced_rows.specs.declared.evidence.Evidence.TheVariants as block
-use Rattle.traced_rows.specs.declared.evidence.Format.{Format}
 use Rattle.traced_rows.specs.declared.evidence.Format.TheVariants as format
-use Rattle.cofactor_trace.specs.Limits.{row_limit}
-use Rattle.block_text.specs.declared.fault.Flaw.TheVariants.{UnknownName, NumberTooLarge}
-use Rattle.block_text.specs.Fault.{asked, ReadsText}
-use Rattle.block_text.specs.Letters.{number_within, is_negative, digits_of, signed, integer_within, word_of}
-use Rattle.block_text.specs.Lines.{integer_of, integer_limit, number_limit}
-use Rattle.certificate_text.specs.Lines.{RowTokens, row_limit, row_values}
-use Rattle.certificate_text.specs.Evidence.{IsRowOver, IsLemmaRowOver, IsCheckable, IsCheckableLemma, IsCheckableByLemmas, IsCheckableEvidence, certificate_kind, IsEvidence}
-use Rattle.block_text.proofs.Results.{bind_ok, asked_ok, ok_has, option_map_some}
-use Rattle.block_text.proofs.LetterRange.{word_is_over}
-use Rattle.block_text.proofs.SaidLines.{within_limit}
-use Rattle.block_text.specs.declared.fault.CertFault.{CertFault}
-use Rattle.block_text.specs.Steps.{all_values}
 use Rattle.certificate_text.specs.Blocks as tokens
-use Rattle.certificate_text.specs.Blocks.{ScaledTokens, LemmaTokens, PlainTokens, LemmasTokens, BlockTokens, IsBlock}
-use Rattle.certificate_text.specs.Bounds.{Bound, rows, rows_in, KeepsOne, IsLemmaRowOf, IsScaledOf, IsPlainOf, IsLemmasOf, IsCertificateOf}
-use Rattle.certificate_text.specs.Reading.{IsPlain, certificate_steps}
-use Rattle.block_text.proofs.EachText.{values_are, read_values_are}
-use Rattle.lists.proofs.Zips.{zip_length, zip_right}
 use Rattle.certificate_text.proofs.Reader.{reader}
 
 -- numbers

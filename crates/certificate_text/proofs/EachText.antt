@@ -1,11 +1,5 @@
 -- Each text is evidence or has a first fault, in one way.
-use Rattle.std.proofs.Common.{List}
-use Rattle.quiver.specs.Declarations.{Declaration}
-use Rattle.traced_rows.specs.declared.evidence.Format.{Format}
-use Rattle.block_text.specs.Laws.{EachIsRead, ValuesAreUnique, FaultIsUnique, ValuesHaveNoFault, AreTold}
-use Rattle.block_text.proofs.TextLaws.{are_told}
-use Rattle.certificate_text.specs.Evidence.{certificate_kind, IsEvidence, IsFirstFault}
-use Rattle.certificate_text.specs.Reading.{certificate_steps}
+use Rattle.certificate_text.proofs.Prelude.{List, Declaration, Format, EachIsRead, ValuesAreUnique, FaultIsUnique, ValuesHaveNoFault, AreTold, are_told, certificate_kind, IsEvidence, IsFirstFault, certificate_steps}
 use Rattle.certificate_text.proofs.Reader.{reader}
 
 module _ (most : Format) (ds : List Declaration) where

@@ -1,21 +1,8 @@
 -- Worked texts, over the objects U and V and a map a : U -> V.
 use lib.Utf8.{encode}
-use Rattle.std.proofs.Common.{◌≡◌, ℕ, pos, negsuc, false, List, [], ◌∷◌, Result, Ok, Err, arith, refl, codes}
-use Rattle.std.proofs.lemmas.Fmt.{decimal_digit}
-use Rattle.std.specs.Str.{is_utf8, chars}
-use Rattle.std.specs.Str.Lines.{lines}
-use Rattle.quiver.specs.Declarations.{Declaration, object, arrow}
+use Rattle.certificate_text.proofs.Prelude.{◌≡◌, ℕ, pos, negsuc, false, List, [], ◌∷◌, Result, Ok, Err, arith, refl, codes, decimal_digit, is_utf8, chars, lines, Declaration, object, arrow, Evidence, Format, Plain, Lemmas, Fault, truncated, no_block, tokens_of, all_values, certificate_steps, word_text, poly_text, certificate_text}
 use Rattle.traced_rows.specs.declared.evidence.CertFrom.TheVariants as over
-use Rattle.traced_rows.specs.declared.evidence.Evidence.{Evidence}
 use Rattle.traced_rows.specs.declared.evidence.Evidence.TheVariants as block
-use Rattle.traced_rows.specs.declared.evidence.Format.{Format}
-use Rattle.traced_rows.specs.declared.evidence.Format.TheVariants.{Plain, Lemmas}
-use Rattle.block_text.specs.Fault.{Fault, truncated, no_block}
-use Rattle.block_text.specs.Tokens.{tokens_of}
-use Rattle.block_text.specs.Steps.{all_values}
-use Rattle.certificate_text.specs.Reading.{certificate_steps}
-use Rattle.block_text.specs.Written.{word_text, poly_text}
-use Rattle.certificate_text.specs.Written.{certificate_text}
 
 abbrev declared : List Declaration
 declared = object (codes "U") ∷ object (codes "V") ∷ arrow (codes "a") 0 1 false ∷ []

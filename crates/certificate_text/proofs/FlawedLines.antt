@@ -1,30 +1,8 @@
 -- A line that is wrong at its place in a block: it does not fit the grammar, or it is the first that passes a bound.
-use Rattle.std.proofs.Common.{◌≡◌, ◌⊎◌, inl, inr, ◌+◌, ℕ, pos, List, [], ◌∷◌, ◌++◌, Some, None, Err, IsTrue, refl, sym, ap, ap₂, ◌∙◌, subst, length, nat_le, append-nil, codes}
-use Rattle.std.specs.List.{All}
-use Rattle.std.specs.Option.{option_map}
-use Rattle.std.proofs.lemmas.List.Elements.{All-nil, All-cons, All-replicate}
-use Rattle.quiver.specs.Declarations.{Declaration}
-use Rattle.traced_rows.specs.declared.evidence.Lemma.{Lemma}
-use Rattle.traced_rows.specs.declared.evidence.Format.{Format}
-use Rattle.traced_rows.specs.declared.evidence.Format.TheVariants.{Plain, Lemmas}
-use Rattle.block_text.specs.declared.fault.Flaw.{Flaw}
-use Rattle.block_text.specs.declared.fault.Flaw.TheVariants.{BadLine, NumberTooLarge, TooMany}
-use Rattle.certificate_text.specs.declared.place.Size.{Size}
-use Rattle.certificate_text.specs.declared.place.Opened.{Opened}
-use Rattle.block_text.specs.Fault.{asked}
-use Rattle.block_text.specs.Letters.{is_number, number_within}
-use Rattle.block_text.specs.Lines.{number_limit, integer_limit, integer_of, claim_of, Line, claim_line}
-use Rattle.certificate_text.specs.Lines.{RowTokens, row_limit, is_value, is_row, denominator_of, lemma_digits, lemma_scale_of, goal_digits, goal_scale_of}
-use Rattle.certificate_text.specs.Blocks.{lemmas, row_line, head_line, denominator_line}
-use Rattle.certificate_text.specs.Bounds.{Bound, names, numbers, words, rows, rows_in, HasNames, IsWithin, IsScaledOf, flaw_of, KeepsOne}
-use Rattle.certificate_text.specs.Reading.{lemma_of, lemma_row}
-use Rattle.block_text.proofs.Results.{by_test, bind_err, asked_ok, asked_err}
-use Rattle.block_text.proofs.SaidLines.{number_unsaid}
+use Rattle.certificate_text.proofs.Prelude.{◌≡◌, ◌⊎◌, inl, inr, ◌+◌, ℕ, pos, List, [], ◌∷◌, ◌++◌, Some, None, Err, IsTrue, refl, sym, ap, ap₂, ◌∙◌, subst, length, nat_le, codes, All, option_map, All-nil, All-cons, All-replicate, Declaration, Lemma, Format, Plain, Lemmas, Flaw, BadLine, NumberTooLarge, TooMany, Size, Opened, asked, is_number, number_within, number_limit, integer_limit, integer_of, claim_of, Line, claim_line, RowTokens, row_limit, is_value, is_row, denominator_of, lemma_digits, lemma_scale_of, goal_digits, goal_scale_of, lemmas, row_line, head_line, denominator_line, Bound, names, numbers, words, rows, rows_in, HasNames, IsWithin, IsScaledOf, flaw_of, KeepsOne, lemma_of, lemma_row, by_test, bind_err, asked_ok, asked_err, number_unsaid, zip_length, IsStopped, passes, stopped_by, certificate_kind}
+use Rattle.std.proofs.Common.{append-nil}
 use Rattle.certificate_text.proofs.LineTrees.{lemma_is, goal_is}
 use Rattle.certificate_text.proofs.RowTrees.{before, RowsWithin, Pass, HaveSize, integer_is_within}
-use Rattle.lists.proofs.Zips.{zip_length}
-use Rattle.block_text.proofs.Owed.{IsStopped, passes, stopped_by}
-use Rattle.certificate_text.specs.Evidence.{certificate_kind}
 use Rattle.certificate_text.proofs.OpenBlocks.{block_of, lead_outside, lead_block, lines_are, more_lines, scaled_by, lemma_made, IsHeaded, IsClaimed, IsOpened, Lead, lead_lines, IsNext, rows_of, rows_are, begin_shortest, shortest}
 use Rattle.certificate_text.proofs.NextLines.{behind, IsRowJudged, unfit, halts, grows, lemma_row_judged, integer_in}
 

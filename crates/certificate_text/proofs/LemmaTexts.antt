@@ -1,8 +1,6 @@
 -- What is numbered is written one after another.
-use Rattle.std.proofs.Common.{◌≡◌, ◌<◌, ◌+◌, ℕ, suc, List, [], ◌∷◌, ◌++◌, All, arith, ap, sym, ◌∙◌, subst, length, take, get_or}
-use Rattle.std.proofs.lemmas.List.Elements.{All-get_or}
-use Rattle.std.proofs.lemmas.List.{append-nil, append_assoc, take_more, length-take-le}
-use Rattle.certificate_text.specs.Written.{numbered_texts}
+use Rattle.certificate_text.proofs.Prelude.{◌≡◌, ◌<◌, ◌+◌, ℕ, suc, List, [], ◌∷◌, ◌++◌, arith, ap, sym, ◌∙◌, subst, length, take, get_or, All-get_or, append-nil, append_assoc, take_more, length-take-le, numbered_texts}
+use Rattle.std.proofs.Common.{All}
 
 module _ {X : Type 0} (text_of : ℕ → X → List ℕ) where
   -- one more after others

@@ -1,37 +1,11 @@
 -- A certificate of format 2 that is written is a block of evidence text.
-use Rattle.std.proofs.Common.{◌≡◌, ◌<◌, ◌+◌, ◌^◌, ℕ, suc, false, List, [], ◌∷◌, ◌++◌, None, arith, refl, sym, ap, ◌∙◌, subst, length, map, codes, IsTrue}
-use Rattle.std.specs.Prelude.{decimal}
-use Rattle.std.specs.Fmt.{signed_decimal}
-use Rattle.std.specs.List.{All, AllZip, list_all, flat_map, sum_by}
-use Rattle.std.proofs.lemmas.List.{append_assoc, length-append, length-map}
-use Rattle.std.proofs.lemmas.List.Elements.{All-nil, All-cons, All-head, All-tail, All-weaker}
-use Rattle.std.proofs.lemmas.List.Sums.{sum_by-cons, sum_by_push}
-use Rattle.quiver.specs.Declarations.{Declaration, IsDeclared}
-use Rattle.traced_rows.specs.declared.evidence.LemmaRow.{LemmaRow}
-use Rattle.traced_rows.specs.declared.evidence.Lemma.{Lemma}
-use Rattle.traced_rows.specs.declared.evidence.LemmaCertificate.{LemmaCertificate}
+use Rattle.certificate_text.proofs.Prelude.{◌≡◌, ◌<◌, ◌+◌, ◌^◌, ℕ, suc, false, List, [], ◌∷◌, ◌++◌, None, arith, refl, sym, ap, ◌∙◌, subst, length, map, codes, IsTrue, decimal, signed_decimal, All, AllZip, list_all, flat_map, sum_by, append_assoc, length-append, length-map, All-nil, All-cons, All-head, All-tail, All-weaker, sum_by-cons, sum_by_push, Declaration, IsDeclared, LemmaRow, Lemma, LemmaCertificate, row_count, letters_of_lemmas, tokens_of, is_skipped, integer_limit, Line, claim_line, end_line, RowTokens, ScaledTokens, LemmaTokens, lemmas, row_line, lemma_lines, goal_lines, certificate_lines, head_line, denominator_line, IsScaled, AreLemmas, names, numbers, words, rows, letters, letters_in, IsWithin, IsLemmaRowOf, IsScaledOf, certificate_kind, lemma_row_text, scaled_text, lemma_text, lemmas_text, goal_text, lemma_certificate_text, is_named, IsLineText, IsWritableLemmaRow, IsWritableLemma, IsWritableByLemmas, IsTextOf, no_text, text-append, IsWritten, decimal_text, text_of_number, end_is_text, line_text-append, literal, plain_name, token_read, name_token}
 use Rattle.traced_rows.specs.declared.evidence.Evidence.TheVariants as evidence
 use Rattle.traced_rows.specs.declared.evidence.Format.TheVariants as format
-use Rattle.cofactor_trace.specs.Lemmas.{row_count, letter_count as letters_of_lemmas}
-use Rattle.block_text.specs.Tokens.{tokens_of, is_skipped}
-use Rattle.block_text.specs.Lines.{integer_limit, Line, claim_line, end_line}
-use Rattle.certificate_text.specs.Lines.{RowTokens}
-use Rattle.certificate_text.specs.Blocks.{ScaledTokens, LemmaTokens, lemmas, row_line, lemma_lines, goal_lines, certificate_lines, head_line, denominator_line, IsScaled, AreLemmas}
-use Rattle.certificate_text.specs.Bounds.{names, numbers, words, rows, letters, letters_in, IsWithin, IsLemmaRowOf, IsScaledOf}
-use Rattle.certificate_text.specs.Evidence.{certificate_kind}
-use Rattle.certificate_text.specs.Written.{lemma_row_text, scaled_text, lemma_text, lemmas_text, goal_text, lemma_certificate_text}
-use Rattle.block_text.specs.Back.{is_named, IsLineText}
-use Rattle.certificate_text.specs.Back.{IsWritableLemmaRow, IsWritableLemma, IsWritableByLemmas}
 use Rattle.certificate_text.proofs.BlocksBack.{lemma_row_written}
-use Rattle.block_text.proofs.ContentBack.{IsTextOf, no_text, text-append}
-use Rattle.block_text.proofs.PartsBack.{IsWritten}
-use Rattle.block_text.proofs.NumbersBack.{decimal_text}
 use Rattle.certificate_text.proofs.RowsBack.{row_tree, IsWrittenRow, lemma_row_says, AreRows, rows-append, rows_within, letters_in-append, zip_by, trees, rows_are_text, rows_are_rows, letters_in-trees}
-use Rattle.block_text.proofs.NumberLines.{text_of_number, end_is_text}
 use Rattle.certificate_text.proofs.SizesBack.{IsSize, size_written, head_written, number_is_value, opening_is_text}
 use Rattle.certificate_text.proofs.OpenBlocks.{RowPlace, IsLeading, lead_place, rows_of}
-use Rattle.block_text.proofs.TextsBack.{line_text-append, literal, plain_name}
-use Rattle.block_text.proofs.TokensBack.{token_read, name_token}
 
 -- what is known of a lemma that is written
 pub record IsWrittenLemma (ds : List Declaration) (l : Lemma) : Type 0 where

@@ -1,3 +1,4 @@
+mod Prelude
 pub mod LineTrees
 pub mod RowTrees
 pub mod OpenBlocks

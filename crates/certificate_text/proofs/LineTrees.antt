@@ -1,16 +1,5 @@
 -- A line that is read is the line of what is read.
-use Rattle.std.proofs.Common.{◌≡◌, ℕ, Bool, true, false, not, cond, ◌&&◌, List, [], ◌∷◌, ◌++◌, Some, None, IsTrue, refl, sym, ap, ap₂, ◌∙◌, subst, codes}
-use Rattle.std.specs.Option.{option_and_then}
-use Rattle.std.proofs.lemmas.Bool.{and_parts}
-use Rattle.std.proofs.lemmas.Option.{option_and_then_some, cond_some}
-use Rattle.traced_rows.specs.declared.evidence.Format.{Format}
-use Rattle.traced_rows.specs.declared.evidence.Format.TheVariants.{Plain, Lemmas}
-use Rattle.block_text.specs.Letters.{is_number}
-use Rattle.block_text.specs.Lines.{is, bracketed, Line}
-use Rattle.certificate_text.specs.Lines.{RowTokens, is_plain_head, is_lemmas_head, is_value, scale_digits, lemma_digits, goal_digits, row_end, number_part, origin_part, row_parts, is_row, row_tokens}
-use Rattle.certificate_text.specs.Blocks.{origin_tokens, row_line, head_line, IsPlainRow}
-use Rattle.block_text.proofs.Results.{by_test, cond_option}
-use Rattle.block_text.proofs.LineTrees.{Parts, is_word, pair_is, number_is, bracketed_is}
+use Rattle.certificate_text.proofs.Prelude.{◌≡◌, ℕ, Bool, true, false, not, cond, ◌&&◌, List, [], ◌∷◌, ◌++◌, Some, None, IsTrue, refl, sym, ap, ap₂, ◌∙◌, subst, codes, option_and_then, and_parts, option_and_then_some, cond_some, Format, Plain, Lemmas, is_number, is, bracketed, Line, RowTokens, is_plain_head, is_lemmas_head, is_value, scale_digits, lemma_digits, goal_digits, row_end, number_part, origin_part, row_parts, is_row, row_tokens, origin_tokens, row_line, head_line, IsPlainRow, by_test, cond_option, Parts, is_word, pair_is, number_is, bracketed_is}
 
 -- words
 pub plain_head_is : (line : Line) → is_plain_head line ≡ true → line ≡ head_line Plain

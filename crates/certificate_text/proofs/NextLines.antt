@@ -1,32 +1,8 @@
 -- A line that is read at its place in a block.
-use Rattle.std.proofs.Common.{◌≡◌, ◌<◌, ◌+◌, ℕ, ℤ, pos, List, [], ◌∷◌, ◌++◌, Option, Some, None, Ok, IsTrue, arith, sym, ap, ap₂, refl, ◌∙◌, subst, length, map, Result, Err, nat_le, leb-false, append_assoc, append-nil, codes}
-use Rattle.std.specs.List.{flat_map}
-use Rattle.std.specs.Option.{option_map}
-use Rattle.std.proofs.lemmas.Grind.{flat_map-append}
-use Rattle.std.proofs.lemmas.List.{length-append, map-append}
-use Rattle.std.proofs.lemmas.List.Elements.{All-nil, All-push}
-use Rattle.quiver.specs.Declarations.{Declaration}
-use Rattle.traced_rows.specs.declared.certificate.CertRow.{CertRow}
-use Rattle.traced_rows.specs.declared.evidence.Lemma.{Lemma}
-use Rattle.traced_rows.specs.declared.evidence.LemmaRow.{LemmaRow}
-use Rattle.traced_rows.specs.declared.evidence.Format.{Format}
-use Rattle.traced_rows.specs.declared.evidence.Format.TheVariants.{Plain, Lemmas}
-use Rattle.block_text.specs.declared.fault.Flaw.TheVariants.{BadLine, NumberTooLarge}
-use Rattle.certificate_text.specs.declared.place.Size.{Size}
-use Rattle.certificate_text.specs.declared.place.Opened.{Opened}
-use Rattle.block_text.specs.declared.fault.Flaw.{Flaw}
-use Rattle.block_text.specs.Fault.{◌>>=◌, asked}
-use Rattle.block_text.specs.Letters.{is_number, number_within}
-use Rattle.block_text.specs.Lines.{number_limit, integer_limit, integer_of, claim_of, Line, claim_line}
-use Rattle.certificate_text.specs.Lines.{RowTokens, row_limit, is_value, is_row, denominator_of, lemma_digits, lemma_scale_of, goal_digits, goal_scale_of, row_tokens, row_values, lemma_row_of, grown}
-use Rattle.certificate_text.specs.Blocks.{ScaledTokens, LemmaTokens, row_line, head_line, denominator_line, lemma_lines, IsPlainRow, IsScaled}
-use Rattle.certificate_text.specs.Bounds.{IsWithin, IsScaledOf, IsLemmaRowOf}
-use Rattle.certificate_text.specs.Reading.{begun, lemma_of, closed_by, lemma_row}
-use Rattle.block_text.proofs.Results.{by_test, bind_ok, asked_ok, ok_has}
-use Rattle.block_text.proofs.SaidLines.{IsNumberLine, number_said}
+use Rattle.certificate_text.proofs.Prelude.{◌≡◌, ◌<◌, ◌+◌, ℕ, ℤ, pos, List, [], ◌∷◌, ◌++◌, Option, Some, None, Ok, IsTrue, arith, sym, ap, ap₂, refl, ◌∙◌, subst, length, map, Result, Err, nat_le, leb-false, codes, flat_map, option_map, flat_map-append, length-append, map-append, All-nil, All-push, Declaration, CertRow, Lemma, LemmaRow, Format, Plain, Lemmas, BadLine, NumberTooLarge, Size, Opened, Flaw, ◌>>=◌, asked, is_number, number_within, number_limit, integer_limit, integer_of, claim_of, Line, claim_line, RowTokens, row_limit, is_value, is_row, denominator_of, lemma_digits, lemma_scale_of, goal_digits, goal_scale_of, row_tokens, row_values, lemma_row_of, grown, ScaledTokens, LemmaTokens, row_line, head_line, denominator_line, lemma_lines, IsPlainRow, IsScaled, IsWithin, IsScaledOf, IsLemmaRowOf, begun, lemma_of, closed_by, lemma_row, by_test, bind_ok, asked_ok, ok_has, IsNumberLine, number_said, zip_push, zip_length}
+use Rattle.std.proofs.Common.{append_assoc, append-nil}
 use Rattle.certificate_text.proofs.LineTrees.{lemma_is, goal_is, IsRowOf, row_is}
 use Rattle.certificate_text.proofs.RowTrees.{Pass, HaveSize, no_rows_size, IsAdded, added, unvalued, full, is_added, integer_is_within}
-use Rattle.lists.proofs.Zips.{zip_push, zip_length}
 use Rattle.certificate_text.proofs.OpenBlocks.{IsMadeBy, IsHead, scaled_by, front_of, lemma_made, IsHeaded, IsClaimed, IsOpened, IsLed, IsInside, IsOpen, Lead, lemma_tokens, lead_lines, IsNext, IsFew, rows_of, are_lemmas-push}
 
 -- two lists of lines with one more line

@@ -1,19 +1,6 @@
 -- A block says one certificate.
-use Rattle.std.proofs.Common.{◌≡◌, List, Option, Some, Result, Ok, sym, ap, ◌∙◌}
-use Rattle.quiver.specs.Declarations.{Declaration}
-use Rattle.traced_rows.specs.declared.certificate.Certificate.{Certificate}
-use Rattle.traced_rows.specs.declared.evidence.LemmaRow.{LemmaRow}
-use Rattle.traced_rows.specs.declared.evidence.Lemma.{Lemma}
-use Rattle.traced_rows.specs.declared.evidence.LemmaCertificate.{LemmaCertificate}
-use Rattle.traced_rows.specs.declared.evidence.Evidence.{Evidence}
+use Rattle.certificate_text.proofs.Prelude.{◌≡◌, List, Option, Some, Result, Ok, sym, ap, ◌∙◌, Declaration, Certificate, LemmaRow, Lemma, LemmaCertificate, Evidence, Flaw, number_limit, integer_of, RowTokens, row_values, over_lemma, number_within, ScaledTokens, PlainTokens, LemmasTokens, BlockTokens, plain, lemmas, IsLemmaRowOf, IsScaledOf, IsPlainOf, IsLemmasOf, IsCertificateOf, AllZip-unique}
 use Rattle.traced_rows.specs.declared.evidence.Evidence.TheVariants as evidence
-use Rattle.block_text.specs.declared.fault.Flaw.{Flaw}
-use Rattle.block_text.specs.Lines.{number_limit, integer_of}
-use Rattle.certificate_text.specs.Lines.{RowTokens, row_values, over_lemma}
-use Rattle.block_text.specs.Letters.{number_within}
-use Rattle.certificate_text.specs.Blocks.{ScaledTokens, PlainTokens, LemmasTokens, BlockTokens, plain, lemmas}
-use Rattle.certificate_text.specs.Bounds.{IsLemmaRowOf, IsScaledOf, IsPlainOf, IsLemmasOf, IsCertificateOf}
-use Rattle.lists.proofs.Zips.{AllZip-unique}
 
 pub same_value : {A : Type 0} (o : Option A) (x y : A) → o ≡ Some x → o ≡ Some y → x ≡ y
 same_value o x y left right = cc

@@ -1,34 +1,9 @@
 -- The first lines of a block, by the place after them, and the blocks that continue them.
-use Rattle.std.proofs.Common.{◌≡◌, ◌<◌, ◌≤◌, ◌+◌, ℕ, ℤ, List, [], ◌∷◌, ◌++◌, Option, Some, None, Ok, IsTrue, arith, refl, sym, ap, ap₂, ◌∙◌, subst, length, map, append_assoc, append-nil, codes}
-use Rattle.std.specs.Bool.{⊤}
-use Rattle.std.specs.List.{All, AllZip, flat_map}
-use Rattle.std.proofs.lemmas.Grind.{flat_map-append}
-use Rattle.std.proofs.lemmas.List.{length-append, map-append}
-use Rattle.std.proofs.lemmas.List.Elements.{All-nil, All-push, All-weaker}
-use Rattle.quiver.specs.Declarations.{Declaration}
-use Rattle.traced_rows.specs.declared.certificate.CertRow.{CertRow}
-use Rattle.traced_rows.specs.declared.certificate.Certificate.{Certificate}
-use Rattle.traced_rows.specs.declared.evidence.LemmaRow.{LemmaRow}
-use Rattle.traced_rows.specs.declared.evidence.Evidence.{Evidence}
-use Rattle.traced_rows.specs.declared.evidence.Lemma.{Lemma}
-use Rattle.traced_rows.specs.declared.evidence.Format.{Format}
-use Rattle.traced_rows.specs.declared.evidence.Format.TheVariants.{Plain, Lemmas}
-use Rattle.certificate_text.specs.declared.place.Size.{Size}
-use Rattle.certificate_text.specs.declared.place.Opened.{Opened}
-use Rattle.certificate_text.specs.declared.place.Stage.{Stage}
+use Rattle.certificate_text.proofs.Prelude.{◌≡◌, ◌<◌, ◌≤◌, ◌+◌, ℕ, ℤ, List, [], ◌∷◌, ◌++◌, Option, Some, None, Ok, IsTrue, arith, refl, sym, ap, ap₂, ◌∙◌, subst, length, map, codes, ⊤, All, AllZip, flat_map, flat_map-append, length-append, map-append, All-nil, All-push, All-weaker, Declaration, CertRow, Certificate, LemmaRow, Evidence, Lemma, Format, Plain, Lemmas, Size, Opened, Stage, is_number, number_within, number_limit, integer_limit, integer_of, Line, claim_line, Flaw, RowTokens, row_limit, is_value, is_row, row_values, over_lemma, ScaledTokens, LemmaTokens, LemmasTokens, BlockTokens, plain, lemmas, row_line, head_line, denominator_line, lemma_lines, goal_lines, certificate_lines, IsPlainRow, IsScaled, AreLemmas, IsLemmasBlock, IsBlock, Bound, names, numbers, words, rows, letters, bounds, IsCertificateOf, rows_in, lemmas_in, IsWithin, IsScaledOf, HasNumbersOutside, KeepsOne, Begins, IsWhole, IsStopped, passes, zip_push, everywhere, certificate_kind}
+use Rattle.std.proofs.Common.{append_assoc, append-nil}
 use Rattle.certificate_text.specs.declared.place.Stage.TheVariants as at
-use Rattle.block_text.specs.Letters.{is_number, number_within}
-use Rattle.block_text.specs.Lines.{number_limit, integer_limit, integer_of, Line, claim_line}
-use Rattle.block_text.specs.declared.fault.Flaw.{Flaw}
-use Rattle.certificate_text.specs.Lines.{RowTokens, row_limit, is_value, is_row, row_values, over_lemma}
-use Rattle.certificate_text.specs.Blocks.{ScaledTokens, LemmaTokens, LemmasTokens, BlockTokens, plain, lemmas, row_line, head_line, denominator_line, lemma_lines, goal_lines, certificate_lines, IsPlainRow, IsScaled, AreLemmas, IsLemmasBlock, IsBlock}
-use Rattle.certificate_text.specs.Bounds.{Bound, names, numbers, words, rows, letters, bounds, IsCertificateOf, rows_in, lemmas_in, IsWithin, IsScaledOf, HasNumbersOutside, KeepsOne}
 use Rattle.certificate_text.proofs.LineTrees.{IsRowOf}
 use Rattle.certificate_text.proofs.RowTrees.{before, Pass, RowsWithin, HaveSize, no_rows_keep, integer_is_within}
-use Rattle.block_text.proofs.Owed.{Begins, IsWhole, IsStopped, passes}
-use Rattle.lists.proofs.Zips.{zip_push}
-use Rattle.block_text.proofs.Standing.{everywhere}
-use Rattle.certificate_text.specs.Evidence.{certificate_kind}
 
 -- the bounds on a block are those on its rows, on the other numbers, and on the count of its lemmas
 pub keeps_one : (ds : List Declaration) (b : BlockTokens) → HasNumbersOutside b → length (lemmas_in b) ≤ row_limit → (bound : Bound) → RowsWithin ds (rows_in b) bound → KeepsOne ds bound b

@@ -1,19 +1,8 @@
 -- Evidence that is written is read back, whatever texts are before and after it.
-use Rattle.std.proofs.Common.{List, IsTrue}
-use Rattle.std.specs.List.{list_all}
-use Rattle.quiver.specs.Declarations.{Declaration, IsDeclared}
-use Rattle.traced_rows.specs.declared.evidence.Evidence.{Evidence}
+use Rattle.certificate_text.proofs.Prelude.{List, IsTrue, list_all, Declaration, IsDeclared, Evidence, Format, IsReadBetween, AreReadInParts, AreReadBack, are_read_back, certificate_kind, other_words, HasCertificates, evidence_text, is_named, IsOfFormat, IsWritableEvidence, IsGood, IsWritten}
 use Rattle.traced_rows.specs.declared.evidence.Evidence.TheVariants.{Plain, Lemmas}
-use Rattle.traced_rows.specs.declared.evidence.Format.{Format}
 use Rattle.traced_rows.specs.declared.evidence.Format.TheVariants as format
-use Rattle.block_text.specs.Laws.{IsReadBetween, AreReadInParts, AreReadBack}
-use Rattle.block_text.proofs.TextLaws.{are_read_back}
-use Rattle.certificate_text.specs.Evidence.{certificate_kind, other_words, HasCertificates}
-use Rattle.certificate_text.specs.Written.{evidence_text}
-use Rattle.block_text.specs.Back.{is_named}
-use Rattle.certificate_text.specs.Back.{IsOfFormat, IsWritableEvidence, IsGood}
 use Rattle.certificate_text.proofs.BlocksBack.{rows_written, plain_written}
-use Rattle.block_text.proofs.PartsBack.{IsWritten}
 use Rattle.certificate_text.proofs.LemmasBack.{lemmas_written, certificate_written}
 use Rattle.certificate_text.proofs.Reader.{reader}
 

@@ -1,30 +1,7 @@
 -- The reader of certificates owes what a reader of blocks owes.
-use Rattle.std.proofs.Common.{◌≡◌, ◌++◌, ◌∷◌, [], ℕ, Bool, true, false, List, Some, None, Result, Ok, Err, refl, sym, ap, ◌∙◌, subst, codes, length, if◌then◌else◌}
-use Rattle.quiver.specs.Declarations.{Declaration}
-use Rattle.traced_rows.specs.declared.evidence.Lemma.{Lemma}
-use Rattle.traced_rows.specs.declared.evidence.Evidence.{Evidence}
+use Rattle.certificate_text.proofs.Prelude.{◌≡◌, ◌++◌, ◌∷◌, [], ℕ, Bool, true, false, List, Some, None, Result, Ok, Err, refl, sym, ap, ◌∙◌, subst, codes, length, if◌then◌else◌, Declaration, Lemma, Evidence, Format, Plain, Lemmas, Flaw, BadLine, Line, claim_line, begins, claim_of, is_other_head, bound_of, Begins, IsWhole, IsStopped, misfit, IsReader, AllZip-weaker, ◌>>=◌, by_test, bind_assoc, ok_has, Size, Opened, Stage, RowTokens, is_plain_head, is_lemmas_head, denominator_of, goal_scale_of, lemma_scale_of, row_values, lemma_row_of, grown, CertRow, denominator_line, lemmas, head_line, Bound, names, bounds, flaw_of, other_words, certificate_kind, lemmas_headed, begin, begun, certificate_of, lemma_of, closed_by, resized, scaled, lemma_row, next, finish, lemma_certificate_of, certificate_steps}
 use Rattle.traced_rows.specs.declared.evidence.Evidence.TheVariants as evidence
-use Rattle.traced_rows.specs.declared.evidence.Format.{Format}
-use Rattle.traced_rows.specs.declared.evidence.Format.TheVariants.{Plain, Lemmas}
-use Rattle.block_text.specs.declared.fault.Flaw.{Flaw}
-use Rattle.block_text.specs.declared.fault.Flaw.TheVariants.{BadLine}
-use Rattle.block_text.specs.Lines.{Line, claim_line, begins, claim_of}
-use Rattle.block_text.specs.Blocks.{is_other_head}
-use Rattle.block_text.proofs.Bounds.{bound_of}
-use Rattle.block_text.proofs.Owed.{Begins, IsWhole, IsStopped, misfit, IsReader}
-use Rattle.lists.proofs.Zips.{AllZip-weaker}
-use Rattle.block_text.specs.Fault.{◌>>=◌}
-use Rattle.block_text.proofs.Results.{by_test, bind_assoc, ok_has}
-use Rattle.certificate_text.specs.declared.place.Size.{Size}
-use Rattle.certificate_text.specs.declared.place.Opened.{Opened}
-use Rattle.certificate_text.specs.declared.place.Stage.{Stage}
 use Rattle.certificate_text.specs.declared.place.Stage.TheVariants as at
-use Rattle.certificate_text.specs.Lines.{RowTokens, is_plain_head, is_lemmas_head, denominator_of, goal_scale_of, lemma_scale_of, row_values, lemma_row_of, grown}
-use Rattle.traced_rows.specs.declared.certificate.CertRow.{CertRow}
-use Rattle.certificate_text.specs.Blocks.{denominator_line, lemmas, head_line}
-use Rattle.certificate_text.specs.Bounds.{Bound, names, bounds, flaw_of}
-use Rattle.certificate_text.specs.Evidence.{other_words, certificate_kind}
-use Rattle.certificate_text.specs.Reading.{lemmas_headed, begin, begun, certificate_of, lemma_of, closed_by, resized, scaled, lemma_row, next, finish, lemma_certificate_of, certificate_steps}
 use Rattle.certificate_text.proofs.BlockLines.{block_meets}
 use Rattle.certificate_text.proofs.FlawedLines.{stopped_headed, stopped_claimed, stopped_goal, stopped_lemma}
 use Rattle.certificate_text.proofs.LineTrees.{plain_head_is, lemmas_head_is}

@@ -1,20 +1,5 @@
 -- The line of a row is read as the row.
-use Rattle.std.proofs.Common.{◌≡◌, ℕ, Bool, true, false, not, ◌&&◌, List, [], ◌∷◌, ◌++◌, Some, None, Result, Ok, Err, IsTrue, arith, refl, codes, if◌then◌else◌}
-use Rattle.std.specs.List.{AllByRecursion, list_all}
-use Rattle.std.specs.Str.{is_utf8, chars}
-use Rattle.std.proofs.lemmas.Bool.{and_parts}
-use Rattle.unicode_ident.proofs.IdentLemmas.{is_xid_start-ascii}
-use Rattle.quiver.specs.Declarations.{Declaration}
-use Rattle.block_text.specs.declared.fault.Flaw.{Flaw}
-use Rattle.block_text.specs.declared.fault.Flaw.TheVariants.{BadLine}
-use Rattle.traced_rows.specs.declared.certificate.CertRow.{CertRow}
-use Rattle.block_text.specs.Fault.{◌>>=◌, asked}
-use Rattle.block_text.specs.Letters.{is_letter, is_number, is_integer}
-use Rattle.block_text.specs.Lines.{is_close}
-use Rattle.certificate_text.specs.Lines.{RowTokens, number_part, origin_part, row_parts, is_row, row_of, row_values, lemma_row_of, over_lemma}
-use Rattle.certificate_text.specs.Blocks.{origin_tokens, row_line, IsPlainRow}
-use Rattle.block_text.proofs.Closing.{closed_behind}
-use Rattle.block_text.proofs.LineTrees.{other_word}
+use Rattle.certificate_text.proofs.Prelude.{◌≡◌, ℕ, Bool, true, false, not, ◌&&◌, List, [], ◌∷◌, ◌++◌, Some, None, Result, Ok, Err, IsTrue, arith, refl, codes, if◌then◌else◌, AllByRecursion, list_all, is_utf8, chars, and_parts, is_xid_start-ascii, Declaration, Flaw, BadLine, CertRow, ◌>>=◌, asked, is_letter, is_number, is_integer, is_close, RowTokens, number_part, origin_part, row_parts, is_row, row_of, row_values, lemma_row_of, over_lemma, origin_tokens, row_line, IsPlainRow, closed_behind, other_word}
 
 -- tokens that are no words
 no_letter : is_letter (codes ")") ≡ false

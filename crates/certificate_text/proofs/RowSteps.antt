@@ -1,11 +1,6 @@
 -- What a `?` returns where a row of a certificate is added.
-use Rattle.std.proofs.Common.{◌≡◌, Result, Ok, Err, sym, ap, subst}
-use Rattle.std.specs.Result.{IsErrAnd}
-use Rattle.lists.specs.Stop.{IsMemory, Gives}
-use Rattle.lists.specs.declared.stop.Stop.{Stop}
+use Rattle.certificate_text.proofs.Prelude.{◌≡◌, Result, Ok, Err, sym, ap, subst, IsErrAnd, IsMemory, Gives, Stop, Flaw, ◌>>=◌}
 use Rattle.lists.specs.declared.stop.Stop.TheVariants as stop
-use Rattle.block_text.specs.declared.fault.Flaw.{Flaw}
-use Rattle.block_text.specs.Fault.{◌>>=◌}
 
 pub flaw_told : {X Y : Type 0} (view : X → Y) (r : Result X (Stop Flaw)) (read : Result Y Flaw) (f : Flaw) → IsErrAnd r (λ e. e ≡ stop.Fault f) → read ≡ Err f → Gives view r read
 flaw_told view (Ok x) read f told is = absurd told

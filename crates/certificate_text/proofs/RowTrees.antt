@@ -1,22 +1,6 @@
 -- The rows of an open block: what their tokens say, the bounds that they are within, and how they grow.
-use Rattle.std.proofs.Common.{◌≡◌, ◌<◌, ◌≤◌, ◌+◌, ℕ, ℤ, pos, suc, Bool, true, false, ◌||◌, List, [], ◌∷◌, ◌++◌, Option, Some, None, Result, Ok, Err, arith, refl, sym, ap, ◌∙◌, subst, length, nat_lt, nat_le, ltb-false, leb-false}
-use Rattle.std.specs.List.{All}
-use Rattle.std.specs.Option.{option_map}
-use Rattle.std.proofs.lemmas.Bool.{or_parts, or_from, le-ltb, lt-leb}
-use Rattle.std.proofs.lemmas.List.{length-append}
-use Rattle.std.proofs.lemmas.List.Elements.{All-nil, All-cons, All-push, All-replicate}
-use Rattle.std.proofs.lemmas.Option.{option_and_then_some}
-use Rattle.quiver.specs.Declarations.{Declaration}
-use Rattle.traced_rows.specs.declared.certificate.CertRow.{CertRow}
-use Rattle.block_text.specs.declared.fault.Flaw.{Flaw}
-use Rattle.block_text.specs.declared.fault.Flaw.TheVariants.{UnknownName, NumberTooLarge, TooMany}
-use Rattle.certificate_text.specs.declared.place.Size.{Size}
-use Rattle.block_text.specs.Letters.{letter_of, number_within, integer_within, word_of}
-use Rattle.block_text.specs.Lines.{number_limit, integer_limit, integer_of}
-use Rattle.certificate_text.specs.Lines.{RowTokens, word_limit, row_limit, letter_limit, row_values, no_rows, grown}
-use Rattle.certificate_text.specs.Bounds.{Bound, names, numbers, words, rows, letters, bounds, letters_in, IsWithin, HasNames, HasNumbers, HasShortWords, flaw_of}
+use Rattle.certificate_text.proofs.Prelude.{◌≡◌, ◌<◌, ◌≤◌, ◌+◌, ℕ, ℤ, pos, suc, Bool, true, false, ◌||◌, List, [], ◌∷◌, ◌++◌, Option, Some, None, Result, Ok, Err, arith, refl, sym, ap, ◌∙◌, subst, length, nat_lt, nat_le, ltb-false, leb-false, All, option_map, or_parts, or_from, le-ltb, lt-leb, length-append, All-nil, All-cons, All-push, All-replicate, option_and_then_some, Declaration, CertRow, Flaw, UnknownName, NumberTooLarge, TooMany, Size, letter_of, number_within, integer_within, word_of, number_limit, integer_limit, integer_of, RowTokens, word_limit, row_limit, letter_limit, row_values, no_rows, grown, Bound, names, numbers, words, rows, letters, bounds, letters_in, IsWithin, HasNames, HasNumbers, HasShortWords, flaw_of, asked_ok, option_map_some}
 use Rattle.block_text.proofs.Bounds as listed
-use Rattle.block_text.proofs.Results.{asked_ok, option_map_some}
 
 -- the bounds that are tested before it
 abbrev pub before : Bound → List Bound

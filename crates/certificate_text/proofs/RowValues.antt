@@ -1,22 +1,10 @@
 -- Rows that keep bounds are read, one after another.
-use Rattle.std.proofs.Common.{◌≡◌, ◌<◌, ◌≤◌, ◌+◌, ℕ, suc, List, [], ◌∷◌, ◌++◌, Result, Ok, arith, refl, ◌∙◌, length, map, add-zero, length-append}
-use Rattle.std.specs.List.{All, AllZip}
-use Rattle.std.proofs.lemmas.List.{append_assoc, append-nil}
-use Rattle.std.proofs.lemmas.List.Elements.{All-nil, All-cons, All-head, All-tail}
-use Rattle.quiver.specs.Declarations.{Declaration}
-use Rattle.traced_rows.specs.declared.certificate.CertRow.{CertRow}
-use Rattle.certificate_text.specs.declared.place.Size.{Size}
-use Rattle.block_text.specs.declared.fault.Flaw.{Flaw}
-use Rattle.block_text.specs.Fault.{◌>>=◌}
-use Rattle.block_text.specs.Lines.{Line}
-use Rattle.certificate_text.specs.Lines.{RowTokens, row_limit, letter_limit, row_values, grown}
-use Rattle.certificate_text.specs.Blocks.{row_line}
+use Rattle.certificate_text.proofs.Prelude.{◌≡◌, ◌<◌, ◌≤◌, ◌+◌, ℕ, suc, List, [], ◌∷◌, ◌++◌, Result, Ok, arith, refl, ◌∙◌, length, map, add-zero, All, AllZip, append_assoc, append-nil, All-nil, All-cons, All-head, All-tail, Declaration, CertRow, Size, Flaw, ◌>>=◌, Line, RowTokens, row_limit, letter_limit, row_values, grown, row_line, Bound, flaw_of, HasNames, HasNumbers, HasShortWords, letters_in, run, Meets, reads, then_meets, meets-weaker}
+use Rattle.std.proofs.Common.{length-append}
 use Rattle.certificate_text.specs.Bounds as bound
-use Rattle.certificate_text.specs.Bounds.{Bound, flaw_of, HasNames, HasNumbers, HasShortWords, letters_in}
 use Rattle.certificate_text.proofs.OpenBlocks.{IsMadeBy}
 use Rattle.certificate_text.proofs.RowTrees.{IsValued, valued, unknown, large, is_valued, IsSized, fits, long, many, crowded, is_sized, letters_in-append}
-use Rattle.block_text.proofs.NumberedLines.{run}
-use Rattle.block_text.proofs.Meets.{Meets, reads, passes, then_meets, meets-weaker}
+use Rattle.block_text.proofs.Meets.{passes}
 
 -- after a row of so many letters
 abbrev pub with_letters : Size → ℕ → Size

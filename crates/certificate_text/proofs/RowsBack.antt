@@ -1,33 +1,9 @@
 -- Rows that are written are lines of tokens, and what those say.
-use Rattle.std.proofs.Common.{◌≡◌, ◌<◌, ◌≤◌, ◌^◌, ◌+◌, ℕ, Bool, true, false, cond, List, [], ◌∷◌, ◌++◌, Ok, arith, refl, sym, ap, ◌∙◌, subst, length, map, codes, IsTrue}
-use Rattle.std.specs.Prelude.{decimal}
-use Rattle.std.specs.Fmt.{signed_decimal}
-use Rattle.std.specs.List.{All, AllZip, flat_map, sum_by}
-use Rattle.std.proofs.lemmas.List.{append_assoc, length-map}
-use Rattle.std.proofs.lemmas.List.Sums.{sum_by-cons}
-use Rattle.std.proofs.lemmas.List.Elements.{All-head, All-tail, All-weaker, All-map, All-append}
-use Rattle.quiver.specs.Declarations.{Declaration}
-use Rattle.traced_rows.specs.declared.certificate.CertRow.{CertRow}
-use Rattle.traced_rows.specs.declared.evidence.CertFrom.{CertFrom}
-use Rattle.traced_rows.specs.declared.evidence.CertFrom.TheVariants.{Generator, Lemma}
-use Rattle.traced_rows.specs.declared.evidence.LemmaRow.{LemmaRow}
-use Rattle.nc_polynomial.specs.Limits.{word_limit}
-use Rattle.block_text.specs.Tokens.{goes_on, tokens_of}
-use Rattle.block_text.specs.Lines.{number_limit}
-use Rattle.certificate_text.specs.Lines.{RowTokens, row_limit, letter_limit, is_row, row_values, from}
-use Rattle.certificate_text.specs.Blocks.{origin_tokens, row_line}
+use Rattle.certificate_text.proofs.Prelude.{◌≡◌, ◌<◌, ◌≤◌, ◌^◌, ◌+◌, ℕ, Bool, true, false, cond, List, [], ◌∷◌, ◌++◌, Ok, arith, refl, sym, ap, ◌∙◌, subst, length, map, codes, IsTrue, decimal, signed_decimal, All, AllZip, flat_map, sum_by, append_assoc, length-map, sum_by-cons, All-head, All-tail, All-weaker, All-map, All-append, Declaration, CertRow, CertFrom, Generator, LemmaRow, word_limit, goes_on, tokens_of, number_limit, RowTokens, row_limit, letter_limit, is_row, row_values, from, origin_tokens, row_line, Bound, letters_in, HasNames, HasNumbers, HasShortWords, IsLemmaRowOf, letter_text, word_text, origin_text, lemma_row_text, IsLineText, number_of, IsTextOf, no_text, text-append, text_of_tokens, IsInteger, decimal_text, decimal_number, decimal_within, line_text-append, literal, IsWrittenWord, plain_name, IsToken, token_read, tokens_read, name_token}
+use Rattle.traced_rows.specs.declared.evidence.CertFrom.TheVariants.{Lemma}
 use Rattle.certificate_text.specs.Bounds as bounds
-use Rattle.certificate_text.specs.Bounds.{Bound, letters_in, HasNames, HasNumbers, HasShortWords, IsLemmaRowOf}
-use Rattle.block_text.specs.Written.{letter_text, word_text}
-use Rattle.certificate_text.specs.Written.{origin_text, lemma_row_text}
-use Rattle.block_text.specs.Back.{IsLineText}
-use Rattle.certificate_text.specs.Back.{number_of}
 use Rattle.certificate_text.proofs.RowTrees.{RowsWithin}
 pub use Rattle.certificate_text.proofs.RowTrees.{letters_in-append}
-use Rattle.block_text.proofs.ContentBack.{IsTextOf, no_text, text-append, text_of_tokens}
-use Rattle.block_text.proofs.NumbersBack.{IsInteger, decimal_text, decimal_number, decimal_within}
-use Rattle.block_text.proofs.TextsBack.{line_text-append, literal, IsWrittenWord, plain_name}
-use Rattle.block_text.proofs.TokensBack.{IsToken, token_read, tokens_read, name_token}
 
 -- the tokens of a row
 abbrev is_over_lemma : CertFrom → Bool

@@ -1,25 +1,6 @@
 -- Lines of words and numbers that are written are lines of tokens.
-use Rattle.std.proofs.Common.{◌≡◌, ◌<◌, ◌^◌, ℕ, ℤ, pos, true, List, [], ◌∷◌, ◌++◌, Ok, arith, refl, sym, subst, codes, eq-eqb}
-use Rattle.std.specs.Prelude.{decimal}
-use Rattle.std.specs.Fmt.{signed_decimal}
-use Rattle.std.specs.Str.Parse.{digits_value}
-use Rattle.std.proofs.lemmas.Fmt.{decimal_is_IsNumeral_wide}
-use Rattle.std.proofs.lemmas.List.{append_assoc}
-use Rattle.traced_rows.specs.declared.evidence.Format.{Format}
-use Rattle.traced_rows.specs.declared.evidence.Format.TheVariants.{Plain, Lemmas}
-use Rattle.block_text.specs.Letters.{is_number}
-use Rattle.block_text.specs.Lines.{Line, number_limit, integer_limit, integer_of, claim_line}
-use Rattle.certificate_text.specs.Lines.{is_value}
-use Rattle.certificate_text.specs.Blocks.{head_line, denominator_line}
-use Rattle.certificate_text.specs.Bounds.{IsWithin}
-use Rattle.certificate_text.specs.Back.{IsWritableInteger}
-use Rattle.certificate_text.specs.Written.{opening_text}
+use Rattle.certificate_text.proofs.Prelude.{◌≡◌, ◌<◌, ◌^◌, ℕ, ℤ, pos, true, List, [], ◌∷◌, ◌++◌, Ok, arith, refl, sym, subst, codes, eq-eqb, decimal, signed_decimal, digits_value, decimal_is_IsNumeral_wide, append_assoc, Format, Plain, Lemmas, is_number, Line, number_limit, integer_limit, integer_of, claim_line, is_value, head_line, denominator_line, IsWithin, IsWritableInteger, opening_text, IsTextOf, text-append, text_of_tokens, IsNameText, decimal_text, decimal_number, decimal_within, literal, text_of_number}
 use Rattle.certificate_text.proofs.OpenBlocks.{IsHead}
-use Rattle.block_text.proofs.ContentBack.{IsTextOf, text-append, text_of_tokens}
-use Rattle.block_text.proofs.NameBytes.{IsNameText}
-use Rattle.block_text.proofs.NumbersBack.{decimal_text, decimal_number, decimal_within}
-use Rattle.block_text.proofs.TextsBack.{literal}
-use Rattle.block_text.proofs.NumberLines.{text_of_number}
 
 -- what is read of an integer that is written and not negative
 pub record IsSize (z : ℤ) : Type 0 where

@@ -1,8 +1,5 @@
 -- Lists of claims, of which one takes a step.
-use Rattle.std.proofs.Common.{◌≡◌, ◌<◌, ℕ, zero, suc, ◌+◌, List, [], ◌∷◌, ◌++◌, length, map, take, drop, set, get_or, refl, sym, ap, subst, ◌∙◌, arith}
-use Rattle.std.specs.List.{All, AllZip, range_with_len}
-use Rattle.std.proofs.lemmas.List.{take_more, take_more_set, drop_more, drop-set-lt}
-use Rattle.std.proofs.lemmas.List.Elements.{AllZip-push, All-nil, All-cons, All-tail}
+use Rattle.claim_decider.proofs.Prelude.{◌≡◌, ◌<◌, ℕ, zero, suc, ◌+◌, List, [], ◌∷◌, ◌++◌, length, map, take, drop, set, get_or, refl, sym, ap, subst, ◌∙◌, arith, All, AllZip, range_with_len, take_more, take_more_set, drop_more, drop-set-lt, AllZip-push, All-nil, All-cons, All-tail}
 
 -- an item of a list whose rest is that of another
 same_heads : {X : Type 0} (x y : X) (xs ys : List X) → x ∷ xs ≡ y ∷ ys → x ≡ y

@@ -1,10 +1,5 @@
 -- Claims by their numbers.
-use Rattle.std.proofs.Common.{◌≡◌, ◌≤◌, ℕ, zero, suc, ◌-◌, List, [], ◌∷◌, length, get_or, slice_get, Option, Some, refl, ap, arith}
-use Rattle.definitions.specs.Poly.{Term}
-use Rattle.nc_polynomial.specs.declared.poly.Poly.{Poly}
-use Rattle.adjoint_rules.specs.declared.problem.Problem.{Problem}
-use Rattle.adjoint_rules.specs.Problem.{polynomials}
-use Rattle.adjoint_rules.specs.Claims.{claim_at}
+use Rattle.claim_decider.proofs.Prelude.{◌≡◌, ◌≤◌, ℕ, zero, suc, ◌-◌, List, [], ◌∷◌, length, get_or, slice_get, Option, Some, refl, ap, arith, Term, Poly, Problem, polynomials, claim_at}
 
 same_terms : (p q : Poly) → ◌≡◌ {A = Option Poly} (Some p) (Some q) → p.terms ≡ q.terms
 same_terms p q is = ap (λ (x : Poly). x.terms) (same is)

@@ -1,33 +1,7 @@
 -- What the rules say of a claim.
-use Rattle.std.proofs.Common.{◌≡◌, ◌<◌, ℕ, zero, suc, List, [], ◌∷◌, length, None, Result, Ok, refl, sym, subst, ap, ◌∙◌}
-use Rattle.std.specs.List.{All}
-use Rattle.std.proofs.lemmas.List.Elements.{All-weaker}
-use Rattle.coef_int.specs.Range.{IsCoefficient}
-use Rattle.definitions.specs.Poly.{Term}
-use Rattle.word_orders.specs.Admissible.{Compare}
-use Rattle.word_orders.specs.declared.any.AnyOrder.{AnyOrder}
-use Rattle.word_orders.specs.declared.any.OrderSpec.{OrderSpec}
-use Rattle.word_orders.specs.Specified.{made_cmp, asked_cmp}
-use Rattle.traced_rows.specs.declared.Row.{Row}
-use Rattle.traced_rows.specs.declared.Made.{Made}
-use Rattle.traced_rows.specs.declared.evidence.Format.{Format}
-use Rattle.cofactor_trace.specs.declared.halt.Cause.{Cause}
+use Rattle.claim_decider.proofs.Prelude.{◌≡◌, ◌<◌, ℕ, zero, suc, List, [], ◌∷◌, length, None, Result, Ok, refl, sym, subst, ap, ◌∙◌, All, All-weaker, IsCoefficient, Term, Compare, AnyOrder, OrderSpec, made_cmp, asked_cmp, Row, Made, Format, Cause, IsRecord, IsAmongFirst, Rule, State, ReduceFault, choice_from, choice_of, IsRule, ExplainsHalt, normal_form_of, reduction, start_of, IsByRule, rows_are_by_rules, multipliers_are_positive, Setting, IsCauseOf, among_first, Outcome, halted_at, record_of, IsProved, IsLeft, IsDoneWith, IsDoneBy}
 use Rattle.cofactor_trace.specs.declared.halt.Place.TheVariants as place
-use Rattle.cofactor_trace.specs.Needed.{IsRecord, IsAmongFirst}
-use Rattle.rule_reduce.specs.declared.rule.Rule.{Rule}
-use Rattle.rule_reduce.specs.declared.state.State.{State}
-use Rattle.rule_reduce.specs.declared.fault.ReduceFault.{ReduceFault}
 use Rattle.rule_reduce.specs.declared.fault.ReduceFault.TheVariants as fault
-use Rattle.rule_reduce.specs.Choices.{choice_from, choice_of}
-use Rattle.rule_reduce.specs.RuleLists.{IsRule}
-use Rattle.rule_reduce.specs.NormalForms.{ExplainsHalt, normal_form_of, reduction, start_of}
-use Rattle.rule_reduce.specs.Laws.{IsByRule}
-use Rattle.rule_reduce.proofs.RowsByRules.{rows_are_by_rules}
-use Rattle.rule_reduce.proofs.Multipliers.{multipliers_are_positive}
-use Rattle.traced_completion.specs.PlainRun.{Setting, IsCauseOf}
-use Rattle.traced_completion.proofs.KeptReductions.{among_first}
-use Rattle.claim_decider.specs.declared.outcome.Outcome.{Outcome}
-use Rattle.claim_decider.specs.Outcomes.{halted_at, record_of, IsProved, IsLeft, IsDoneWith, IsDoneBy}
 
 -- the order that was made is the one that was asked for
 pub same_order : (order : AnyOrder) (asked : OrderSpec) → ((u v : List ℕ) → made_cmp order u v ≡ asked_cmp asked u v) → made_cmp order ≡ asked_cmp asked

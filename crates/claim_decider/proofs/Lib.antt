@@ -1,3 +1,4 @@
+mod Prelude
 pub mod ClaimNumbers
 pub mod Judging
 pub mod CaseLists

@@ -1,30 +1,6 @@
 -- What a step of the completion makes of a claim.
-use Rattle.std.proofs.lemmas.List.Folds.{list_any_at}
-use Rattle.std.proofs.Common.{◌≡◌, ◌<◌, ◌≤◌, ◌⊎◌, inl, inr, ℕ, suc, ◌+◌, ◌-◌, List, [], ◌∷◌, length, get_or, Bool, true, false, refl, sym, ap, subst, arith}
-use Rattle.std.specs.Prelude.{⊤}
-use Rattle.std.specs.List.{All, AllZip, list_any}
-use Rattle.std.proofs.lemmas.List.Elements.{AllZip-get_or, length_all_zip, All-nil, All-cons, All-map}
-use Rattle.std.proofs.lemmas.List.{get_or-map, length-map}
-use Rattle.definitions.specs.Poly.{Term}
-use Rattle.nc_polynomial.specs.declared.poly.Poly.{Poly}
-use Rattle.traced_rows.specs.declared.evidence.Format.{Format}
-use Rattle.traced_rows.specs.declared.Made.{Made}
-use Rattle.rule_reduce.specs.declared.rule.Rule.{Rule}
-use Rattle.ambiguities.specs.declared.ambiguity.Ambiguity.{Ambiguity}
-use Rattle.adjoint_rules.specs.declared.problem.Problem.{Problem}
-use Rattle.adjoint_rules.specs.Claims.{claim_at}
-use Rattle.traced_completion.specs.declared.completion.Completion.{Completion}
-use Rattle.traced_completion.specs.declared.completion.Step.{Step}
+use Rattle.claim_decider.proofs.Prelude.{list_any_at, ◌≡◌, ◌<◌, ◌≤◌, ◌⊎◌, inl, inr, ℕ, suc, ◌+◌, ◌-◌, List, [], ◌∷◌, length, get_or, Bool, true, false, refl, sym, ap, subst, arith, ⊤, All, AllZip, list_any, AllZip-get_or, length_all_zip, All-nil, All-cons, All-map, get_or-map, length-map, Term, Poly, Format, Made, Rule, Ambiguity, Problem, claim_at, Completion, Step, Setting, RunState, went, IsRound, setting_of, outcome_of, rounds_after, IsUnchangedAfter, state_of, Outcome, Case, Standing, Open, Settled, IsDone, IsOpen, GetsOutcome, after_round, by_closing, by_stop, IsOutcomeOf, GetsOutcomeAt, GetsOutcomeBy, OneGetsOutcomeAt, IsLastRound, AreOutcomesOf, IsJudged, OpenFollows, StandingFollows, Follows, HasGot, IsOpenWith, Stands, IsCase, HasOutcome, IsSettled, Gives, case_numbers}
 use Rattle.traced_completion.specs.declared.completion.Step.TheVariants as step
-use Rattle.traced_completion.specs.PlainRun.{Setting, RunState, went, IsRound, setting_of}
-use Rattle.traced_completion.specs.Completions.{outcome_of, rounds_after, IsUnchangedAfter, state_of}
-use Rattle.claim_decider.specs.declared.outcome.Outcome.{Outcome}
-use Rattle.claim_decider.specs.declared.case.Case.{Case}
-use Rattle.claim_decider.specs.declared.case.Standing.{Standing}
-use Rattle.claim_decider.specs.declared.case.Standing.TheVariants.{Open, Settled}
-use Rattle.claim_decider.specs.Outcomes.{IsDone, IsOpen, GetsOutcome, after_round, by_closing, by_stop, IsOutcomeOf}
-use Rattle.claim_decider.specs.Decided.{GetsOutcomeAt, GetsOutcomeBy, OneGetsOutcomeAt, IsLastRound, AreOutcomesOf}
-use Rattle.claim_decider.specs.Cases.{IsJudged, OpenFollows, StandingFollows, Follows, HasGot, IsOpenWith, Stands, IsCase, HasOutcome, IsSettled, Gives, case_numbers}
 use Rattle.claim_decider.proofs.CaseLists.{AllZip-kept, AllZip-mapped}
 
 -- a claim that has just got its outcome, or is open

@@ -1,32 +1,10 @@
 -- A claim has one outcome.
-use Rattle.std.proofs.Common.{◌≡◌, ◌<◌, ◌≤◌, ◌⊎◌, inl, inr, ℕ, zero, suc, List, [], ◌∷◌, length, Result, Ok, Err, refl, sym, ap, subst, ◌∙◌, arith}
-use Rattle.std.proofs.lemmas.Bool.{cases_lt}
-use Rattle.definitions.specs.Poly.{Term}
-use Rattle.word_orders.specs.Admissible.{IsAdmissible}
-use Rattle.traced_rows.specs.declared.Made.{Made}
-use Rattle.traced_rows.specs.declared.certificate.Cofactors.{Cofactors}
-use Rattle.traced_rows.specs.declared.evidence.Format.{Format}
+use Rattle.claim_decider.proofs.Prelude.{◌≡◌, ◌<◌, ◌≤◌, ◌⊎◌, inl, inr, ℕ, zero, suc, List, [], ◌∷◌, length, Result, Ok, Err, refl, sym, ap, subst, ◌∙◌, arith, cases_lt, Term, IsAdmissible, Made, Cofactors, Format, LemmaCertificate, ExpandFault, GatherFault, Cause, Place, expansion_of, gathered_of, Rule, State, ReduceFault, normal_form_of, Setting, RunState, Result_of_round, start, went, closed, stopped, IsCauseOf, IsRound, IsRunState, same_poly, cause_one, rounds_unique, states_unique, Outcome, IsCauseOfExpansion, IsCauseOfGathering, halted_at, IsHalted, record_of, Expands, Gathers, IsProved, IsLeft, IsDoneWith, IsDoneBy, IsDone, IsOpen, IsClosedWith, evidence_of_zero, GetsOutcome, at_once, after_round, by_closing, by_stop, OutcomesAreUnique}
 use Rattle.traced_rows.specs.declared.evidence.Format.TheVariants as format
-use Rattle.traced_rows.specs.declared.evidence.LemmaCertificate.{LemmaCertificate}
-use Rattle.cofactor_trace.specs.declared.fault.ExpandFault.{ExpandFault}
 use Rattle.cofactor_trace.specs.declared.fault.ExpandFault.TheVariants as expand
-use Rattle.cofactor_trace.specs.declared.fault.GatherFault.{GatherFault}
 use Rattle.cofactor_trace.specs.declared.fault.GatherFault.TheVariants as gather
-use Rattle.cofactor_trace.specs.declared.halt.Cause.{Cause}
-use Rattle.cofactor_trace.specs.declared.halt.Place.{Place}
 use Rattle.cofactor_trace.specs.declared.halt.Place.TheVariants as place
-use Rattle.cofactor_trace.specs.Needed.{expansion_of}
-use Rattle.cofactor_trace.specs.Lemmas.{gathered_of}
-use Rattle.rule_reduce.specs.declared.rule.Rule.{Rule}
-use Rattle.rule_reduce.specs.declared.state.State.{State}
-use Rattle.rule_reduce.specs.declared.fault.ReduceFault.{ReduceFault}
-use Rattle.rule_reduce.specs.NormalForms.{normal_form_of}
-use Rattle.traced_completion.specs.PlainRun.{Setting, RunState, Outcome as Result_of_round, start, went, closed, stopped, IsCauseOf, IsRound, IsRunState}
-use Rattle.traced_completion.proofs.UniqueRuns.{same_poly, cause_one, rounds_unique, states_unique}
-use Rattle.claim_decider.specs.declared.outcome.Outcome.{Outcome}
 use Rattle.claim_decider.specs.declared.outcome.Outcome.TheVariants as outcome
-use Rattle.claim_decider.specs.Outcomes.{IsCauseOfExpansion, IsCauseOfGathering, halted_at, IsHalted, record_of, Expands, Gathers, IsProved, IsLeft, IsDoneWith, IsDoneBy, IsDone, IsOpen, IsClosedWith, evidence_of_zero, GetsOutcome, at_once, after_round, by_closing, by_stop}
-use Rattle.claim_decider.specs.OutcomeLaws.{OutcomesAreUnique}
 
 -- after one round
 halted_once : (IsCause : Cause → Type 0) (at : Place) (one other : Outcome) → ((c d : Cause) → IsCause c → IsCause d → c ≡ d) → IsHalted IsCause at one → IsHalted IsCause at other → one ≡ other

@@ -1,16 +1,5 @@
 -- Claims have one list of last rules.
-use Rattle.std.proofs.Common.{◌≡◌, ◌≤◌, ◌⊎◌, inl, inr, ℕ, List, sym, ap, subst, ◌∙◌, arith}
-use Rattle.std.specs.List.{All}
-use Rattle.std.proofs.lemmas.List.Elements.{All-contains}
-use Rattle.nc_polynomial.specs.declared.poly.Poly.{Poly}
-use Rattle.word_orders.specs.Admissible.{IsAdmissible}
-use Rattle.traced_rows.specs.declared.evidence.Format.{Format}
-use Rattle.adjoint_rules.specs.declared.problem.Problem.{Problem}
-use Rattle.adjoint_rules.specs.Claims.{claim_at}
-use Rattle.traced_completion.specs.PlainRun.{Setting, RunState, IsRunState}
-use Rattle.traced_completion.proofs.UniqueRuns.{states_unique}
-use Rattle.claim_decider.specs.Decided.{GetsOutcomeBy, OneGetsOutcomeAt, AreLastRules, polynomials_in}
-use Rattle.claim_decider.specs.OutcomeLaws.{LastRulesAreUnique}
+use Rattle.claim_decider.proofs.Prelude.{◌≡◌, ◌≤◌, ◌⊎◌, inl, inr, ℕ, List, sym, ap, subst, ◌∙◌, arith, All, All-contains, Poly, IsAdmissible, Format, Problem, claim_at, Setting, RunState, IsRunState, states_unique, GetsOutcomeBy, OneGetsOutcomeAt, AreLastRules, polynomials_in, LastRulesAreUnique}
 use Rattle.claim_decider.proofs.UniqueOutcomes.{gets_once}
 
 module _ (letters : ℕ) (rank : List ℕ → List ℕ) (setting : Setting) (laws : IsAdmissible letters setting.compare rank) (form : Format) (problem : Problem) (numbers : List ℕ) where

@@ -1,19 +1,6 @@
 -- The rules of a basis whose polynomials may be rules: they are rules, of these polynomials.
-use Rattle.std.proofs.Common.{◌≡◌, ◌<ℤ◌, ℕ, pos, List, [], ◌∷◌, ◌++◌, option_to_list, Option, Some, None, IsSomeAnd, refl, ap, subst}
-use Rattle.std.specs.List.{All}
-use Rattle.std.specs.Option.{option_map}
-use Rattle.std.proofs.lemmas.List.Elements.{All-nil, All-cons, All-head, All-tail}
-use Rattle.coef_int.specs.Range.{IsCoefficient}
-use Rattle.definitions.specs.Poly.{Term}
-use Rattle.word_core.specs.Letters.{IsOver}
-use Rattle.word_orders.specs.Admissible.{Compare}
-use Rattle.nc_polynomial.specs.declared.poly.Poly.{Poly}
-use Rattle.rule_reduce.specs.declared.rule.Rule.{Rule}
-use Rattle.rule_reduce.specs.Leading.{leading_term}
-use Rattle.rule_reduce.specs.RuleLists.{IsRule, polynomials_of}
-use Rattle.rule_reduce.proofs.AtMost.{leading-all}
-use Rattle.adjoint_rules.specs.Problem.{polynomials}
-use Rattle.closed_checker.specs.Rests.{MayBeRule, rules_from}
+use Rattle.closed_checker.proofs.Prelude.{◌≡◌, ◌<ℤ◌, ℕ, pos, List, [], ◌∷◌, ◌++◌, option_to_list, Option, Some, None, refl, ap, subst, All, option_map, All-nil, All-cons, All-head, All-tail, IsCoefficient, Term, IsOver, Compare, Poly, Rule, leading_term, IsRule, polynomials_of, leading-all, polynomials, MayBeRule, rules_from}
+use Rattle.std.proofs.Common.{IsSomeAnd}
 
 module _ (compare : Compare) where
   abbrev rule_with : Poly → Term → Rule

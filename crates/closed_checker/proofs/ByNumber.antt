@@ -1,19 +1,5 @@
 -- The generators and the claims of a problem by their numbers: they are canonical, and their letters are letters of its quiver.
-use Rattle.std.proofs.Common.{◌≡◌, ◌≢◌, ◌≤◌, ℕ, zero, suc, pos, List, [], ◌∷◌, length, get_or, refl, sym, subst, arith}
-use Rattle.std.specs.List.{All}
-use Rattle.std.proofs.lemmas.List.Elements.{All-nil, All-head, All-tail}
-use Rattle.coef_int.specs.Range.{IsCoefficient}
-use Rattle.definitions.specs.Poly.{Term}
-use Rattle.definitions.specs.Combination.{generator_at}
-use Rattle.word_core.specs.Letters.{IsOver}
-use Rattle.nc_polynomial.specs.Limits.{word_limit}
-use Rattle.nc_polynomial.specs.Shape.{IsCanonical}
-use Rattle.nc_polynomial.specs.declared.poly.Poly.{Poly}
-use Rattle.nc_polynomial.proofs.Shapes.{IsDescending-from_recursion}
-use Rattle.quiver.specs.Declarations.{Declaration, letter_count}
-use Rattle.adjoint_rules.specs.declared.problem.Problem.{Problem}
-use Rattle.adjoint_rules.specs.Problem.{polynomials}
-use Rattle.quiver.specs.Over.{IsPolyOver}
+use Rattle.closed_checker.proofs.Prelude.{◌≡◌, ◌≢◌, ◌≤◌, ℕ, zero, suc, pos, List, [], ◌∷◌, length, get_or, refl, sym, subst, arith, All, All-nil, All-head, All-tail, IsCoefficient, Term, generator_at, IsOver, word_limit, IsCanonical, Poly, IsDescending-from_recursion, Declaration, letter_count, Problem, polynomials, IsPolyOver}
 use Rattle.closed_checker.proofs.ProblemLetters.{generators_over, claims_over}
 
 -- canonical

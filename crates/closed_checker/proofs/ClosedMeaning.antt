@@ -1,42 +1,5 @@
 -- What a closed basis means: its rules are resolved, the generators are in their rational ideal, and the claim is not.
-use Rattle.std.proofs.Common.{◌≡◌, ◌≢◌, ◌≤◌, ℕ, pos, List, [], ◌∷◌, length, Result, Ok, Err, refl, sym, ap, ◌∙◌, subst, arith}
-use Rattle.std.specs.List.{All}
-use Rattle.std.proofs.lemmas.List.{length-map}
-use Rattle.std.proofs.lemmas.List.Elements.{All-head}
-use Rattle.definitions.specs.Poly.{Term, coefficient_of}
-use Rattle.definitions.specs.Combination.{generator_at, InRationalIdeal}
-use Rattle.word_core.specs.Letters.{IsOver}
-use Rattle.word_orders.specs.Admissible.{Compare, IsAdmissible}
-use Rattle.word_orders.proofs.AskedOrders.{asked_rank}
-use Rattle.nc_polynomial.specs.Shape.{IsShaped}
-use Rattle.nc_polynomial.specs.declared.poly.Poly.{Poly}
-use Rattle.nc_polynomial.specs.declared.fault.PolyFault.{PolyFault}
-use Rattle.nc_polynomial.proofs.Distinct.{distinct-descending, first_coefficient}
-use Rattle.nc_polynomial.proofs.Shapes.{recursion_from_IsDescending}
-use Rattle.quiver.specs.Declarations.{letter_count}
-use Rattle.rule_reduce.specs.declared.rule.Rule.{Rule}
-use Rattle.rule_reduce.specs.declared.state.State.{State}
-use Rattle.rule_reduce.specs.declared.fault.ReduceFault.{ReduceFault}
-use Rattle.rule_reduce.specs.RuleLists.{IsRule, polynomials_of}
-use Rattle.rule_reduce.specs.NormalForms.{halt_of, normal_form_of}
-use Rattle.rule_reduce.proofs.WordsKept.{words_with_coefficients}
-use Rattle.ambiguities.specs.declared.ambiguity.Ambiguity.{Ambiguity}
-use Rattle.ambiguities.specs.Ambiguities.{IsAmbiguity}
-use Rattle.ambiguities.specs.SPolynomials.{s_polynomial_of}
-use Rattle.ambiguities.specs.Resolved.{IsResolved, Resolved}
-use Rattle.ambiguities.proofs.Balance.{s_polynomials_balance}
-use Rattle.ambiguities.proofs.Bounds.{over_terms}
-use Rattle.confluence.specs.Reductions.{IsZero, IsReduced, HasLettersBelow}
-use Rattle.confluence.proofs.Ideals.{all_from_numbers, ideals_stay_inside}
-use Rattle.confluence.proofs.RestLaws.{normal_forms_are_reduced, rests_of_ideal_are_zero, zero_rests_are_inside, zero_rests_are_resolved}
-use Rattle.confluence.proofs.ShapeLaws.{s_polynomials_are_shaped}
-use Rattle.adjoint_rules.specs.declared.problem.Problem.{Problem}
-use Rattle.adjoint_rules.specs.Problem.{polynomials}
-use Rattle.adjoint_rules.specs.declared.basis.Basis.{Basis}
-use Rattle.closed_checker.specs.Limits.{step_limit}
-use Rattle.closed_checker.specs.Rests.{order_of, rules_of, rest_in, rest_by, claim_of}
-use Rattle.closed_checker.specs.Closed.{IsReadableBasis, IsClosedBasis}
-use Rattle.closed_checker.specs.Laws.{ClosedMeans, ClosedBasesMeanOutside}
+use Rattle.closed_checker.proofs.Prelude.{◌≡◌, ◌≢◌, ◌≤◌, ℕ, pos, List, [], ◌∷◌, length, Result, Ok, Err, refl, sym, ap, ◌∙◌, subst, arith, All, length-map, All-head, Term, coefficient_of, generator_at, InRationalIdeal, IsOver, Compare, IsAdmissible, asked_rank, IsShaped, Poly, PolyFault, distinct-descending, first_coefficient, recursion_from_IsDescending, letter_count, Rule, State, ReduceFault, IsRule, polynomials_of, halt_of, normal_form_of, words_with_coefficients, Ambiguity, IsAmbiguity, s_polynomial_of, IsResolved, Resolved, s_polynomials_balance, over_terms, IsZero, IsReduced, HasLettersBelow, all_from_numbers, ideals_stay_inside, normal_forms_are_reduced, rests_of_ideal_are_zero, zero_rests_are_inside, zero_rests_are_resolved, s_polynomials_are_shaped, Problem, polynomials, Basis, step_limit, order_of, rules_of, rest_in, rest_by, claim_of, IsReadableBasis, IsClosedBasis, ClosedMeans, ClosedBasesMeanOutside}
 use Rattle.closed_checker.proofs.BasisRules.{rules_from-same, rules_from-are}
 use Rattle.closed_checker.proofs.ByNumber.{canonical_at, generator_over, claim_over}
 use Rattle.closed_checker.proofs.PartOrder.{order_laws}

@@ -1,10 +1,5 @@
 -- The ends of a sorted table: where the last word has a rank below the bound each has, and where the first has none, none has.
-use Rattle.std.proofs.Common.{◌≡◌, ℕ, ◌-◌, ◌<◌, ◌≤◌, List, length, get_or, slice_get, Some, ap, arith}
-use Rattle.std.specs.List.Sorted.{IsNonDecreasingBy}
-use Rattle.std.proofs.lemmas.Bool.{lt-ltb, le-ltb}
-use Rattle.std.proofs.lemmas.Option.{get_or_from_slice_get}
-use Rattle.closed_checker.specs.declared.table.Lead.{Lead}
-use Rattle.closed_checker.specs.Table.{IsRankPoint, rank_at}
+use Rattle.closed_checker.proofs.Prelude.{◌≡◌, ℕ, ◌-◌, ◌<◌, ◌≤◌, List, length, get_or, slice_get, Some, ap, arith, IsNonDecreasingBy, lt-ltb, le-ltb, get_or_from_slice_get, Lead, IsRankPoint, rank_at}
 
 module _ (depth bound : ℕ) (leads : List Lead) where
   module _ (sorted : IsNonDecreasingBy (λ l. rank_at depth l.letters) leads) (l : Lead) where

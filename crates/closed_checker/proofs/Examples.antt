@@ -1,19 +1,6 @@
 -- Two rules of words in the letters s = 1 and t = 3 in the canonical order, worked out by hand: t t - s, which leaves t s - s t of its overlap with
 -- itself, and that one, with which nothing is left.
-use Rattle.std.proofs.Common.{◌≡◌, ◌<ℤ◌, pos, negsuc, List, [], ◌∷◌, Ok, refl, arith}
-use Rattle.std.specs.Option.{IsSomeAnd}
-use Rattle.definitions.specs.Poly.{Term}
-use Rattle.word_core.specs.Canonical.{word_cmp}
-use Rattle.nc_polynomial.specs.Shape.{IsCanonical}
-use Rattle.nc_polynomial.specs.declared.poly.Poly.{Poly}
-use Rattle.rule_reduce.specs.declared.rule.Rule.{Rule}
-use Rattle.rule_reduce.specs.Leading.{leading_term}
-use Rattle.ambiguities.specs.declared.ambiguity.Kind.TheVariants.{Overlap}
-use Rattle.ambiguities.specs.declared.ambiguity.Ambiguity.{Ambiguity}
-use Rattle.ambiguities.specs.SPolynomials.{s_polynomial_of}
-use Rattle.confluence.proofs.WrittenTerms.{shaped_as_written, canonical_as_written}
-use Rattle.closed_checker.specs.Limits.{step_limit}
-use Rattle.closed_checker.specs.Rests.{rules_from, rest_by, MayBeRule}
+use Rattle.closed_checker.proofs.Prelude.{◌≡◌, ◌<ℤ◌, pos, negsuc, List, [], ◌∷◌, Ok, refl, arith, IsSomeAnd, Term, word_cmp, IsCanonical, Poly, Rule, leading_term, Overlap, Ambiguity, s_polynomial_of, shaped_as_written, canonical_as_written, step_limit, rules_from, rest_by, MayBeRule}
 
 abbrev square_terms : List Term
 square_terms = (pos 1, 3 ∷ 3 ∷ []) ∷ (negsuc 0, 1 ∷ []) ∷ []

@@ -1,13 +1,5 @@
 -- Words that begin with the same letters.
-use Rattle.std.proofs.Common.{◌≡◌, ◌↔◌, ℕ, suc, ◌<◌, ◌≤◌, true, false, List, [], ◌∷◌, ◌++◌, length, take, drop, refl, sym, ap, ap₂, ◌∙◌, arith}
-use Rattle.std.specs.Cmp.{nat_cmp_is}
-use Rattle.std.specs.Cmp.Lexicographic.{slice_cmp}
-use Rattle.std.specs.Ordering.{is_lt, nat_cmp, ordering_then}
-use Rattle.std.specs.declared.cmp.Ordering.{Ordering}
-use Rattle.std.specs.declared.cmp.Ordering.TheVariants.{Less, Equal, Greater}
-use Rattle.std.proofs.lemmas.Cmp.{ranked}
-use Rattle.std.proofs.lemmas.List.{append-nil, take-append-drop, length-drop, length-take-le, drop_all, take_all, take-take}
-use Rattle.closed_checker.specs.Table.{rank_of, rank_at}
+use Rattle.closed_checker.proofs.Prelude.{◌≡◌, ◌↔◌, ℕ, suc, ◌<◌, ◌≤◌, true, false, List, [], ◌∷◌, ◌++◌, length, take, drop, refl, sym, ap, ap₂, ◌∙◌, arith, nat_cmp_is, slice_cmp, is_lt, nat_cmp, ordering_then, Ordering, Less, Equal, Greater, ranked, append-nil, take-append-drop, length-drop, length-take-le, drop_all, take_all, take-take, rank_of, rank_at}
 
 -- the word begins with these letters
 abbrev pub BeginsWith : List ℕ → List ℕ → Type 0

@@ -1,38 +1,14 @@
 -- Each basis has exactly one outcome: it is closed, or one of its tests is the first that fails.
-use Rattle.std.proofs.Common.{◌≡◌, ◌≢◌, ◌⊎◌, inl, inr, ◌<◌, ◌≤◌, ℕ, ◌+◌, ◌-◌, Bool, true, false, List, [], ◌∷◌, length, take, get_or, slice_get, Some, Result, Ok, Err, IfErr, All, Contains, refl, sym, ap}
-use Rattle.std.proofs.Common.{◌∙◌, subst, arith}
+use Rattle.closed_checker.proofs.Prelude.{◌≡◌, ◌≢◌, ◌⊎◌, inl, inr, ◌<◌, ◌≤◌, ℕ, ◌+◌, ◌-◌, Bool, true, false, List, [], ◌∷◌, length, take, get_or, slice_get, Some, Result, Ok, Err, IfErr, refl, sym, ap, ◌∙◌, subst, arith, int_eq, Decides-int_eq, get_or-take, length-take-le, slice_get-get_or, get_or_from_slice_get, Term, word_eq, word_eq-same, word_eq-true, IsDecided, decided_by, both_decided, le_decided, HasOneOutcome, PassUpTo, FailsFirst, FirstNot, not_each, one_test, then_test, item_test, each_test, tests_up_to, reworded, asked_rank, IsCanonical, Poly, Cause, ReduceFault, Ambiguity, IsBeforeByWord, CanBeListed, Problem, Basis, Part, ClosedRefusal, order_of, rules_of, rest_of, MayBeRule, NamesClaim, HasRules, LeavesZero, IsClosedBasis, ComesBefore, Reaches, LacksRule, IsCauseOf, Refuses, GeneratorsPass, AmbiguitiesPass, EachBasisIsJudged, BasisRefusalIsUnique, ClosedBasisIsNotRefused, Gives}
+use Rattle.std.proofs.Common.{All, Contains}
 use Rattle.std.proofs.Props as std
-use Rattle.std.specs.Ordering.{int_eq}
-use Rattle.std.proofs.lemmas.Bool.Decides.{Decides-int_eq}
-use Rattle.std.proofs.lemmas.List.{get_or-take, length-take-le}
-use Rattle.std.proofs.lemmas.Option.{slice_get-get_or, get_or_from_slice_get}
-use Rattle.definitions.specs.Poly.{Term, word_eq}
-use Rattle.definitions.proofs.Linear.{word_eq-same, word_eq-true}
-use Rattle.lists.proofs.Decided.{IsDecided, decided_by, both_decided, le_decided}
-use Rattle.lists.proofs.FirstFailure.{HasOneOutcome, PassUpTo, FailsFirst, FirstNot, not_each, one_test, then_test, item_test, each_test, tests_up_to, reworded}
-use Rattle.word_orders.proofs.AskedOrders.{asked_rank}
-use Rattle.nc_polynomial.specs.Shape.{IsCanonical}
-use Rattle.nc_polynomial.specs.declared.poly.Poly.{Poly}
-use Rattle.cofactor_trace.specs.declared.halt.Cause.{Cause}
 use Rattle.cofactor_trace.specs.declared.halt.Cause.TheVariants as cause
-use Rattle.rule_reduce.specs.declared.fault.ReduceFault.{ReduceFault}
 use Rattle.rule_reduce.specs.declared.fault.ReduceFault.TheVariants as halt
 use Rattle.rule_reduce.specs.NormalForms as reduce
-use Rattle.ambiguities.specs.declared.ambiguity.Ambiguity.{Ambiguity}
-use Rattle.ambiguities.specs.Order.{IsBeforeByWord}
-use Rattle.closed_checker.specs.ListLaws.{CanBeListed}
 use Rattle.closed_checker.proofs.Lists.{ambiguities_can_be_listed}
-use Rattle.adjoint_rules.specs.declared.problem.Problem.{Problem}
-use Rattle.adjoint_rules.specs.declared.basis.Basis.{Basis}
-use Rattle.closed_checker.specs.declared.part.Part.{Part}
 use Rattle.closed_checker.specs.declared.part.Part.TheVariants as part
-use Rattle.closed_checker.specs.declared.refusal.ClosedRefusal.{ClosedRefusal}
 use Rattle.closed_checker.specs.declared.refusal.ClosedRefusal.TheVariants as refusal
-use Rattle.closed_checker.specs.Rests.{order_of, rules_of, rest_of, MayBeRule}
-use Rattle.closed_checker.specs.Closed.{NamesClaim, HasRules, LeavesZero, IsClosedBasis, ComesBefore, Reaches, LacksRule, IsCauseOf, Refuses, IsMemory}
-use Rattle.closed_checker.specs.Working.{GeneratorsPass, AmbiguitiesPass}
-use Rattle.closed_checker.specs.Laws.{EachBasisIsJudged, BasisRefusalIsUnique, ClosedBasisIsNotRefused}
-use Rattle.confluence.proofs.ShapeLaws.{Gives}
+use Rattle.closed_checker.specs.Closed.{IsMemory}
 use Rattle.closed_checker.proofs.PartOrder.{order_laws}
 use Rattle.closed_checker.proofs.PartRests.{rest_gives}
 use Rattle.closed_checker.proofs.Passing.{generator_reached, ambiguity_reached, claim_reached}

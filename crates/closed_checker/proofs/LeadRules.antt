@@ -1,18 +1,5 @@
 -- The words of a table are leading words of rules, and their ambiguities those of the rules.
-use Rattle.std.proofs.Common.{◌≢◌, ℕ, ◌<◌, ◌≤◌, ◌^◌, List, length, refl, sym, ap, ◌∙◌, subst, arith}
-use Rattle.std.specs.List.{All, Contains}
-use Rattle.std.proofs.lemmas.List.Elements.{All-weaker, All-contains_itself}
-use Rattle.word_orders.specs.Admissible.{Compare}
-use Rattle.rule_reduce.specs.declared.rule.Rule.{Rule}
-use Rattle.rule_reduce.specs.RuleLists.{IsRule, rule_at}
-use Rattle.rule_reduce.proofs.Numbers.{rule_at-all}
-use Rattle.ambiguities.specs.declared.ambiguity.Ambiguity.{Ambiguity}
-use Rattle.ambiguities.specs.Ambiguities.{MeetsAs, IsAmbiguity}
-use Rattle.ambiguities.proofs.Exactly.{exactly-same}
-use Rattle.ambiguities.proofs.Leads.{short_leads, nonempty_leads}
-use Rattle.closed_checker.specs.declared.table.Lead.{Lead}
-use Rattle.closed_checker.specs.Table.{IsLeadOf, IsTableOf}
-use Rattle.closed_checker.specs.Finding.{ListsEachOnce, IsOfFirsts}
+use Rattle.closed_checker.proofs.Prelude.{◌≢◌, ℕ, ◌<◌, ◌≤◌, ◌^◌, List, length, refl, sym, ap, ◌∙◌, subst, arith, All, Contains, All-weaker, All-contains_itself, Compare, Rule, IsRule, rule_at, rule_at-all, Ambiguity, MeetsAs, IsAmbiguity, exactly-same, short_leads, nonempty_leads, Lead, IsLeadOf, IsTableOf, ListsEachOnce, IsOfFirsts}
 use Rattle.closed_checker.proofs.Tables.{leading, numbered-lead}
 
 module _ (rules : List Rule) (table : List Lead) (of : IsTableOf rules table) where

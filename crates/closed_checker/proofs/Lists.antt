@@ -1,18 +1,5 @@
 -- The ambiguities of any rules can be listed in order, and in one way.
-use Rattle.std.proofs.Common.{◌≡◌, ◌⊎◌, inl, inr, List, map, refl, ap, subst}
-use Rattle.std.specs.List.{Contains}
-use Rattle.word_orders.specs.Admissible.{Compare}
-use Rattle.rule_reduce.specs.declared.rule.Rule.{Rule}
-use Rattle.ambiguities.specs.declared.ambiguity.Ambiguity.{Ambiguity}
-use Rattle.ambiguities.specs.declared.waiting.Waiting.{Waiting}
-use Rattle.ambiguities.specs.Ambiguities.{IsAmbiguity}
-use Rattle.ambiguities.specs.Order.{IsWaitingBefore, IsBeforeByWord, AreAllInOrder, AreInOrder, waiting_of}
-use Rattle.ambiguities.proofs.Ascending.{Image, ascending-same, contains-image, contains-map, pairs-map}
-use Rattle.ambiguities.proofs.Candidates.{ambiguity_decided, candidates, in_candidates}
-use Rattle.ambiguities.proofs.Comparing.{not_before_itself, not_before_each_other, before_trans, before_compared}
-use Rattle.ambiguities.proofs.Sorted.{listing}
-use Rattle.closed_checker.specs.Finding.{ListsEachOnce}
-use Rattle.closed_checker.specs.ListLaws.{AmbiguitiesCanBeListed, ListsAreUnique}
+use Rattle.closed_checker.proofs.Prelude.{◌≡◌, ◌⊎◌, inl, inr, List, map, refl, ap, subst, Contains, Compare, Rule, Ambiguity, Waiting, IsAmbiguity, IsWaitingBefore, IsBeforeByWord, AreAllInOrder, AreInOrder, waiting_of, Image, ascending-same, contains-image, contains-map, pairs-map, ambiguity_decided, candidates, in_candidates, not_before_itself, not_before_each_other, before_trans, before_compared, listing, ListsEachOnce, AmbiguitiesCanBeListed, ListsAreUnique}
 
 -- the ambiguities of a list that is in order, without their words
 pub all-in_order : (compare : Compare) (rules : List Rule) (found : List Ambiguity) (items : List Waiting) → ListsEachOnce (IsAmbiguity rules) found

@@ -1,20 +1,6 @@
 -- The rules of a basis, one polynomial after another.
-use Rattle.std.proofs.Common.{◌≡◌, ◌<◌, ◌<ℤ◌, ℕ, ◌+◌, pos, List, [], ◌∷◌, ◌++◌, length, take, get_or, Option, Some, None, option_to_list, refl, sym, ap, ◌∙◌, append-nil}
-use Rattle.std.specs.List.{All}
-use Rattle.std.specs.Option.{option_map, IsSomeAnd}
-use Rattle.std.proofs.lemmas.List.{take_more}
-use Rattle.std.proofs.lemmas.List.Concat.{flat_map-append}
-use Rattle.std.proofs.lemmas.Option.{slice_get_read}
-use Rattle.definitions.specs.Poly.{Term}
-use Rattle.word_orders.specs.Admissible.{Compare}
-use Rattle.nc_polynomial.specs.declared.poly.Poly.{Poly}
-use Rattle.rule_reduce.specs.declared.rule.Rule.{Rule}
-use Rattle.rule_reduce.specs.Leading.{leading_term}
-use Rattle.rule_reduce.specs.RuleLists.{rule_from}
-use Rattle.adjoint_rules.specs.declared.problem.Problem.{Problem}
-use Rattle.adjoint_rules.specs.declared.basis.Basis.{Basis}
-use Rattle.closed_checker.specs.Rests.{order_of, rules_from, MayBeRule}
-use Rattle.closed_checker.specs.Closed.{NamesClaim, LacksRule}
+use Rattle.closed_checker.proofs.Prelude.{◌≡◌, ◌<◌, ◌<ℤ◌, ℕ, ◌+◌, pos, List, [], ◌∷◌, ◌++◌, length, take, get_or, Option, Some, None, option_to_list, refl, sym, ap, ◌∙◌, All, option_map, IsSomeAnd, take_more, flat_map-append, slice_get_read, Term, Compare, Poly, Rule, leading_term, rule_from, Problem, Basis, order_of, rules_from, MayBeRule, NamesClaim, LacksRule}
+use Rattle.std.proofs.Common.{append-nil}
 
 module _ (compare : Compare) where
   abbrev made : Poly → List Rule

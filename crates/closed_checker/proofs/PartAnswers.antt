@@ -1,25 +1,8 @@
 -- What reductions leave, as what is left of a part of the check.
-use Rattle.std.proofs.Common.{◌≡◌, ◌≤◌, ℕ, zero, suc, ◌-◌, List, [], ◌∷◌, length, get_or, slice_get, Option, Some, Result, Ok, ap, sym, subst, ◌∙◌, arith}
-use Rattle.definitions.specs.Poly.{Term}
-use Rattle.definitions.specs.Combination.{generator_at}
-use Rattle.word_orders.specs.Admissible.{Compare}
-use Rattle.word_orders.specs.Specified.{made_cmp}
-use Rattle.word_orders.specs.declared.any.AnyOrder.{AnyOrder}
-use Rattle.nc_polynomial.specs.declared.poly.Poly.{Poly}
-use Rattle.nc_polynomial.specs.declared.fault.PolyFault.{PolyFault}
+use Rattle.closed_checker.proofs.Prelude.{◌≡◌, ◌≤◌, ℕ, zero, suc, ◌-◌, List, [], ◌∷◌, length, get_or, slice_get, Option, Some, Result, Ok, ap, sym, subst, ◌∙◌, arith, Term, generator_at, Compare, made_cmp, AnyOrder, Poly, PolyFault, Rule, ReduceFault, halt_of, Problem, polynomials, Basis, Part, order_of, rules_of, claim_of, rest_by, rest_of, IsNumberUpTo, IsPart, Reaches, AreRulesOf, Explains, IsAnswer}
 use Rattle.nc_polynomial.specs.declared.fault.PolyFault.TheVariants as fault
 use Rattle.nc_polynomial.specs.Faults as poly
-use Rattle.rule_reduce.specs.declared.rule.Rule.{Rule}
-use Rattle.rule_reduce.specs.declared.fault.ReduceFault.{ReduceFault}
-use Rattle.rule_reduce.specs.NormalForms.{halt_of}
-use Rattle.adjoint_rules.specs.declared.problem.Problem.{Problem}
-use Rattle.adjoint_rules.specs.Problem.{polynomials}
-use Rattle.adjoint_rules.specs.declared.basis.Basis.{Basis}
-use Rattle.closed_checker.specs.declared.part.Part.{Part}
 use Rattle.closed_checker.specs.declared.part.Part.TheVariants as part
-use Rattle.closed_checker.specs.Rests.{order_of, rules_of, claim_of, rest_by, rest_of}
-use Rattle.closed_checker.specs.Closed.{IsNumberUpTo, IsPart, Reaches}
-use Rattle.closed_checker.specs.Working.{AreRulesOf, Explains, IsAnswer}
 
 pub explains_made : (compare : Compare) (rules : List Rule) (r : Result (List Term) PolyFault) (f : PolyFault) → poly.Explains r f → Explains (rest_by compare rules r) (halt_of f)
 explains_made compare rules r (fault.Overflow o) is = ap (rest_by compare rules) is

@@ -1,23 +1,8 @@
 -- What is left of a part of the check is a polynomial, or there is a fault that isn't want of memory.
-use Rattle.std.proofs.Common.{List, Result, Ok, Err}
-use Rattle.definitions.specs.Poly.{Term}
-use Rattle.word_orders.specs.Admissible.{Compare}
-use Rattle.nc_polynomial.specs.declared.fault.PolyFault.{PolyFault}
+use Rattle.closed_checker.proofs.Prelude.{List, Result, Ok, Err, Term, Compare, PolyFault, IsMemory, IsCanonical, Rule, State, ReduceFault, halt_of, normal_form_of, Problem, Basis, Part, step_limit, rest_in, rest_by, polynomial_of, rest_of, rules_of, order_of, Makes, Gives, s_polynomial_makes, normal_form_gives}
 use Rattle.nc_polynomial.specs.declared.fault.PolyFault.TheVariants as fault
-use Rattle.nc_polynomial.specs.Faults.{IsMemory}
-use Rattle.nc_polynomial.specs.Shape.{IsCanonical}
-use Rattle.rule_reduce.specs.declared.rule.Rule.{Rule}
-use Rattle.rule_reduce.specs.declared.state.State.{State}
-use Rattle.rule_reduce.specs.declared.fault.ReduceFault.{ReduceFault}
-use Rattle.rule_reduce.specs.NormalForms.{halt_of, normal_form_of}
 use Rattle.rule_reduce.specs.NormalForms as reduce
-use Rattle.adjoint_rules.specs.declared.problem.Problem.{Problem}
-use Rattle.adjoint_rules.specs.declared.basis.Basis.{Basis}
-use Rattle.closed_checker.specs.declared.part.Part.{Part}
 use Rattle.closed_checker.specs.declared.part.Part.TheVariants as part
-use Rattle.closed_checker.specs.Limits.{step_limit}
-use Rattle.closed_checker.specs.Rests.{rest_in, rest_by, polynomial_of, rest_of, rules_of, order_of}
-use Rattle.confluence.proofs.ShapeLaws.{Makes, Gives, s_polynomial_makes, normal_form_gives}
 use Rattle.closed_checker.proofs.ByNumber.{canonical_at}
 
 -- what is reduced

@@ -1,27 +1,6 @@
 -- The parts of the check, one after another.
-use Rattle.std.proofs.Common.{◌≡◌, ◌≢◌, ◌⊎◌, inl, inr, ℕ, ◌+◌, ◌<◌, ◌≤◌, List, [], ◌∷◌, length, take, get_or, Ok, refl, sym, ap, subst, ◌∙◌, arith}
-use Rattle.std.specs.Cmp.{IsTotalOrder}
-use Rattle.std.specs.List.{All, Contains}
-use Rattle.std.proofs.lemmas.Bool.{cases_lt}
-use Rattle.std.proofs.lemmas.List.{get_or-take, length-take-le}
-use Rattle.std.proofs.lemmas.List.Elements.{All-contains, at_read}
-use Rattle.std.proofs.lemmas.Option.{slice_get-get_or, get_or_from_slice_get}
-use Rattle.definitions.specs.Poly.{Term}
-use Rattle.word_orders.specs.Admissible.{Compare}
-use Rattle.word_orders.specs.Specified.{made_cmp}
-use Rattle.word_orders.specs.declared.any.AnyOrder.{AnyOrder}
-use Rattle.word_orders.proofs.AskedOrders.{asked_cmp-admissible}
-use Rattle.rule_reduce.specs.declared.rule.Rule.{Rule}
-use Rattle.ambiguities.specs.declared.ambiguity.Ambiguity.{Ambiguity}
-use Rattle.ambiguities.specs.Order.{IsBeforeByWord, AreAllInOrder, waiting_of}
-use Rattle.ambiguities.proofs.Comparing.{not_before_itself, not_before_each_other}
-use Rattle.adjoint_rules.specs.declared.problem.Problem.{Problem}
-use Rattle.adjoint_rules.specs.declared.basis.Basis.{Basis}
-use Rattle.closed_checker.specs.declared.part.Part.{Part}
+use Rattle.closed_checker.proofs.Prelude.{◌≡◌, ◌≢◌, ◌⊎◌, inl, inr, ℕ, ◌+◌, ◌<◌, ◌≤◌, List, [], ◌∷◌, length, take, get_or, Ok, refl, sym, ap, subst, ◌∙◌, arith, IsTotalOrder, All, Contains, cases_lt, get_or-take, length-take-le, All-contains, at_read, slice_get-get_or, get_or_from_slice_get, Term, Compare, made_cmp, AnyOrder, asked_cmp-admissible, Rule, Ambiguity, IsBeforeByWord, AreAllInOrder, waiting_of, not_before_itself, not_before_each_other, Problem, Basis, Part, order_of, rules_of, rest_of, HasRules, IsPart, ComesBefore, LeavesZero, Reaches, AreRulesOf, GeneratorsPass, AmbiguitiesPass}
 use Rattle.closed_checker.specs.declared.part.Part.TheVariants as part
-use Rattle.closed_checker.specs.Rests.{order_of, rules_of, rest_of}
-use Rattle.closed_checker.specs.Closed.{HasRules, IsPart, ComesBefore, LeavesZero, Reaches}
-use Rattle.closed_checker.specs.Working.{AreRulesOf, GeneratorsPass, AmbiguitiesPass}
 
 -- what is left
 pub some_left : (p : List Term) → 0 < length p → p ≢ []

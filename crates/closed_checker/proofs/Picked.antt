@@ -1,15 +1,5 @@
 -- Lists with exactly the items that have a property: of the items that pass a test, and what is added to one.
-use Rattle.std.proofs.Common.{◌≡◌, ◌≢◌, ◌↔◌, ◌⊎◌, inl, inr, ℕ, ◌+◌, ◌<◌, Bool, true, false, cond, List, [], ◌∷◌, ◌++◌, length, take, get_or, filter, refl, sym, ap, ◌∙◌, subst, arith}
-use Rattle.std.specs.Bool.{Decides}
-use Rattle.std.specs.List.{Contains}
-use Rattle.std.proofs.lemmas.List.{append-nil, append_assoc, take_more}
-use Rattle.std.proofs.lemmas.List.Elements.{All-contains, All-contains_itself, All-filter, filter_passes, Contains-append_left, Contains-push, Contains-push_cases}
-use Rattle.std.proofs.lemmas.List.Kept.{AllPairs-filter}
-use Rattle.ambiguities.specs.declared.ambiguity.Ambiguity.{Ambiguity}
-use Rattle.ambiguities.specs.Listed.{ListsExactly}
-use Rattle.ambiguities.proofs.Exactly.{exactly-one, exactly-append, exactly-same}
-use Rattle.closed_checker.specs.Finding.{IsAdded}
-use Rattle.ambiguities.proofs.Ascending.{contains-cases, contains-first, contains-rest}
+use Rattle.closed_checker.proofs.Prelude.{◌≡◌, ◌≢◌, ◌↔◌, ◌⊎◌, inl, inr, ℕ, ◌+◌, ◌<◌, Bool, true, false, cond, List, [], ◌∷◌, ◌++◌, length, take, get_or, filter, refl, sym, ap, ◌∙◌, subst, arith, Decides, Contains, append-nil, append_assoc, take_more, All-contains, All-contains_itself, All-filter, filter_passes, Contains-append_left, Contains-push, Contains-push_cases, AllPairs-filter, Ambiguity, ListsExactly, exactly-one, exactly-append, exactly-same, IsAdded, contains-cases, contains-first, contains-rest}
 
 module _ {X : Type 0} (p : X → Bool) where
   kept-first : (x y : X) (xs : List X) → p y ≡ true → y ≡ x → Contains (cond (p y) (y ∷ xs) xs) x

@@ -1,22 +1,5 @@
 -- The letters of a problem's generators and of its claims are letters of its quiver.
-use Rattle.std.proofs.Common.{◌≡◌, ◌≤◌, ◌<◌, ℕ, true, List, [], ◌∷◌, slice_get, Some, subst, arith}
-use Rattle.std.specs.List.{All, AllByRecursion}
-use Rattle.std.proofs.lemmas.List.Elements.{All-nil, All-cons, All-weaker}
-use Rattle.std.proofs.lemmas.Option.{slice_get_within, get_or_from_slice_get}
-use Rattle.definitions.specs.Poly.{Term}
-use Rattle.definitions.specs.Quiver.{Quiver, letters, source, leads, is_path}
-use Rattle.definitions.specs.Soundness.{HasSignature}
-use Rattle.definitions.proofs.Paths.{step}
-use Rattle.word_core.specs.Letters.{IsOver}
-use Rattle.nc_polynomial.specs.declared.poly.Poly.{Poly}
-use Rattle.nc_polynomial.proofs.Distinct.{distinct-descending, words_listed}
-use Rattle.nc_polynomial.proofs.Shapes.{recursion_from_IsDescending}
-use Rattle.quiver.specs.Declarations.{Declaration, letter_count, quiver_of}
-use Rattle.quiver.proofs.Counts.{letters-quiver_of}
-use Rattle.adjoint_rules.specs.declared.problem.Problem.{Problem}
-use Rattle.adjoint_rules.specs.Problem.{polynomials}
-use Rattle.adjoint_rules.proofs.Generators.{claims_have_signatures, generators_have_signatures}
-use Rattle.quiver.specs.Over.{IsPolyOver}
+use Rattle.closed_checker.proofs.Prelude.{◌≡◌, ◌≤◌, ◌<◌, ℕ, true, List, [], ◌∷◌, slice_get, Some, subst, arith, All, AllByRecursion, All-nil, All-cons, All-weaker, slice_get_within, get_or_from_slice_get, Term, Quiver, letters, source, leads, is_path, HasSignature, step, IsOver, Poly, distinct-descending, words_listed, recursion_from_IsDescending, Declaration, letter_count, quiver_of, letters-quiver_of, Problem, polynomials, claims_have_signatures, generators_have_signatures, IsPolyOver}
 
 -- paths
 leads_over : (q : Quiver) (u v : ℕ) (w : List ℕ) → leads q u v w ≡ true → IsOver (letters q) w

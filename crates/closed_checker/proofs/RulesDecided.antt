@@ -1,18 +1,6 @@
 -- Whether a polynomial may be a rule is decided.
-use Rattle.std.proofs.Common.{inl, inr, ◌<◌, ◌<ℤ◌, ℕ, zero, suc, ℤ, pos, negsuc, List, [], ◌∷◌, length, Option, Some, None}
-use Rattle.std.proofs.Common.{IsSomeAnd, arith}
-use Rattle.std.specs.List.{All}
-use Rattle.std.proofs.lemmas.Int.{ints}
-use Rattle.std.proofs.lemmas.List.Elements.{All-nil, All-cons, All-tail}
-use Rattle.definitions.specs.Poly.{Term}
-use Rattle.lists.proofs.Decided.{IsDecided, decided_by, both_decided}
-use Rattle.word_orders.specs.Admissible.{Compare}
-use Rattle.nc_polynomial.specs.Content.{IsContent}
-use Rattle.nc_polynomial.specs.declared.poly.Poly.{Poly}
-use Rattle.rule_reduce.specs.Leading.{leading_term}
-use Rattle.rule_reduce.proofs.MadeRules.{one_content}
-use Rattle.confluence.proofs.Contents.{has_content}
-use Rattle.closed_checker.specs.Rests.{MayBeRule}
+use Rattle.closed_checker.proofs.Prelude.{inl, inr, ◌<◌, ◌<ℤ◌, ℕ, zero, suc, ℤ, pos, negsuc, List, [], ◌∷◌, length, Option, Some, None, arith, All, ints, All-nil, All-cons, All-tail, Term, IsDecided, decided_by, both_decided, Compare, IsContent, Poly, leading_term, one_content, has_content, MayBeRule}
+use Rattle.std.proofs.Common.{IsSomeAnd}
 
 -- content, sign and words
 primitive_decided : (p : List Term) → IsDecided (IsContent p (pos 1))

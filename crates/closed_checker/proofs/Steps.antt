@@ -1,17 +1,6 @@
 -- One letter of the walk, and its end, as the code takes them.
-use Rattle.std.proofs.Common.{◌≡◌, ℕ, suc, ◌+◌, ◌-◌, ◌<◌, not, nat_eq, List, [], length, take, drop, get_or, filter, ap, ◌∙◌, subst, arith}
-use Rattle.std.specs.List.{All, AllPairs}
-use Rattle.std.specs.List.Sorted.{IsNonDecreasingBy}
-use Rattle.std.proofs.lemmas.Bool.Decides.{Decides-eqb}
-use Rattle.std.proofs.lemmas.List.{length-take-le, length-drop, take_more, take_all}
-use Rattle.ambiguities.specs.declared.ambiguity.Kind.TheVariants.{Overlap, Inclusion}
-use Rattle.ambiguities.specs.declared.ambiguity.Ambiguity.{Ambiguity}
-use Rattle.ambiguities.specs.Listed.{ListsExactly}
-use Rattle.ambiguities.proofs.Exactly.{exactly-all}
-use Rattle.closed_checker.specs.declared.table.Lead.{Lead}
-use Rattle.closed_checker.specs.Table.{StandsBefore, rank_at}
+use Rattle.closed_checker.proofs.Prelude.{◌≡◌, ℕ, suc, ◌+◌, ◌-◌, ◌<◌, not, nat_eq, List, [], length, take, drop, get_or, filter, ap, ◌∙◌, subst, arith, All, AllPairs, IsNonDecreasingBy, Decides-eqb, length-take-le, length-drop, take_more, take_all, Overlap, Inclusion, Ambiguity, ListsExactly, exactly-all, Lead, StandsBefore, rank_at, IsAdded, IsWith, IsOfFirst}
 use Rattle.closed_checker.proofs.Fronts.{BeginsWith}
-use Rattle.closed_checker.specs.Finding.{IsAdded, IsWith, IsOfFirst}
 use Rattle.closed_checker.proofs.Tables.{ranks-ascend}
 use Rattle.closed_checker.proofs.Walking.{IsGoing, IsEnded, IsLonger, IsIncluded, walk-narrow, walk-part, some_rank, included-more, at_first, cut_off, at_end}
 

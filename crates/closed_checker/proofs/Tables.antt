@@ -1,24 +1,5 @@
 -- Tables of leading words: how they are made, and what their parts are.
-use Rattle.std.proofs.Common.{◌≡◌, ◌≢◌, ◌⊎◌, inl, inr, ℕ, suc, ◌+◌, ◌<◌, ◌≤◌, nat_eq, List, [], ◌∷◌, ◌++◌, length, map, get_or, Option, Some, None, refl, sym, ap, ◌∙◌, subst, arith}
-use Rattle.std.specs.Cmp.Lexicographic.{slice_cmp}
-use Rattle.std.specs.List.{All, AllPairs, Contains}
-use Rattle.std.specs.List.Sorted.{IsNonDecreasingBy, IsPermutation, IsSorted}
-use Rattle.std.specs.Option.{option_map}
-use Rattle.std.specs.Ordering.{is_lt, nat_cmp, on}
-use Rattle.std.proofs.lemmas.Bool.{cases_lt}
-use Rattle.std.proofs.lemmas.Bool.Decides.{Decides-eqb}
-use Rattle.std.proofs.lemmas.Cmp.{nat_list_cmp_total}
-use Rattle.std.proofs.lemmas.List.{length-map, get_or-map}
-use Rattle.std.proofs.lemmas.List.Sorted.{Contains-permutation, IsPermutation-map, IsPermutation-sym, sorted_far, ranks_by}
-use Rattle.std.proofs.lemmas.Option.{same_Some, slice_get-get_or}
-use Rattle.rule_reduce.specs.declared.rule.Rule.{Rule}
-use Rattle.rule_reduce.specs.RuleLists.{rule_at}
-use Rattle.ambiguities.specs.Listed.{ListsExactly}
-use Rattle.ambiguities.proofs.Ascending.{distinct-permutation, pairs-map}
-use Rattle.ambiguities.proofs.Exactly.{exactly-one, exactly-append, exactly-same}
-use Rattle.ambiguities.proofs.Numbers.{rule_at-last}
-use Rattle.closed_checker.specs.declared.table.Lead.{Lead}
-use Rattle.closed_checker.specs.Table.{IsLeadOf, IsTableOf, StandsBefore, rank_at}
+use Rattle.closed_checker.proofs.Prelude.{◌≡◌, ◌≢◌, ◌⊎◌, inl, inr, ℕ, suc, ◌+◌, ◌<◌, ◌≤◌, nat_eq, List, [], ◌∷◌, ◌++◌, length, map, get_or, Option, Some, None, refl, sym, ap, ◌∙◌, subst, arith, slice_cmp, All, AllPairs, Contains, IsNonDecreasingBy, IsPermutation, IsSorted, option_map, is_lt, nat_cmp, on, cases_lt, Decides-eqb, nat_list_cmp_total, length-map, get_or-map, Contains-permutation, IsPermutation-map, IsPermutation-sym, sorted_far, ranks_by, same_Some, slice_get-get_or, Rule, rule_at, ListsExactly, distinct-permutation, pairs-map, exactly-one, exactly-append, exactly-same, rule_at-last, Lead, IsLeadOf, IsTableOf, StandsBefore, rank_at}
 use Rattle.closed_checker.proofs.Fronts.{BeginsWith, ranks_ascend}
 
 -- by their numbers

@@ -1,23 +1,5 @@
 -- The walk through a sorted table from one place of a word on: which ambiguities it meets.
-use Rattle.std.proofs.Common.{◌≡◌, ◌≢◌, ◌⊎◌, inl, inr, ℕ, suc, ◌+◌, ◌<◌, ◌≤◌, Bool, true, false, not, nat_eq, List, [], ◌∷◌, ◌++◌, length, take, drop, get_or, filter, refl, sym, ap, ◌∙◌, subst, arith}
-use Rattle.std.specs.Bool.{Decides}
-use Rattle.std.specs.List.{All, AllPairs, Contains}
-use Rattle.std.proofs.lemmas.Bool.{cases_lt}
-use Rattle.std.proofs.lemmas.Bool.Decides.{Decides-eqb, eqb_tells}
-use Rattle.std.proofs.lemmas.List.{take-append-drop, length-take-le, length-drop, length-append, take-take, take_at, drop_at, get_or-take, get_or_default}
-use Rattle.std.proofs.lemmas.List.Elements.{All-contains}
-use Rattle.word_core.specs.Occurrence.{OccursAt}
-use Rattle.word_core.specs.Overlap.{OverlapsAt}
-use Rattle.word_core.proofs.Places.{OccursAt-length, drop-OccursAt}
-use Rattle.ambiguities.specs.declared.ambiguity.Kind.{Kind}
-use Rattle.ambiguities.specs.declared.ambiguity.Kind.TheVariants.{Overlap, Inclusion}
-use Rattle.ambiguities.specs.declared.ambiguity.Ambiguity.{Ambiguity}
-use Rattle.ambiguities.specs.Ambiguities.{MeetsAs}
-use Rattle.ambiguities.specs.Listed.{ListsExactly, ambiguity_at}
-use Rattle.ambiguities.proofs.Occurrences.{overlaps_within}
-use Rattle.closed_checker.specs.declared.table.Lead.{Lead}
-use Rattle.closed_checker.specs.Table.{StandsBefore, rank_at}
-use Rattle.closed_checker.specs.Finding.{IsAdded, MayMeet, IsOfOne, IsWith, IsOfFirst}
+use Rattle.closed_checker.proofs.Prelude.{◌≡◌, ◌≢◌, ◌⊎◌, inl, inr, ℕ, suc, ◌+◌, ◌<◌, ◌≤◌, Bool, true, false, not, nat_eq, List, [], ◌∷◌, ◌++◌, length, take, drop, get_or, filter, refl, sym, ap, ◌∙◌, subst, arith, Decides, All, AllPairs, Contains, cases_lt, Decides-eqb, eqb_tells, take-append-drop, length-take-le, length-drop, length-append, take-take, take_at, drop_at, get_or-take, get_or_default, All-contains, OccursAt, OverlapsAt, OccursAt-length, drop-OccursAt, Kind, Overlap, Inclusion, Ambiguity, MeetsAs, ListsExactly, ambiguity_at, overlaps_within, Lead, StandsBefore, rank_at, IsAdded, MayMeet, IsOfOne, IsWith, IsOfFirst}
 use Rattle.closed_checker.proofs.Fronts.{BeginsWith, begins-more, begins-itself, begins-shorter, ended-is, rank_at-itself, rank_at-longer, longer-by_rank}
 use Rattle.closed_checker.proofs.Picked.{exactly-filter, contains-more, added-append, added-same, added-none, added-one}
 

@@ -1,21 +1,5 @@
 -- a row added to the sum, one term of the generator after another
-use Rattle.std.proofs.Common.{◌≡◌, ℕ, ◌+◌, ◌<◌, ◌≤◌, ℤ, pos, ◌+ℤ◌, ◌*ℤ◌, List, [], ◌∷◌, ◌++◌, length, drop, get_or, false, cond, Some, None, sym, refl, ap, ◌∙◌, subst, arith}
-use Rattle.std.specs.declared.cmp.Ordering.TheVariants.{Greater}
-use Rattle.std.proofs.lemmas.List.{at_drop_more, at_drop_all, append_cancel_left, append_cancel_right, get_or_default}
-use Rattle.std.proofs.lemmas.Bool.{false_from_ne_true}
-use Rattle.std.proofs.lemmas.Cmp.{tied_itself}
-use Rattle.std.proofs.Math.IntN.{+ℤ_idr, +ℤ_assoc}
-use Rattle.coef_int.specs.declared.Overflow.{Overflow}
-use Rattle.coef_int.specs.Range.{IsCoefficient}
-use Rattle.coef_int.specs.Operations.{product_of, sum_of, first_overflow}
-use Rattle.word_core.specs.Canonical.{word_cmp, word_cmp_total}
-use Rattle.definitions.specs.Poly.{word_eq, coefficient_of, poly_multiple, poly_between}
-use Rattle.definitions.proofs.Linear.{word_eq-true}
-use Rattle.nc_polynomial.specs.Terms.{IsDescending}
-use Rattle.lists.specs.declared.stop.Stop.{Stop}
-use Rattle.cofactor_checker.specs.Operations.{adding_operations}
-use Rattle.cofactor_checker.specs.Running.{IsStoppedBy}
-use Rattle.cofactor_checker.specs.Table.{Table, coefficient_at, Adds}
+use Rattle.cofactor_checker.proofs.Prelude.{◌≡◌, ℕ, ◌+◌, ◌<◌, ◌≤◌, ℤ, pos, ◌+ℤ◌, ◌*ℤ◌, List, [], ◌∷◌, ◌++◌, length, drop, get_or, false, cond, Some, None, sym, refl, ap, ◌∙◌, subst, arith, Greater, at_drop_more, at_drop_all, append_cancel_left, append_cancel_right, get_or_default, false_from_ne_true, tied_itself, +ℤ_idr, +ℤ_assoc, Overflow, IsCoefficient, product_of, sum_of, first_overflow, word_cmp, word_cmp_total, word_eq, coefficient_of, poly_multiple, poly_between, word_eq-true, IsDescending, Stop, adding_operations, IsStoppedBy, Table, coefficient_at, Adds}
 use Rattle.cofactor_checker.proofs.First.{first-fits, first-fails, stopped_before}
 
 -- words that are apart stay so between two others

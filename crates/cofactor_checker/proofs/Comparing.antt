@@ -1,33 +1,7 @@
 -- the sum compared with a multiple of the claim, from the least word on
-use Rattle.std.proofs.Common.{◌≡◌, ◌≢◌, ℕ, zero, suc, ℤ, pos, negsuc, ◌+ℤ◌, ◌*ℤ◌, ◌<ℤ◌, List, [], ◌∷◌, ◌++◌, map, get_or, Bool, true, false, cond, Option, Some, None, unwrap_or, Result, Ok, Err, IfOk, sym, refl, ap, ap₂, ◌∙◌, subst, arith, All, append_assoc}
-use Rattle.std.specs.BTreeMap.{BTreeMap, get, is_at, IsOrdered}
-use Rattle.std.specs.List.{AllByRecursion}
-use Rattle.std.specs.List.Sorted.{IsStrictlySortedBy}
-use Rattle.std.specs.Map.{keys_of, lookup}
-use Rattle.std.specs.Ordering.{is_eq}
-use Rattle.std.specs.declared.cmp.Ordering.TheVariants.{Less, Equal, Greater}
-use Rattle.std.proofs.lemmas.Int.{ints}
-use Rattle.std.specs.declared.alloc.AllocError.{AllocError}
-use Rattle.std.proofs.lemmas.List.{append-nil}
-use Rattle.std.proofs.lemmas.List.Elements.{All-nil, All-cons, All-head, All-tail}
-use Rattle.std.proofs.lemmas.Map.Keys.{sorted_head, sorted_tail}
-use Rattle.std.proofs.Math.IntN.{+ℤ_idl, +ℤ_idr, +ℤ_comm, *ℤ-zero}
-use Rattle.coef_int.specs.Operations.{first_overflow}
-use Rattle.coef_int.specs.Range.{IsCoefficient}
-use Rattle.word_core.specs.Canonical.{word_cmp, word_cmp_total}
-use Rattle.word_core.proofs.Order.{word_cmp-same, word_cmp-turned, word_cmp-turned_back, word_cmp-trans}
-use Rattle.definitions.specs.Poly.{word_eq, coefficient_of}
-use Rattle.definitions.proofs.Linear.{word_eq-same, word_eq-true, coefficient_at, coefficient_other}
-use Rattle.definitions.proofs.Coefficients.{coefficient_of-append}
-use Rattle.definitions.proofs.Integers.{*ℤ-+ℤ, *ℤ_zero}
-use Rattle.nc_polynomial.specs.Collected.{coefficient_in}
-use Rattle.nc_polynomial.specs.Shape.{IsShaped}
-use Rattle.nc_polynomial.specs.Terms.{IsDescending, products}
-use Rattle.cofactor_checker.specs.Difference.{IsLeastDifference, IsComparison}
-use Rattle.cofactor_checker.specs.declared.compare.Difference.{Difference}
-use Rattle.cofactor_checker.specs.Running.{IsRunning}
-use Rattle.nc_polynomial.proofs.Words.{word_eq-cmp, word_eq-turned}
-use Rattle.nc_polynomial.proofs.Distinct.{none_listed}
+use Rattle.cofactor_checker.proofs.Prelude.{◌≡◌, ◌≢◌, ℕ, zero, suc, ℤ, pos, negsuc, ◌+ℤ◌, ◌*ℤ◌, ◌<ℤ◌, List, [], ◌∷◌, ◌++◌, map, get_or, Bool, true, false, cond, Option, Some, None, unwrap_or, Result, Ok, Err, IfOk, sym, refl, ap, ap₂, ◌∙◌, subst, arith, All, append_assoc, BTreeMap, is_at, IsOrdered, AllByRecursion, IsStrictlySortedBy, keys_of, lookup, is_eq, Less, Equal, Greater, ints, AllocError, append-nil, All-nil, All-cons, All-head, All-tail, sorted_head, sorted_tail, +ℤ_idl, +ℤ_idr, +ℤ_comm, *ℤ-zero, first_overflow, IsCoefficient, word_cmp, word_cmp_total, word_cmp-same, word_cmp-turned, word_cmp-turned_back, word_cmp-trans, word_eq, coefficient_of, word_eq-same, word_eq-true, coefficient_other, coefficient_of-append, *ℤ-+ℤ, *ℤ_zero, coefficient_in, IsShaped, IsDescending, products, IsLeastDifference, IsComparison, Difference, IsRunning, word_eq-cmp, word_eq-turned, none_listed}
+use Rattle.std.specs.BTreeMap.{get}
+use Rattle.definitions.proofs.Linear.{coefficient_at}
 use Rattle.cofactor_checker.proofs.First.{products_fit}
 use Rattle.cofactor_checker.proofs.Descending.{apart_greater, weaker, above, coefficient_there, holds_between}
 

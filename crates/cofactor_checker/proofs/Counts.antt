@@ -1,27 +1,6 @@
 -- the number of terms of a sum is the length of its table
-use Rattle.std.proofs.Common.{◌≡◌, ◌≢◌, ℕ, ℤ, pos, List, [], ◌∷◌, map, not, Bool, true, false, ◌||◌, Option, Some, None, unwrap_or, is_some, sym, refl, ap, ◌∙◌}
-use Rattle.std.specs.HashMap.{get, keys, hash_map_len, IsUnique}
-use Rattle.std.specs.List.{All, AllByRecursion, IsDistinct}
-use Rattle.std.specs.declared.cmp.Ordering.TheVariants.{Greater}
-use Rattle.std.proofs.lemmas.List.{length-map}
-use Rattle.std.proofs.lemmas.List.Elements.{All-head, All-tail, All-weaker}
-use Rattle.std.specs.Set.{is_member}
-use Rattle.std.specs.Ordering.{int_eq}
-use Rattle.std.proofs.lemmas.Bool.{false_from_ne_true}
-use Rattle.std.proofs.lemmas.Bool.Decides.{Decides-int_eq}
-use Rattle.std.proofs.lemmas.Map.Entries.{length-keys_of}
-use Rattle.std.proofs.lemmas.Map.Keys.{IsDistinct-cons}
-use Rattle.std.proofs.lemmas.Map.Made.{length-from_same_keys, is_some-lookup}
-use Rattle.word_core.specs.Canonical.{word_cmp}
-use Rattle.definitions.specs.Poly.{word_eq, coefficient_of}
-use Rattle.definitions.proofs.Linear.{word_eq-true, coefficient_other}
-use Rattle.cofactor_checker.specs.Rows.{term_count}
-use Rattle.cofactor_checker.specs.Table.{Table, coefficient_at, IsTable}
-use Rattle.nc_polynomial.specs.Collected.{collected}
-use Rattle.nc_polynomial.proofs.CollectedTerms.{coefficient_of-collected, descending-collected, nonzero-collected}
-use Rattle.nc_polynomial.proofs.Distinct.{first_coefficient}
-use Rattle.nc_polynomial.proofs.Shapes.{Descends}
-use Rattle.nc_polynomial.proofs.Words.{word_eq-turned}
+use Rattle.cofactor_checker.proofs.Prelude.{◌≡◌, ◌≢◌, ℕ, ℤ, pos, List, [], ◌∷◌, map, not, Bool, true, false, ◌||◌, Option, Some, None, unwrap_or, is_some, sym, refl, ap, ◌∙◌, get, keys, hash_map_len, IsUnique, AllByRecursion, IsDistinct, Greater, length-map, All-head, All-tail, All-weaker, is_member, int_eq, false_from_ne_true, Decides-int_eq, length-keys_of, IsDistinct-cons, length-from_same_keys, is_some-lookup, word_cmp, word_eq, coefficient_of, word_eq-true, coefficient_other, term_count, Table, coefficient_at, IsTable, collected, coefficient_of-collected, descending-collected, nonzero-collected, first_coefficient, Descends, word_eq-turned}
+use Rattle.std.specs.List.{All}
 use Rattle.cofactor_checker.proofs.Words.{word_eq_equivalence}
 use Rattle.cofactor_checker.proofs.Descending.{apart_greater}
 

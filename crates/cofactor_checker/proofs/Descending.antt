@@ -1,18 +1,6 @@
 -- descending lists of terms, and the coefficients of words between them
-use Rattle.std.proofs.Common.{◌≡◌, ℕ, suc, ◌+◌, ℤ, ◌+ℤ◌, false, List, [], ◌∷◌, ◌++◌, length, get_or, sym, refl, ap, ap₂, ◌∙◌, subst, arith, All}
-use Rattle.std.specs.List.{AllByRecursion}
-use Rattle.std.specs.Ordering.{is_eq}
-use Rattle.std.specs.declared.cmp.Ordering.TheVariants.{Less, Greater}
-use Rattle.std.proofs.lemmas.Int.{ints}
-use Rattle.std.proofs.lemmas.List.{get_or_append_left, get_or_at, get_or-append-add, length-append}
-use Rattle.word_core.specs.Canonical.{word_cmp}
-use Rattle.word_core.proofs.Order.{word_cmp-turned_back}
-use Rattle.definitions.specs.Poly.{word_eq, coefficient_of}
-use Rattle.definitions.proofs.Linear.{word_eq-same, coefficient_at}
-use Rattle.definitions.proofs.Coefficients.{coefficient_of-append}
-use Rattle.nc_polynomial.specs.Terms.{IsDescending}
-use Rattle.nc_polynomial.proofs.Words.{word_eq-cmp}
-use Rattle.nc_polynomial.proofs.Distinct.{none_listed}
+use Rattle.cofactor_checker.proofs.Prelude.{◌≡◌, ℕ, suc, ◌+◌, ℤ, ◌+ℤ◌, false, List, [], ◌∷◌, ◌++◌, length, get_or, sym, refl, ap, ap₂, ◌∙◌, subst, arith, All, AllByRecursion, is_eq, Less, Greater, ints, get_or_append_left, get_or_at, get_or-append-add, length-append, word_cmp, word_cmp-turned_back, word_eq, coefficient_of, word_eq-same, coefficient_of-append, IsDescending, word_eq-cmp, none_listed}
+use Rattle.definitions.proofs.Linear.{coefficient_at}
 
 pub apart_less : (v w : List ℕ) → word_cmp v w ≡ Less → word_eq v w ≡ false
 apart_less v w less = word_eq-cmp v w ∙ ap is_eq less

@@ -1,18 +1,5 @@
 -- Two polynomials are the same, or there is a least word at which they differ, and one alone.
-use Rattle.std.proofs.Common.{◌≡◌, ◌≢◌, ◌⊎◌, inl, inr, ℕ, ℤ, pos, List, [], ◌∷◌, ◌++◌, Bool, true, false, refl, sym, subst, ap, ◌∙◌, true≢false}
-use Rattle.std.specs.List.{AllByRecursion}
-use Rattle.std.specs.Ordering.{int_eq}
-use Rattle.std.specs.declared.cmp.Ordering.{Ordering}
-use Rattle.std.specs.declared.cmp.Ordering.TheVariants.{Less, Equal, Greater}
-use Rattle.std.proofs.lemmas.Bool.Decides.{Decides-int_eq}
-use Rattle.word_core.specs.Canonical.{word_cmp}
-use Rattle.word_core.proofs.Order.{word_cmp-cases, word_cmp-itself, word_cmp-turned, word_cmp-turned_back, word_cmp-trans}
-use Rattle.definitions.specs.Poly.{word_eq, coefficient_of, SamePolynomial}
-use Rattle.definitions.proofs.Linear.{word_eq-true, coefficient_other}
-use Rattle.lists.proofs.FirstFailure.{HasOneOutcome}
-use Rattle.cofactor_checker.specs.Difference.{IsLeastDifference}
-use Rattle.cofactor_checker.specs.Acceptance.{IsMemory}
-use Rattle.cofactor_checker.specs.declared.refusal.Refusal.{Refusal}
+use Rattle.cofactor_checker.proofs.Prelude.{◌≡◌, ◌≢◌, ◌⊎◌, inl, inr, ℕ, ℤ, pos, List, [], ◌∷◌, ◌++◌, Bool, true, false, refl, sym, subst, ap, ◌∙◌, true≢false, AllByRecursion, int_eq, Ordering, Less, Equal, Greater, Decides-int_eq, word_cmp, word_cmp-cases, word_cmp-itself, word_cmp-turned, word_cmp-turned_back, word_cmp-trans, word_eq, coefficient_of, SamePolynomial, word_eq-true, coefficient_other, HasOneOutcome, IsLeastDifference, IsMemory, Refusal}
 use Rattle.cofactor_checker.specs.declared.refusal.Refusal.TheVariants as refusal
 
 -- the coefficient at a word is zero, or the word is one of the terms'

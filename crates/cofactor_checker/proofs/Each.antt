@@ -1,11 +1,5 @@
 -- what holds of each item, one item after another
-use Rattle.std.proofs.Common.{◌≡◌, ℕ, ◌+◌, ◌<◌, ◌≤◌, ◌%◌, nat_eq, Bool, true, false, IsTrue, ◌↔◌, List, All, length, take, get_or, sym, subst, arith}
-use Rattle.std.specs.Int.{◌∣◌}
-use Rattle.std.proofs.lemmas.Bool.Decides.{nat_tests}
-use Rattle.std.proofs.lemmas.Nat.Gcd.{dvd_of_mod-eq-zero, mod-eq-zero_of_dvd}
-use Rattle.std.proofs.lemmas.List.{take_all}
-use Rattle.std.proofs.lemmas.List.Elements.{All-push}
-use Rattle.nc_polynomial.proofs.Steps.{take_next}
+use Rattle.cofactor_checker.proofs.Prelude.{◌≡◌, ℕ, ◌+◌, ◌<◌, ◌≤◌, ◌%◌, nat_eq, Bool, true, false, IsTrue, ◌↔◌, List, All, length, take, get_or, sym, subst, arith, ◌∣◌, nat_tests, dvd_of_mod-eq-zero, mod-eq-zero_of_dvd, take_all, All-push, take_next}
 
 pub all_more : {X : Type 0} (P : X → Type 0) (xs : List X) (i : ℕ) (x : X) → i < length xs → x ≡ get_or xs i x → All P (take i xs) → P x → All P (take (i + 1) xs)
 all_more P xs i x inside is before here = subst (All P) (sym (take_next xs i x inside is)) (All-push P (take i xs) x before here)

@@ -1,9 +1,5 @@
 -- the generator 3 a - b, where a and b have the numbers 1 and 2
-use Rattle.std.proofs.Common.{◌≡◌, ℕ, ℤ, pos, negsuc, List, [], ◌∷◌, refl}
-use Rattle.coef_int.specs.Operations.{product_of, sum_of}
-use Rattle.definitions.specs.Combination.{Row, row_sum}
-use Rattle.cofactor_checker.specs.Operations.{row_operations}
-use Rattle.cofactor_checker.specs.Rows.{term_count}
+use Rattle.cofactor_checker.proofs.Prelude.{◌≡◌, ℕ, ℤ, pos, negsuc, List, [], ◌∷◌, refl, product_of, sum_of, Row, row_sum, row_operations, term_count}
 
 generators : List (List (ℤ × List ℕ))
 generators = ((pos 3, 1 ∷ []) ∷ (negsuc 0, 2 ∷ []) ∷ []) ∷ []

@@ -1,17 +1,7 @@
 -- the first overflow of some operations, one operation on
-use Rattle.std.proofs.Common.{◌≡◌, ◌^◌, ℕ, ◌+◌, ◌<◌, ◌≤◌, ℤ, ◌*ℤ◌, All, List, [], ◌∷◌, length, drop, get_or, Bool, true, false, cond, Option, Some, None, refl, sym, ap, ◌∙◌, arith}
-use Rattle.std.specs.Int.RustNames.{unsigned_abs}
-use Rattle.std.proofs.lemmas.Bool.Decides.{nat_tests}
-use Rattle.std.proofs.lemmas.List.{at_drop_more, at_drop_all}
-use Rattle.std.proofs.lemmas.List.Elements.{All-nil, All-cons}
+use Rattle.cofactor_checker.proofs.Prelude.{◌≡◌, ◌^◌, ℕ, ◌+◌, ◌<◌, ◌≤◌, ℤ, ◌*ℤ◌, All, List, [], ◌∷◌, length, drop, get_or, Bool, true, false, cond, Option, Some, None, refl, sym, ap, ◌∙◌, arith, unsigned_abs, nat_tests, at_drop_more, at_drop_all, All-nil, All-cons, Overflow, IsCoefficient, is_coefficient, product_of, exact_value, first_overflow, Stop, products, IsStoppedBy}
 use borrow.Author.Tests.{ltb-true}
-use Rattle.coef_int.specs.declared.Overflow.{Overflow}
-use Rattle.coef_int.specs.Range.{IsCoefficient, is_coefficient}
-use Rattle.coef_int.specs.Operations.{product_of, exact_value, first_overflow}
-use Rattle.lists.specs.declared.stop.Stop.{Stop}
 use Rattle.lists.specs.declared.stop.Stop.TheVariants as stop
-use Rattle.nc_polynomial.specs.Terms.{products}
-use Rattle.cofactor_checker.specs.Running.{IsStoppedBy}
 
 -- an operation that fits is passed over
 pub first-fits : (o : Overflow) (os : List Overflow) → IsCoefficient (exact_value o) → first_overflow (o ∷ os) ≡ first_overflow os

@@ -1,25 +1,7 @@
 -- the entries of the table, moved one after another into a map in the order of the words
-use Rattle.std.proofs.Common.{◌≡◌, ◌≢◌, ℕ, ℤ, pos, ◌+ℤ◌, List, [], ◌∷◌, Bool, true, false, cond, Option, Some, None, IfSome, unwrap_or, sym, refl, ap, ◌∙◌, subst, arith}
-use Rattle.std.proofs.lemmas.Int.{ints}
-use Rattle.std.proofs.lemmas.Map.Views.{All-values_from_lookup}
-use Rattle.std.proofs.lemmas.Map.Keys.{IsDistinct-head, IsDistinct-tail}
-use Rattle.std.proofs.Math.IntN.{+ℤ_idl, +ℤ_idr}
-use Rattle.std.specs.BTreeMap.{BTreeMap, Updates, IsEmpty, is_at}
-use Rattle.std.proofs.lemmas.List.Elements.{All-nil, All-cons, All-head, All-tail}
-use Rattle.std.specs.HashMap.{get, IsUnique}
-use Rattle.std.specs.List.{All, AllByRecursion, IsDistinct}
-use Rattle.std.specs.Map.{keys_of, values_of, lookup}
-use Rattle.coef_int.specs.Range.{IsCoefficient}
-use Rattle.word_core.specs.Canonical.{word_cmp}
-use Rattle.definitions.specs.Poly.{word_eq, coefficient_of}
-use Rattle.definitions.proofs.Linear.{word_eq-true, coefficient_other}
-use Rattle.nc_polynomial.specs.Collected.{coefficient_in}
+use Rattle.cofactor_checker.proofs.Prelude.{◌≡◌, ◌≢◌, ℕ, ℤ, pos, ◌+ℤ◌, List, [], ◌∷◌, Bool, true, false, cond, Option, Some, None, IfSome, unwrap_or, sym, refl, ap, ◌∙◌, subst, arith, ints, All-values_from_lookup, IsDistinct-head, IsDistinct-tail, +ℤ_idl, +ℤ_idr, BTreeMap, Updates, IsEmpty, is_at, All-nil, All-cons, All-head, All-tail, get, IsUnique, AllByRecursion, IsDistinct, keys_of, values_of, lookup, IsCoefficient, word_cmp, word_eq, coefficient_of, word_eq-true, coefficient_other, coefficient_in, first_coefficient, adds_from_update, running_from_update, word_eq-turned, IsRunning, Table, coefficient_at, IsTable}
+use Rattle.std.specs.List.{All}
 use Rattle.nc_polynomial.specs.Running.{Adds}
-use Rattle.nc_polynomial.proofs.Distinct.{first_coefficient}
-use Rattle.nc_polynomial.proofs.Updates.{adds_from_update, running_from_update}
-use Rattle.nc_polynomial.proofs.Words.{word_eq-turned}
-use Rattle.cofactor_checker.specs.Running.{IsRunning}
-use Rattle.cofactor_checker.specs.Table.{Table, coefficient_at, IsTable}
 use Rattle.cofactor_checker.proofs.Comparing.{terms_of}
 use Rattle.cofactor_checker.proofs.Words.{word_eq_equivalence}
 

@@ -1,31 +1,7 @@
 -- Evidence of either format has exactly one outcome: it is accepted, or one of its tests is the first that fails.
-use Rattle.std.proofs.Common.{◌≡◌, ◌⊎◌, inl, inr, ℕ, ◌+◌, ℤ, pos, ◌≤ℤ◌, List, [], length, All, Option, Some, None, Result, Ok, Err, IfErr, refl, sym, subst, ap, ◌∙◌, arith}
-use Rattle.std.proofs.lemmas.Int.{ints}
-use Rattle.coef_int.specs.declared.Overflow.{Overflow}
-use Rattle.coef_int.specs.Operations.{first_overflow}
-use Rattle.definitions.specs.Poly.{Poly, poly_multiple}
-use Rattle.definitions.specs.Combination.{row_sum}
-use Rattle.nc_polynomial.specs.Terms.{products}
-use Rattle.traced_rows.specs.declared.certificate.Certificate.{Certificate}
-use Rattle.traced_rows.specs.declared.evidence.Lemma.{Lemma}
-use Rattle.traced_rows.specs.declared.evidence.LemmaCertificate.{LemmaCertificate}
-use Rattle.traced_rows.specs.declared.evidence.Evidence.TheVariants.{Plain, Lemmas}
-use Rattle.traced_rows.specs.Rows.{row_of, rows_of}
-use Rattle.lists.proofs.Decided.{IsDecided, both_decided}
-use Rattle.lists.proofs.FirstFailure.{HasOneOutcome, FirstNot, each_decided, one_test, value_test, each_test, then_test, reworded}
-use Rattle.cofactor_checker.specs.declared.accepted.Accepted.{Accepted}
-use Rattle.cofactor_checker.specs.Rows.{IsNumberUpTo, RowsPass}
-use Rattle.cofactor_checker.specs.RowRefusals.{StopsAt, overflows, outgrows, tell_generator}
-use Rattle.cofactor_checker.specs.Lemmas.{LemmasPass, RefusesLemmaRows, RefusesLemmas, row_count}
-use Rattle.cofactor_checker.specs.Acceptance.{claim_of, Begins, Accepts, Refuses, IsMemory}
-use Rattle.cofactor_checker.specs.LemmaAcceptance.{goal_claim, all_polynomials, HasScale, IsTight, IsPositive, HasShares, GoalBegins, IsFirstLoose, HasLooseGoal, AcceptsLemmas, RefusesBlock, RefusesLemmaCertificate}
-use Rattle.cofactor_checker.specs.Starts.{ArePositive, IsLoose, AreTight, multiple, Starts, TellsStart}
-use Rattle.cofactor_checker.specs.Goals.{RefusesGoal}
-use Rattle.cofactor_checker.specs.Evidence.{AcceptsEvidence, RefusesEvidence}
-use Rattle.cofactor_checker.specs.Laws.{EachCertificateIsJudged, RefusalIsUnique, EvidenceIsJudged, EvidenceRefusalIsUnique, AcceptedEvidenceIsNotRefused}
-use Rattle.cofactor_checker.specs.declared.refusal.Refusal.{Refusal}
+use Rattle.cofactor_checker.proofs.Prelude.{◌≡◌, ◌⊎◌, inl, inr, ℕ, ◌+◌, ℤ, pos, ◌≤ℤ◌, List, [], length, All, Option, Some, None, Result, Ok, Err, IfErr, refl, sym, subst, ap, ◌∙◌, arith, ints, Overflow, first_overflow, poly_multiple, row_sum, products, Certificate, Lemma, LemmaCertificate, Plain, Lemmas, row_of, rows_of, IsDecided, both_decided, HasOneOutcome, FirstNot, each_decided, one_test, value_test, each_test, then_test, reworded, Accepted, IsNumberUpTo, RowsPass, StopsAt, overflows, outgrows, tell_generator, LemmasPass, RefusesLemmaRows, RefusesLemmas, row_count, claim_of, Begins, Accepts, Refuses, IsMemory, goal_claim, all_polynomials, HasScale, IsTight, IsPositive, HasShares, GoalBegins, IsFirstLoose, HasLooseGoal, AcceptsLemmas, RefusesBlock, RefusesLemmaCertificate, ArePositive, IsLoose, AreTight, multiple, Starts, TellsStart, RefusesGoal, AcceptsEvidence, RefusesEvidence, EachCertificateIsJudged, RefusalIsUnique, EvidenceIsJudged, EvidenceRefusalIsUnique, AcceptedEvidenceIsNotRefused, Refusal, Evidence}
+use Rattle.definitions.specs.Poly.{Poly}
 use Rattle.cofactor_checker.specs.declared.refusal.Refusal.TheVariants as refusal
-use Rattle.traced_rows.specs.declared.evidence.Evidence.{Evidence}
 use Rattle.cofactor_checker.proofs.Differences.{TellsDifference, difference_outcome}
 use Rattle.cofactor_checker.proofs.RowTests.{memory_decided, numbered_or, stops_lacking, certificate_rows, goal_outcome}
 use Rattle.cofactor_checker.proofs.LemmaTests.{divides_or, positive_or, below_one, lemmas_outcome}

@@ -1,13 +1,5 @@
 -- what the steps of a check mean for its outcome
-use Rattle.std.proofs.Common.{inl, inr, ℕ, ℤ, ◌+◌, List, [], ◌∷◌, ◌++◌, length, Result, Ok, Err, OnOk}
-use Rattle.traced_rows.specs.declared.evidence.Lemma.{Lemma}
-use Rattle.traced_rows.specs.declared.evidence.LemmaCertificate.{LemmaCertificate}
-use Rattle.cofactor_checker.specs.declared.accepted.Accepted.{Accepted}
-use Rattle.traced_rows.specs.LemmaRows.{IsEvidenceOf}
-use Rattle.cofactor_checker.specs.Lemmas.{lemma_polynomial, RefusesLemma, RefusesLemmaRows, RefusesLemmas, row_count}
-use Rattle.cofactor_checker.specs.LemmaAcceptance.{goal_claim, all_polynomials, GoalBegins, HasLemmas, AcceptsLemmas, RefusesLemmaCertificate}
-use Rattle.cofactor_checker.specs.Goals.{RefusesGoal}
-use Rattle.cofactor_checker.specs.declared.refusal.Refusal.{Refusal}
+use Rattle.cofactor_checker.proofs.Prelude.{inl, inr, ℕ, ℤ, ◌+◌, List, [], ◌∷◌, ◌++◌, length, Result, Ok, Err, OnOk, Lemma, LemmaCertificate, Accepted, IsEvidenceOf, lemma_polynomial, RefusesLemma, RefusesLemmaRows, RefusesLemmas, row_count, goal_claim, all_polynomials, GoalBegins, HasLemmas, AcceptsLemmas, RefusesLemmaCertificate, RefusesGoal, Refusal}
 use Rattle.cofactor_checker.specs.declared.refusal.Refusal.TheVariants as refusal
 use Rattle.cofactor_checker.proofs.LemmaSums.{shows}
 

@@ -1,11 +1,5 @@
 -- one lemma after another
-use Rattle.std.proofs.Common.{◌≡◌, inl, inr, ℕ, ◌+◌, ◌<◌, ℤ, List, [], ◌∷◌, ◌++◌, length, drop, get_or, refl, sym, ap, subst, ◌∙◌, append_assoc, arith}
-use Rattle.nc_polynomial.proofs.Steps.{drop_next}
-use Rattle.nc_polynomial.specs.declared.poly.Poly.{Poly}
-use Rattle.adjoint_rules.specs.Problem.{polynomials}
-use Rattle.traced_rows.specs.declared.evidence.Lemma.{Lemma}
-use Rattle.cofactor_checker.specs.Lemmas.{lemma_polynomial, lemma_polynomials, term_total, LemmaPasses, LemmasPass, RefusesLemma, RefusesLemmas, row_count}
-use Rattle.cofactor_checker.specs.declared.refusal.Refusal.{Refusal}
+use Rattle.cofactor_checker.proofs.Prelude.{◌≡◌, inl, inr, ℕ, ◌+◌, ◌<◌, ℤ, List, [], ◌∷◌, ◌++◌, length, drop, get_or, refl, sym, ap, subst, ◌∙◌, append_assoc, arith, drop_next, Poly, polynomials, Lemma, lemma_polynomial, lemma_polynomials, term_total, LemmaPasses, LemmasPass, RefusesLemma, RefusesLemmas, row_count, Refusal}
 
 -- The lemmas before this one are made: these are their polynomials, and they have so many rows.
 pub record LemmasUpTo (gs ps : List (List (ℤ × List ℕ))) (lemmas : List Lemma) (rows i : ℕ) : Type 0 where

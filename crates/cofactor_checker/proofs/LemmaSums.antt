@@ -1,21 +1,6 @@
 -- what an accepted certificate with lemmas shows
-use Rattle.std.proofs.Common.{◌≡◌, ℕ, ℤ, List, [], ◌∷◌, ◌++◌, map, int_div, refl, sym, ap, ap₂, ◌∙◌, arith}
+use Rattle.cofactor_checker.proofs.Prelude.{◌≡◌, ℕ, ℤ, List, [], ◌∷◌, ◌++◌, map, int_div, refl, sym, ap, ap₂, ◌∙◌, arith, ◌∣◌, unsigned_abs, ints, All-head, All-tail, All-push, coefficient_of, poly_multiple, poly_sum, poly_between, collected, coefficient_of-collected, quotient_times, Lemma, LemmaRow, LemmaCertificate, lemma_sum, AddsUpTo, AreOfLemmas, IsShareOf, IsEvidenceOf, plain_sum, lemma_polynomial, lemma_polynomials, LemmaPasses, LemmasPass, goal_claim, all_polynomials, AcceptsLemmas}
 use Rattle.std.specs.List.{All}
-use Rattle.std.specs.Int.{◌∣◌}
-use Rattle.std.specs.Int.RustNames.{unsigned_abs}
-use Rattle.std.proofs.lemmas.Int.{ints}
-use Rattle.std.proofs.lemmas.List.Elements.{All-head, All-tail, All-push}
-use Rattle.definitions.specs.Poly.{coefficient_of, poly_multiple, poly_sum, poly_between}
-use Rattle.nc_polynomial.specs.Collected.{collected}
-use Rattle.nc_polynomial.proofs.CollectedTerms.{coefficient_of-collected}
-use Rattle.nc_polynomial.proofs.Divisors.{quotient_times}
-use Rattle.traced_rows.specs.declared.evidence.Lemma.{Lemma}
-use Rattle.traced_rows.specs.declared.evidence.LemmaRow.{LemmaRow}
-use Rattle.traced_rows.specs.declared.evidence.LemmaCertificate.{LemmaCertificate}
-use Rattle.traced_rows.specs.LemmaRows.{lemma_sum, AddsUpTo, AreOfLemmas, IsShareOf, IsEvidenceOf}
-use Rattle.cofactor_checker.specs.PlainRows.{plain_sum}
-use Rattle.cofactor_checker.specs.Lemmas.{lemma_polynomial, lemma_polynomials, LemmaPasses, LemmasPass}
-use Rattle.cofactor_checker.specs.LemmaAcceptance.{goal_claim, all_polynomials, AcceptsLemmas}
 use Rattle.cofactor_checker.proofs.Places.{stands_there}
 
 -- the rows over generators and lemmas are those over one list

@@ -1,23 +1,7 @@
 -- Lemmas, one after another: exactly one outcome.
-use Rattle.std.proofs.Common.{◌≡◌, ◌⊎◌, inl, inr, ℕ, zero, suc, ◌+◌, ◌≤◌, ◌%◌, nat_eq, nat_lt, ℤ, pos, negsuc, ◌≤ℤ◌, ◌<ℤ◌, List, [], ◌∷◌, ◌++◌, length, Bool, true, false, cond, Result, Ok, Err, refl, sym, subst, ap, ◌∙◌, arith}
-use Rattle.std.specs.Int.{◌∣◌}
-use Rattle.std.specs.Int.RustNames.{unsigned_abs}
-use Rattle.std.proofs.lemmas.Int.{ints}
-use Rattle.std.proofs.lemmas.List.Elements.{All-nil, All-cons}
+use Rattle.cofactor_checker.proofs.Prelude.{◌≡◌, ◌⊎◌, inl, inr, ℕ, zero, suc, ◌+◌, ◌≤◌, ◌%◌, nat_eq, nat_lt, ℤ, pos, negsuc, ◌≤ℤ◌, ◌<ℤ◌, List, [], ◌∷◌, ◌++◌, length, Bool, true, false, cond, Result, Ok, Err, refl, sym, subst, ap, ◌∙◌, arith, ◌∣◌, unsigned_abs, ints, All-nil, All-cons, SizeFault, PolyFault, collected, DividesEach, sized, size_fault, has_long_word, Lemma, IsDecided, le_decided, HasOneOutcome, no_test, one_test, then_test, reworded, plain_sum, LemmaRowsPass, lemma_polynomial, term_total, kept_limit, LemmaPasses, LemmasPass, RefusesLemmaRows, IsLeastIndivisible, RefusesLemma, RefusesLemmas, IsMemory, Refusal}
 use Rattle.definitions.specs.Poly.{Poly}
-use Rattle.nc_polynomial.specs.declared.fault.SizeFault.{SizeFault}
-use Rattle.nc_polynomial.specs.declared.fault.PolyFault.{PolyFault}
 use Rattle.nc_polynomial.specs.declared.fault.PolyFault.TheVariants as fault
-use Rattle.nc_polynomial.specs.Collected.{collected}
-use Rattle.nc_polynomial.specs.Content.{DividesEach}
-use Rattle.nc_polynomial.specs.Faults.{sized, size_fault, has_long_word}
-use Rattle.traced_rows.specs.declared.evidence.Lemma.{Lemma}
-use Rattle.lists.proofs.Decided.{IsDecided, le_decided}
-use Rattle.lists.proofs.FirstFailure.{HasOneOutcome, no_test, one_test, then_test, reworded}
-use Rattle.cofactor_checker.specs.PlainRows.{plain_sum}
-use Rattle.cofactor_checker.specs.Lemmas.{LemmaRowsPass, lemma_polynomial, term_total, kept_limit, LemmaPasses, LemmasPass, RefusesLemmaRows, IsLeastIndivisible, RefusesLemma, RefusesLemmas}
-use Rattle.cofactor_checker.specs.Acceptance.{IsMemory}
-use Rattle.cofactor_checker.specs.declared.refusal.Refusal.{Refusal}
 use Rattle.cofactor_checker.specs.declared.refusal.Refusal.TheVariants as refusal
 use Rattle.cofactor_checker.proofs.Each.{divides_tells, clash}
 use Rattle.cofactor_checker.proofs.RowTests.{memory_decided, lemma_rows}

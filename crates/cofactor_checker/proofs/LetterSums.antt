@@ -1,35 +1,7 @@
 -- Sums of rows over the letters of a quiver have words over these letters alone, and so do the polynomials of lemmas.
-use Rattle.std.proofs.Common.{ltb-true, lt-ltb, ◌≡◌, ◌≢◌, inl, inr, ℕ, zero, suc, ℤ, pos, ◌+ℤ◌, ◌*ℤ◌, Bool, true, false, List, [], ◌∷◌, ◌++◌, refl, sym, ap, ap₂, subst, ◌∙◌, get_or, ltb}
-use Rattle.std.proofs.lemmas.Bool.{and_parts, and_from}
-use Rattle.std.proofs.lemmas.Bool.Decides.{Decides-int_eq}
-use Rattle.std.proofs.lemmas.List.Elements.{All-head, All-tail, All-map}
-use Rattle.std.proofs.lemmas.List.Folds.{list_all-append}
-use Rattle.std.proofs.lemmas.List.Sums.{AllPass-from_list_all, list_all-from_AllPass}
-use Rattle.std.proofs.Math.IntN.{*ℤ-zero}
-use Rattle.std.specs.List.{All, AllByRecursion, list_all}
-use Rattle.std.specs.Ordering.{int_eq}
-use Rattle.definitions.specs.Poly.{Term, word_eq, coefficient_of, poly_multiple, poly_between}
-use Rattle.definitions.specs.Quiver.{Quiver, letters, source, leads, is_path}
-use Rattle.definitions.specs.Combination.{Row, generator_at, row_poly, row_sum}
-use Rattle.definitions.specs.Soundness.{HasSignature}
-use Rattle.definitions.proofs.Coefficients.{coefficient_of-append, coefficient_of-multiple}
-use Rattle.definitions.proofs.Linear.{word_eq-true, coefficient_other}
-use Rattle.definitions.proofs.Paths.{step}
-use Rattle.definitions.proofs.Projection.{coefficient_of-between_zero}
-use Rattle.definitions.proofs.UnitSound.{all-append}
-use Rattle.word_core.specs.Letters.{IsOver}
-use Rattle.nc_polynomial.specs.Collected.{collected}
-use Rattle.nc_polynomial.proofs.CollectedTerms.{coefficient_of-collected, descending-collected, nonzero-collected}
-use Rattle.nc_polynomial.proofs.Distinct.{distinct-descending, words_listed}
-use Rattle.quiver.specs.Declarations.{letter_count, quiver_of}
-use Rattle.quiver.proofs.Counts.{letters-quiver_of}
-use Rattle.traced_rows.specs.declared.evidence.Lemma.{Lemma}
-use Rattle.adjoint_rules.specs.declared.problem.Problem.{Problem}
-use Rattle.adjoint_rules.specs.Problem.{polynomials}
-use Rattle.adjoint_rules.proofs.Generators.{claims_have_signatures, generators_have_signatures}
+use Rattle.cofactor_checker.proofs.Prelude.{ltb-true, lt-ltb, ◌≡◌, ◌≢◌, inl, inr, ℕ, zero, suc, ℤ, pos, ◌+ℤ◌, ◌*ℤ◌, Bool, true, false, List, [], ◌∷◌, ◌++◌, refl, sym, ap, ap₂, subst, ◌∙◌, get_or, ltb, and_parts, and_from, Decides-int_eq, All-head, All-tail, All-map, list_all-append, AllPass-from_list_all, list_all-from_AllPass, *ℤ-zero, AllByRecursion, list_all, int_eq, Term, word_eq, coefficient_of, poly_multiple, poly_between, Quiver, letters, source, leads, is_path, Row, generator_at, row_poly, row_sum, HasSignature, coefficient_of-append, coefficient_of-multiple, word_eq-true, coefficient_other, step, coefficient_of-between_zero, all-append, IsOver, collected, coefficient_of-collected, descending-collected, nonzero-collected, distinct-descending, words_listed, letter_count, quiver_of, letters-quiver_of, Lemma, Problem, polynomials, claims_have_signatures, generators_have_signatures, plain_rows, plain_sum, lemma_polynomial, lemma_polynomials, IsLeastIndivisible, LeavesRest, RefusesLemmas}
+use Rattle.std.specs.List.{All}
 use Rattle.cofactor_checker.specs.declared.refusal.Refusal.TheVariants as refusal
-use Rattle.cofactor_checker.specs.PlainRows.{plain_rows, plain_sum}
-use Rattle.cofactor_checker.specs.Lemmas.{lemma_polynomial, lemma_polynomials, IsLeastIndivisible, LeavesRest, RefusesLemmas}
 
 module _ (q : Quiver) where
   -- whether all letters are letters of the quiver

@@ -1,23 +1,6 @@
 -- what the steps of a check mean for its outcome
-use Rattle.std.proofs.Common.{◌≡◌, ℕ, ℤ, pos, ◌*ℤ◌, ◌≤ℤ◌, List, None, inr, sym, subst, ap, ◌∙◌, arith}
-use Rattle.std.proofs.lemmas.Int.{ints}
-use Rattle.coef_int.specs.Operations.{first_overflow}
-use Rattle.definitions.specs.Poly.{coefficient_of, poly_multiple, SamePolynomial}
-use Rattle.definitions.specs.Combination.{IsCombination}
-use Rattle.definitions.proofs.Coefficients.{coefficient_of-multiple}
-use Rattle.std.specs.BTreeMap.{BTreeMap}
-use Rattle.nc_polynomial.specs.Collected.{coefficient_in}
-use Rattle.nc_polynomial.specs.Terms.{products}
-use Rattle.nc_polynomial.specs.declared.poly.Poly.{Poly}
-use Rattle.adjoint_rules.specs.Problem.{polynomials}
-use Rattle.traced_rows.specs.declared.certificate.Certificate.{Certificate}
-use Rattle.traced_rows.specs.Rows.{row_of, rows_of}
-use Rattle.cofactor_checker.specs.Acceptance.{claim_of, IsPosed, Begins, Accepts, Refuses}
-use Rattle.cofactor_checker.specs.Difference.{IsLeastDifference}
-use Rattle.cofactor_checker.specs.RowRefusals.{StopsAt, lacks, overflows, outgrows, memory, tell_generator}
-use Rattle.cofactor_checker.specs.Running.{IsSumOf}
+use Rattle.cofactor_checker.proofs.Prelude.{◌≡◌, ℕ, ℤ, pos, ◌*ℤ◌, ◌≤ℤ◌, List, None, inr, sym, subst, ap, ◌∙◌, arith, ints, first_overflow, coefficient_of, poly_multiple, SamePolynomial, IsCombination, coefficient_of-multiple, BTreeMap, coefficient_in, products, Poly, polynomials, Certificate, row_of, rows_of, claim_of, IsPosed, Begins, Accepts, Refuses, IsLeastDifference, StopsAt, lacks, overflows, outgrows, memory, tell_generator, IsSumOf, Refusal}
 use Rattle.cofactor_checker.proofs.RowSums.{Names}
-use Rattle.cofactor_checker.specs.declared.refusal.Refusal.{Refusal}
 use Rattle.cofactor_checker.specs.declared.refusal.Refusal.TheVariants as refusal
 
 -- the certificate names the claim, and its denominator is at least 1

@@ -1,17 +1,7 @@
 -- generators and lemmas in one list
-use Rattle.std.proofs.Common.{◌≡◌, ℕ, zero, suc, ◌+◌, ◌-◌, ◌<◌, ◌≤◌, ℤ, List, [], ◌∷◌, ◌++◌, length, get_or, slice_get, Some, ◌⊎◌, inl, inr, sym, refl, ap, ◌∙◌, arith}
-use Rattle.std.proofs.lemmas.Bool.{cases_lt}
-use Rattle.std.proofs.lemmas.Bool.Decides.{nat_tests}
-use Rattle.std.proofs.lemmas.List.{get_or_append_left, get_or-append-add}
-use Rattle.definitions.specs.Combination.{generator_at}
-use Rattle.nc_polynomial.specs.declared.poly.Poly.{Poly}
-use Rattle.adjoint_rules.specs.Problem.{polynomials}
-use Rattle.traced_rows.specs.LemmaRows.{cert_poly}
-use Rattle.traced_rows.specs.declared.evidence.CertFrom.{CertFrom}
+use Rattle.cofactor_checker.proofs.Prelude.{◌≡◌, ℕ, zero, suc, ◌+◌, ◌-◌, ◌<◌, ◌≤◌, ℤ, List, [], ◌∷◌, ◌++◌, length, get_or, slice_get, Some, ◌⊎◌, inl, inr, sym, refl, ap, ◌∙◌, arith, cases_lt, nat_tests, get_or_append_left, get_or-append-add, generator_at, Poly, polynomials, cert_poly, CertFrom, IsNumberUpTo, place_of}
 use Rattle.traced_rows.specs.declared.evidence.CertFrom.TheVariants as cert
-use Rattle.cofactor_checker.specs.Rows.{IsNumberUpTo}
 use Rattle.cofactor_checker.proofs.RowSums.{generator_at_numbered}
-use Rattle.cofactor_checker.specs.PlainRows.{place_of}
 
 pub place-generator : (g l n : ℕ) → n ≤ g → place_of g l (cert.Generator n) ≡ n
 place-generator g l n within = grind (arith, nat_tests)

@@ -1,25 +1,5 @@
 -- Evidence of a claim that adds up means what is said of it.
-use Rattle.std.proofs.Common.{◌≡◌, ℕ, zero, suc, ◌<◌, ◌≤◌, ℤ, Bool, false, List, [], ◌∷◌, length, get_or, sym, subst, arith}
-use Rattle.std.specs.List.{AllByRecursion}
-use Rattle.definitions.specs.Category.{Structure, PreadditiveLaws}
-use Rattle.definitions.specs.Combination.{generator_at}
-use Rattle.definitions.specs.Quiver.{Quiver}
-use Rattle.definitions.specs.Representation.{Representation, Represents}
-use Rattle.definitions.specs.Soundness.{HasSignature, HasValueZero, IsSound, MakesZero}
-use Rattle.definitions.specs.Generators.{generators_of}
-use Rattle.definitions.proofs.StarSound.{star_sound}
-use Rattle.definitions.proofs.UnitSound.{unit_sound}
-use Rattle.quiver.specs.Declarations.{quiver_of}
-use Rattle.traced_rows.specs.declared.evidence.Evidence.{Evidence}
-use Rattle.traced_rows.specs.declared.evidence.Evidence.TheVariants.{Plain, Lemmas}
-use Rattle.traced_rows.specs.Rows.{rows_of}
-use Rattle.traced_rows.specs.LemmaRows.{denominator_of}
-use Rattle.adjoint_rules.specs.declared.problem.Problem.{Problem}
-use Rattle.adjoint_rules.specs.Problem.{polynomials, numbers, generators_in}
-use Rattle.adjoint_rules.proofs.Generators.{posed_quiver, claims_have_signatures, marked_are_objects, generators_have_signatures, generators_are_zero, makes_zero}
-use Rattle.adjoint_rules.specs.Claims.{claim_at}
-use Rattle.representations.specs.Evidence.{IsEvidenceSound}
-use Rattle.cofactor_checker.specs.ProvedMeans.{EvidenceAddsUp, MakesZeroByStar, MeansZero, ProvedMeans}
+use Rattle.cofactor_checker.proofs.Prelude.{◌≡◌, ℕ, zero, suc, ◌<◌, ◌≤◌, ℤ, Bool, false, List, [], ◌∷◌, length, get_or, sym, subst, arith, AllByRecursion, Structure, PreadditiveLaws, generator_at, Quiver, Representation, Represents, HasSignature, HasValueZero, IsSound, MakesZero, generators_of, star_sound, unit_sound, quiver_of, Evidence, Plain, Lemmas, rows_of, denominator_of, Problem, polynomials, numbers, generators_in, posed_quiver, claims_have_signatures, marked_are_objects, generators_have_signatures, generators_are_zero, makes_zero, claim_at, IsEvidenceSound, EvidenceAddsUp, MakesZeroByStar, MeansZero, ProvedMeans}
 
 -- the polynomial with a number from 1 to the count has what each of them has
 get_one : (q : Quiver) (ps : List (List (ℤ × List ℕ))) (n : ℕ) → n < length ps → AllByRecursion (HasSignature q) ps → HasSignature q (get_or ps n [])

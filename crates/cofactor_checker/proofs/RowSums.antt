@@ -1,27 +1,6 @@
 -- the running sum behind some rows
-use Rattle.std.proofs.Common.{◌≡◌, ℕ, zero, suc, ◌+◌, ◌-◌, ◌<◌, ◌≤◌, ℤ, pos, ◌+ℤ◌, List, [], ◌∷◌, ◌++◌, length, map, take, slice_get, Some, None, ◌⊎◌, inl, inr, sym, refl, ap, ◌∙◌, subst, arith}
-use Rattle.std.specs.BTreeMap.{BTreeMap}
-use Rattle.std.specs.HashMap.{hash_map_len, IsUnique}
-use Rattle.std.proofs.lemmas.List.{take_all, take_more, length-map}
-use Rattle.std.proofs.lemmas.Bool.{cases_eq}
-use Rattle.std.specs.Option.{option_map}
-use Rattle.std.proofs.lemmas.Option.{slice_get_within, get_or_from_slice_get, slice_get-map}
-use Rattle.std.proofs.Math.IntN.{+ℤ_comm, +ℤ_assoc}
-use Rattle.coef_int.specs.declared.Overflow.{Overflow}
-use Rattle.coef_int.specs.Operations.{first_overflow}
-use Rattle.definitions.specs.Poly.{word_eq, coefficient_of}
-use Rattle.definitions.specs.Combination.{Row, generator_at, row_poly, row_sum}
-use Rattle.definitions.proofs.Coefficients.{coefficient_of-append}
-use Rattle.nc_polynomial.specs.declared.poly.Poly.{Poly}
-use Rattle.adjoint_rules.specs.Problem.{polynomials}
-use Rattle.nc_polynomial.specs.Collected.{coefficient_in}
-use Rattle.cofactor_checker.specs.Running.{IsSumOf}
-use Rattle.cofactor_checker.specs.Operations.{adding_operations, row_operations}
-use Rattle.cofactor_checker.specs.Rows.{term_count, IsNumberUpTo, RowPasses, RowsPass, Reaches}
-use Rattle.cofactor_checker.specs.RowRefusals.{StopsAt, lacks, overflows, outgrows}
-use Rattle.cofactor_checker.specs.declared.refusal.Refusal.{Refusal}
+use Rattle.cofactor_checker.proofs.Prelude.{◌≡◌, ℕ, zero, suc, ◌+◌, ◌-◌, ◌<◌, ◌≤◌, ℤ, pos, ◌+ℤ◌, List, [], ◌∷◌, ◌++◌, length, map, take, slice_get, Some, None, ◌⊎◌, inl, inr, sym, refl, ap, ◌∙◌, subst, arith, BTreeMap, hash_map_len, IsUnique, take_all, take_more, length-map, cases_eq, option_map, slice_get_within, get_or_from_slice_get, slice_get-map, +ℤ_comm, +ℤ_assoc, Overflow, first_overflow, word_eq, coefficient_of, Row, generator_at, row_poly, row_sum, coefficient_of-append, Poly, polynomials, coefficient_in, IsSumOf, adding_operations, row_operations, term_count, IsNumberUpTo, RowPasses, RowsPass, Reaches, StopsAt, lacks, overflows, outgrows, Refusal, Table, coefficient_at, IsTable, Adds}
 use Rattle.cofactor_checker.specs.declared.refusal.Refusal.TheVariants as refusal
-use Rattle.cofactor_checker.specs.Table.{Table, coefficient_at, IsTable, Adds}
 use Rattle.cofactor_checker.proofs.Counts.{len-term_count}
 
 -- one row more at the end

@@ -1,27 +1,8 @@
 -- The rows of a certificate, of a lemma or of a goal, one after another: exactly one outcome.
-use Rattle.std.proofs.Common.{◌≡◌, ◌⊎◌, inl, inr, ℕ, ◌+◌, ◌<◌, ◌≤◌, List, ◌++◌, length, map, take, Option, Some, None, option_map, slice_get, refl, sym, subst, ap, ◌∙◌, arith}
-use Rattle.std.proofs.lemmas.List.{length-map}
-use Rattle.std.proofs.lemmas.Option.{slice_get-map, slice_get_within}
-use Rattle.coef_int.specs.declared.Overflow.{Overflow}
-use Rattle.coef_int.specs.Operations.{first_overflow}
-use Rattle.definitions.specs.Poly.{Poly, poly_multiple}
-use Rattle.definitions.specs.Combination.{Row, row_sum}
-use Rattle.traced_rows.specs.declared.certificate.CertRow.{CertRow}
-use Rattle.traced_rows.specs.declared.evidence.CertFrom.{CertFrom}
+use Rattle.cofactor_checker.proofs.Prelude.{◌≡◌, ◌⊎◌, inl, inr, ℕ, ◌+◌, ◌<◌, ◌≤◌, List, ◌++◌, length, map, take, Option, Some, None, slice_get, refl, sym, subst, ap, ◌∙◌, arith, length-map, slice_get-map, slice_get_within, Overflow, first_overflow, poly_multiple, Row, row_sum, CertRow, CertFrom, Lemma, LemmaRow, row_of, rows_of, IsDecided, decided_by, both_decided, le_decided, HasOneOutcome, PassUpTo, FailsFirst, one_test, value_test, then_test, item_test, tests_up_to, reworded, row_operations, term_count, sum_limit, IsNumberUpTo, RowPasses, RowsPass, Reaches, LacksGenerator, StopsAt, lacks, overflows, outgrows, memory, tell_generator, tell_lacking, plain_row, plain_rows, plain_sum, IsGenerator, IsLemma, LemmaRowsPass, RefusesLemmaRows, IsMemory, ReachesClaim, RefusesGoal, Refusal}
+use Rattle.std.proofs.Common.{option_map}
+use Rattle.definitions.specs.Poly.{Poly}
 use Rattle.traced_rows.specs.declared.evidence.CertFrom.TheVariants as cert
-use Rattle.traced_rows.specs.declared.evidence.Lemma.{Lemma}
-use Rattle.traced_rows.specs.declared.evidence.LemmaRow.{LemmaRow}
-use Rattle.traced_rows.specs.Rows.{row_of, rows_of}
-use Rattle.lists.proofs.Decided.{IsDecided, decided_by, both_decided, le_decided}
-use Rattle.lists.proofs.FirstFailure.{HasOneOutcome, PassUpTo, FailsFirst, one_test, value_test, then_test, item_test, tests_up_to, reworded}
-use Rattle.cofactor_checker.specs.Operations.{row_operations}
-use Rattle.cofactor_checker.specs.Rows.{term_count, sum_limit, IsNumberUpTo, RowPasses, RowsPass, Reaches, LacksGenerator}
-use Rattle.cofactor_checker.specs.RowRefusals.{StopsAt, lacks, overflows, outgrows, memory, tell_generator, tell_lacking}
-use Rattle.cofactor_checker.specs.PlainRows.{plain_row, plain_rows, plain_sum, IsGenerator, IsLemma}
-use Rattle.cofactor_checker.specs.Lemmas.{LemmaRowsPass, RefusesLemmaRows}
-use Rattle.cofactor_checker.specs.Acceptance.{IsMemory}
-use Rattle.cofactor_checker.specs.Goals.{ReachesClaim, RefusesGoal}
-use Rattle.cofactor_checker.specs.declared.refusal.Refusal.{Refusal}
 use Rattle.cofactor_checker.specs.declared.refusal.Refusal.TheVariants as refusal
 use Rattle.cofactor_checker.proofs.Differences.{TellsDifference, difference_outcome}
 

@@ -1,7 +1,6 @@
 -- evidence that passes each test shows its claim
-use Rattle.traced_rows.specs.declared.evidence.Evidence.TheVariants.{Plain, Lemmas}
+use Rattle.cofactor_checker.proofs.Prelude.{Plain, Lemmas, AcceptedEvidenceAddsUp}
 use Rattle.cofactor_checker.proofs.Outcomes.{combination_from_accepts}
-use Rattle.cofactor_checker.specs.Laws.{AcceptedEvidenceAddsUp}
 use Rattle.cofactor_checker.proofs.LemmaSums.{shows}
 
 pub accepted_evidence_adds_up : AcceptedEvidenceAddsUp

@@ -1,11 +1,5 @@
 -- one change of the table in which rows are added up
-use Rattle.std.proofs.Common.{◌≡◌, ◌≢◌, ℕ, ℤ, pos, ◌+ℤ◌, List, [], ◌∷◌, Bool, true, false, cond, Option, Some, unwrap_or, sym, refl, ap, ◌∙◌, subst}
-use Rattle.std.specs.HashMap.{get}
-use Rattle.std.proofs.Math.IntN.{+ℤ_idr}
-use Rattle.coef_int.specs.Range.{IsCoefficient}
-use Rattle.definitions.specs.Poly.{word_eq}
-use Rattle.definitions.proofs.Linear.{word_eq-true}
-use Rattle.cofactor_checker.specs.Table.{Table, coefficient_at, IsTable, Adds}
+use Rattle.cofactor_checker.proofs.Prelude.{◌≡◌, ◌≢◌, ℕ, ℤ, pos, ◌+ℤ◌, List, [], ◌∷◌, Bool, true, false, cond, Option, Some, unwrap_or, sym, refl, ap, ◌∙◌, subst, get, +ℤ_idr, IsCoefficient, word_eq, word_eq-true, Table, coefficient_at, IsTable, Adds}
 
 module _ (m n : Table) (w : List ℕ) (v : Option ℤ) (after : (u : List ℕ) → get word_eq n u ≡ cond (word_eq w u) v (get word_eq m u)) where
   -- the word's coefficient has grown by x, and no other has changed

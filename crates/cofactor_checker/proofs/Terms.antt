@@ -1,27 +1,6 @@
 -- the terms of a sum, and those that a scale does not divide
-use Rattle.std.proofs.Common.{◌≡◌, inl, inr, ℕ, zero, suc, ℤ, pos, negsuc, ◌+ℤ◌, ◌*ℤ◌, neg_ℤ, ◌≤ℤ◌, int_div, List, [], ◌∷◌, ◌++◌, map, length, Bool, true, false, cond, nat_lt, Result, Ok, Err, refl, sym, ap, ap₂, subst, ◌∙◌, arith}
-use Rattle.std.proofs.lemmas.Int.{ints, unsigned_abs-mul}
-use Rattle.std.proofs.Math.Nat.{dvd-mul_right}
-use Rattle.std.specs.BTreeMap.{BTreeMap, IsOrdered}
-use Rattle.std.specs.Int.{◌∣◌}
-use Rattle.std.specs.Int.RustNames.{unsigned_abs}
-use Rattle.std.proofs.lemmas.List.Elements.{All-push}
-use Rattle.word_core.specs.Canonical.{word_cmp}
-use Rattle.coef_int.specs.declared.Overflow.{Overflow}
-use Rattle.definitions.specs.Poly.{poly_multiple}
-use Rattle.definitions.proofs.Integers.{*ℤ-+ℤ, *ℤ-neg_ℤ, *ℤ_zero}
-use Rattle.nc_polynomial.proofs.Divisors.{quotient_times}
-use Rattle.nc_polynomial.specs.Faults.{sized, size_fault, has_long_word}
-use Rattle.nc_polynomial.specs.declared.fault.PolyFault.{PolyFault}
+use Rattle.cofactor_checker.proofs.Prelude.{◌≡◌, inl, inr, ℕ, zero, suc, ℤ, pos, negsuc, ◌+ℤ◌, ◌*ℤ◌, neg_ℤ, ◌≤ℤ◌, int_div, List, [], ◌∷◌, ◌++◌, map, length, Bool, true, false, cond, nat_lt, Result, Ok, Err, refl, sym, ap, ap₂, subst, ◌∙◌, arith, ints, unsigned_abs-mul, dvd-mul_right, BTreeMap, IsOrdered, ◌∣◌, unsigned_abs, All-push, word_cmp, Overflow, poly_multiple, *ℤ-+ℤ, *ℤ-neg_ℤ, *ℤ_zero, quotient_times, sized, size_fault, has_long_word, PolyFault, reversed, collected, DividesEach, coefficient_of-collected, descending-collected, nonzero-collected, descending-table, nonzero-table, coefficient_of-table, descending_unique, IsSumOf, IsLeastIndivisible}
 use Rattle.nc_polynomial.specs.declared.fault.PolyFault.TheVariants as fault
-use Rattle.nc_polynomial.specs.Ascending.{reversed}
-use Rattle.nc_polynomial.specs.Collected.{collected}
-use Rattle.nc_polynomial.specs.Content.{DividesEach}
-use Rattle.nc_polynomial.proofs.CollectedTerms.{coefficient_of-collected, descending-collected, nonzero-collected}
-use Rattle.nc_polynomial.proofs.Tables.{descending-table, nonzero-table, coefficient_of-table}
-use Rattle.nc_polynomial.proofs.Unique.{descending_unique}
-use Rattle.cofactor_checker.specs.Running.{IsSumOf}
-use Rattle.cofactor_checker.specs.Lemmas.{IsLeastIndivisible}
 
 -- the terms of a map are those of each polynomial with its coefficients
 pub collected_is : (m : BTreeMap (List ℕ) ℤ) (p : List (ℤ × List ℕ)) → IsOrdered word_cmp m → IsSumOf m p → reversed m.entries [] ≡ collected p

@@ -1,14 +1,5 @@
 -- the test of words is that of their order, so it has its laws; words letter by letter
-use Rattle.std.proofs.Common.{◌≡◌, ◌≢◌, ℕ, ◌≤◌, List, length, take, get_or, Bool, true, false, sym, ap, subst, ◌∙◌, arith}
-use Rattle.std.specs.Cmp.{IsEquivalence}
-use Rattle.std.specs.Ordering.{eq_by_cmp}
-use Rattle.std.proofs.lemmas.Cmp.{eq_by_cmp_equiv}
-use Rattle.std.proofs.lemmas.Bool.{false_from_ne_true}
-use Rattle.std.proofs.lemmas.List.{take_all}
-use Rattle.word_core.specs.Canonical.{word_cmp, word_cmp_total}
-use Rattle.definitions.specs.Poly.{word_eq}
-use Rattle.definitions.proofs.Linear.{word_eq-same, word_eq-true}
-use Rattle.nc_polynomial.proofs.Words.{word_eq-cmp}
+use Rattle.cofactor_checker.proofs.Prelude.{◌≡◌, ◌≢◌, ℕ, ◌≤◌, List, length, take, get_or, Bool, true, false, sym, ap, subst, ◌∙◌, arith, IsEquivalence, eq_by_cmp, eq_by_cmp_equiv, false_from_ne_true, take_all, word_cmp, word_cmp_total, word_eq, word_eq-same, word_eq-true, word_eq-cmp}
 
 pub by_word_cmp : ◌≡◌ {A = List ℕ → List ℕ → Bool} (eq_by_cmp word_cmp) word_eq
 by_word_cmp = λ i v w. sym (word_eq-cmp v w) i

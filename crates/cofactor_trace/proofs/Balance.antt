@@ -1,29 +1,7 @@
 -- The rows of an expansion add up to its denominator times the polynomial.
-use Rattle.std.proofs.Common.{◌≡◌, ℕ, zero, suc, ℤ, pos, negsuc, ◌+ℤ◌, ◌*ℤ◌, neg_ℤ, ◌<ℤ◌, int_div, List, [], ◌∷◌, map, Ok, sym, ap, ap₂, subst, ◌∙◌, arith}
-use Rattle.std.proofs.lemmas.Int.{ints}
-use Rattle.std.proofs.Math.IntN.{*ℤ_comm, *ℤ-zero}
-use Rattle.std.specs.Int.{◌∣◌}
-use Rattle.std.specs.Int.RustNames.{unsigned_abs}
-use Rattle.std.specs.List.{All, AllByRecursion}
-use Rattle.std.proofs.lemmas.List.Elements.{All-nil, All-cons, All-head, All-tail}
-use Rattle.definitions.specs.Poly.{Term, coefficient_of, poly_multiple, poly_between}
-use Rattle.definitions.specs.Combination.{generator_at, row_sum, IsCombination}
-use Rattle.definitions.proofs.Coefficients.{coefficient_of-append, coefficient_of-multiple}
-use Rattle.definitions.proofs.Integers.{*ℤ_assoc, *ℤ-+ℤ, *ℤ-neg_ℤ, *ℤ_zero}
-use Rattle.nc_polynomial.proofs.Divisors.{quotient_times}
-use Rattle.traced_rows.specs.declared.Origin.{Origin}
-use Rattle.traced_rows.specs.declared.Row.{Row}
-use Rattle.traced_rows.specs.declared.Made.{Made}
-use Rattle.traced_rows.specs.declared.certificate.CertRow.{CertRow}
-use Rattle.traced_rows.specs.declared.certificate.Cofactors.{Cofactors}
-use Rattle.traced_rows.specs.Rows.{rows_of}
-use Rattle.traced_rows.specs.Traces.{origin_poly, traced_poly, traced_sum}
-use Rattle.cofactor_trace.specs.Gathered.{gathered}
-use Rattle.cofactor_trace.specs.Expansion.{Known, denominators, common_denominator, share, joined_rows, joined, content_of, divided_row, primitive, record_expansion}
-use Rattle.cofactor_trace.specs.Laws.{Traces}
+use Rattle.cofactor_trace.proofs.Prelude.{◌≡◌, ℕ, zero, suc, ℤ, pos, negsuc, ◌+ℤ◌, ◌*ℤ◌, neg_ℤ, ◌<ℤ◌, int_div, List, [], ◌∷◌, map, Ok, sym, ap, ap₂, subst, ◌∙◌, arith, ints, *ℤ_comm, *ℤ-zero, ◌∣◌, unsigned_abs, All, AllByRecursion, All-nil, All-cons, All-head, All-tail, Term, coefficient_of, poly_multiple, poly_between, generator_at, row_sum, IsCombination, coefficient_of-append, coefficient_of-multiple, *ℤ_assoc, *ℤ-+ℤ, *ℤ-neg_ℤ, *ℤ_zero, quotient_times, Origin, Row, Made, CertRow, Cofactors, rows_of, origin_poly, traced_poly, traced_sum, gathered, Known, denominators, common_denominator, share, joined_rows, joined, content_of, divided_row, primitive, record_expansion, Traces, between-same, between-multiple}
 use Rattle.cofactor_trace.proofs.Divisors.{content-first, content-each, content-positive, quotient_positive, product_positive, common_multiple-each, common_multiple-positive}
 use Rattle.cofactor_trace.proofs.RecordLaws.{primitive_is}
-use Rattle.traced_rows.proofs.Between.{between-same, between-multiple}
 use Rattle.cofactor_trace.proofs.Values.{value, value-sum, value-append, value-gathered, value-joined}
 
 -- integers

@@ -1,14 +1,6 @@
 -- Each rule that the target or a needed rule names is needed, and comes before what names it.
-use Rattle.std.proofs.lemmas.Bool.{cond_both}
-use Rattle.std.proofs.lemmas.Bool.Decides.{eqb_tells, nat_tests}
-use Rattle.std.proofs.Common.{◌≡◌, ℕ, suc, ◌+◌, ◌<◌, ◌≤◌, Bool, true, false, cond, List, [], ◌∷◌, length, nat_eq, eqb-true, Some, sym, refl, subst, arith}
-use Rattle.std.proofs.lemmas.List.Elements.{All-head, All-tail}
-use Rattle.std.specs.List.{All, list_any, slice_get}
-use Rattle.traced_rows.specs.declared.Origin.{Origin}
+use Rattle.cofactor_trace.proofs.Prelude.{cond_both, eqb_tells, nat_tests, ◌≡◌, ℕ, suc, ◌+◌, ◌<◌, ◌≤◌, Bool, true, false, cond, List, [], ◌∷◌, length, nat_eq, eqb-true, Some, sym, refl, subst, arith, All-head, All-tail, All, list_any, slice_get, Origin, Row, Made, IsAmongFirst, IsRecord, AreRecords, is_rule, is_named, Numbered, needed_from, needed_rules}
 use Rattle.traced_rows.specs.declared.Origin.TheVariants as origin
-use Rattle.traced_rows.specs.declared.Row.{Row}
-use Rattle.traced_rows.specs.declared.Made.{Made}
-use Rattle.cofactor_trace.specs.Needed.{IsAmongFirst, IsRecord, AreRecords, is_rule, is_named, Numbered, needed_from, needed_rules}
 use Rattle.cofactor_trace.proofs.NeededLaws.{records_of}
 
 -- what rows name

@@ -1,19 +1,7 @@
 -- Quotients, products and least common multiples of positive integers are positive; common divisors divide, and least common
 -- multiples are divided by, each number.
-use Rattle.std.proofs.Common.{◌≡◌, ◌<◌, ℕ, zero, suc, List, [], ◌∷◌, ◌/◌, ℤ, pos, negsuc, ◌<ℤ◌, ◌*ℤ◌, ◌*◌, refl, sym, ap, subst, subst₂, ◌∙◌, arith}
-use Rattle.std.proofs.Math.IntN.{*ℤ-zero}
-use Rattle.std.specs.List.{All, AllByRecursion, fold}
-use Rattle.std.specs.Int.{◌∣◌}
-use Rattle.std.specs.Int.RustNames.{unsigned_abs, int_div}
-use Rattle.std.proofs.lemmas.Int.{ints, unsigned_abs-mul}
-use Rattle.std.proofs.lemmas.Nat.Gcd.{dvd_refl, dvd_trans, dvd-zero}
-use Rattle.std.proofs.lemmas.List.Elements.{All-nil, All-cons, All-head, All-tail}
-use Rattle.std.proofs.Math.Nat.{dvd-mul_right, dvd_of_mul-dvd-mul_right, eq-zero_of_zero-dvd, mul-dvd-mul_right, mul_assoc, mul_comm}
-use Rattle.nc_polynomial.proofs.Divisors.{quotient_times}
-use Rattle.coef_int.specs.Divisor.{gcd_of}
-use Rattle.coef_int.proofs.Divisors.{gcd_of-IsGcd, gcd_of-positive, gcd_of-scaled}
-use Rattle.cofactor_trace.specs.CommonMultiples.{MultiplesAreLeast}
-use Rattle.cofactor_trace.specs.Expansion.{lcm_of, common_multiple}
+use Rattle.cofactor_trace.proofs.Prelude.{◌≡◌, ◌<◌, ℕ, zero, suc, List, [], ◌∷◌, ◌/◌, ℤ, pos, negsuc, ◌<ℤ◌, ◌*ℤ◌, ◌*◌, refl, sym, ap, subst, subst₂, ◌∙◌, arith, *ℤ-zero, All, AllByRecursion, fold, ◌∣◌, unsigned_abs, ints, unsigned_abs-mul, dvd_refl, dvd_trans, dvd-zero, All-nil, All-cons, All-head, All-tail, dvd-mul_right, dvd_of_mul-dvd-mul_right, eq-zero_of_zero-dvd, mul-dvd-mul_right, mul_assoc, mul_comm, quotient_times, gcd_of, gcd_of-IsGcd, gcd_of-positive, gcd_of-scaled, MultiplesAreLeast, lcm_of, common_multiple}
+use Rattle.std.specs.Int.RustNames.{int_div}
 
 -- a quotient by a divisor of a positive integer is positive
 pub quotient_positive : (y d : ℤ) → pos 0 <ℤ y → pos 0 <ℤ d → unsigned_abs d ∣ unsigned_abs y → pos 0 <ℤ int_div y d

@@ -1,8 +1,6 @@
 -- the row 2 (5) 3 (7 8) of a certificate, and of a record with the rule 4 at the word 6
-use Rattle.std.proofs.Common.{◌≡◌, pos, negsuc, [], ◌∷◌, refl}
+use Rattle.cofactor_trace.proofs.Prelude.{◌≡◌, pos, negsuc, [], ◌∷◌, refl, rows_of, traced_sum}
 use Rattle.traced_rows.specs.declared.Origin.TheVariants as origin
-use Rattle.traced_rows.specs.Rows.{rows_of}
-use Rattle.traced_rows.specs.Traces.{traced_sum}
 
 one_row : rows_of (record { coef = pos 2; left = 5 ∷ []; generator = 3; right = 7 ∷ 8 ∷ [] } ∷ []) ≡ record { coefficient = pos 2; left = 5 ∷ []; generator = 3; right = 7 ∷ 8 ∷ [] } ∷ []
 one_row = refl

@@ -1,25 +1,7 @@
 -- The parts of a gathered certificate: its limits, numbers and words.
-use Rattle.nc_polynomial.proofs.Shapes.{first_fits}
-use Rattle.std.proofs.Common.{◌≡◌, ℕ, suc, ℤ, pos, ◌≤◌, int_div, Bool, true, false, cond, IsTrue, List, [], ◌∷◌, ◌++◌, map, length, get_or, nat_lt, Some, None, Ok, sym, ap, subst, ◌∙◌, arith}
-use Rattle.std.proofs.lemmas.Bool.Decides.{nat_tests}
-use Rattle.std.proofs.lemmas.Bool.{cond_both}
-use Rattle.std.proofs.lemmas.Int.{ints}
-use Rattle.std.proofs.lemmas.List.{length-map}
-use Rattle.std.proofs.lemmas.List.Sums.{sum_by-cons, sum_by-append}
-use Rattle.std.proofs.lemmas.List.Elements.{All-nil, All-cons, All-head, All-tail, All-push, All-map, All-filter, All-weaker}
-use Rattle.std.specs.List.{All}
-use Rattle.coef_int.specs.Range.{IsCoefficient}
-use Rattle.coef_int.specs.Operations.{product_of, first_overflow}
-use Rattle.coef_int.specs.Divisor.{gcd_of}
-use Rattle.traced_rows.specs.declared.Made.{Made}
-use Rattle.traced_rows.specs.declared.evidence.LemmaRow.{LemmaRow}
-use Rattle.traced_rows.specs.declared.evidence.Lemma.{Lemma}
-use Rattle.traced_rows.specs.declared.evidence.LemmaCertificate.{LemmaCertificate}
+use Rattle.cofactor_trace.proofs.Prelude.{first_fits, ◌≡◌, ℕ, suc, ℤ, pos, ◌≤◌, int_div, Bool, true, false, cond, IsTrue, List, [], ◌∷◌, ◌++◌, map, length, get_or, nat_lt, Some, None, Ok, sym, ap, subst, ◌∙◌, arith, nat_tests, cond_both, ints, length-map, sum_by-cons, sum_by-append, All-nil, All-cons, All-head, All-tail, All-push, All-map, All-filter, All-weaker, All, IsCoefficient, product_of, first_overflow, gcd_of, Made, LemmaRow, Lemma, LemmaCertificate, lcm_of, common_multiple, multiple_products, unless, IsRecord, is_named, Numbered, needed_from, needed_rules, is_lemma, naming_of, lemma_rules, lemma_records, lemma_row, lemma_of, signed, row_count, letter_count, scale_fault, gathered_of, parts_of, IsRangedLemma, GatheringsFit, LemmasHaveRows, GatheringsAreRanged, WordsAreKept}
 use Rattle.cofactor_trace.specs.declared.fault.GatherFault.TheVariants as fault
-use Rattle.cofactor_trace.specs.Expansion.{lcm_of, common_multiple, multiple_products, unless}
-use Rattle.cofactor_trace.specs.Needed.{IsRecord, is_named, Numbered, needed_from, needed_rules}
-use Rattle.cofactor_trace.specs.Lemmas.{is_lemma, naming_of, lemma_rules, lemma_records, lemma_row, lemma_of, signed, row_count, letter_count, limit_fault, scale_fault, gathered_of}
-use Rattle.cofactor_trace.specs.GatheringLaws.{parts_of, IsRangedLemma, GatheringsFit, LemmasHaveRows, GatheringsAreRanged, WordsAreKept}
+use Rattle.cofactor_trace.specs.Lemmas.{limit_fault}
 use Rattle.cofactor_trace.proofs.Halts.{unless_ok, unmapped-none}
 use Rattle.cofactor_trace.proofs.NeededLaws.{records_of}
 use Rattle.cofactor_trace.proofs.NamingLaws.{are_records}

@@ -1,13 +1,5 @@
 -- Rows before those that are left to gather.
-use Rattle.std.proofs.Common.{◌≡◌, ℤ, zero, suc, pos, negsuc, List, [], ◌++◌, Result, Ok, Err, refl, sym, ap, append_assoc}
-use Rattle.std.specs.List.{All}
-use Rattle.std.proofs.lemmas.List.Elements.{All-nil, All-cons}
-use Rattle.coef_int.specs.declared.Overflow.{Overflow}
-use Rattle.coef_int.specs.Range.{IsCoefficient}
-use Rattle.traced_rows.specs.declared.certificate.CertRow.{CertRow}
-use Rattle.cofactor_trace.specs.declared.table.Multiple.{Multiple}
-use Rattle.cofactor_trace.specs.Gathered.{kept_row}
-use Rattle.cofactor_trace.specs.Table.{before}
+use Rattle.cofactor_trace.proofs.Prelude.{◌≡◌, ℤ, zero, suc, pos, negsuc, List, [], ◌++◌, Result, Ok, Err, refl, sym, ap, append_assoc, All, All-nil, All-cons, Overflow, IsCoefficient, CertRow, Multiple, kept_row, before}
 
 abbrev pub behind : List CertRow → Result (List CertRow) Overflow → Result (List CertRow) Overflow
 behind out (Ok rows) = Ok (out ++ rows)

@@ -1,14 +1,6 @@
 -- The first fault of several parts.
-use Rattle.std.proofs.Common.{◌≡◌, List, ◌++◌, Option, Some, None, Result, Ok, refl, sym, ap, subst, ◌∙◌}
-use Rattle.std.specs.Option.{option_map}
-use Rattle.coef_int.specs.declared.Overflow.{Overflow}
-use Rattle.coef_int.specs.Operations.{first_overflow}
-use Rattle.nc_polynomial.proofs.Chains.{or_first, first-append}
-use Rattle.cofactor_trace.specs.declared.fault.ExpandFault.{ExpandFault}
+use Rattle.cofactor_trace.proofs.Prelude.{◌≡◌, List, ◌++◌, Option, Some, None, Result, Ok, refl, sym, ap, subst, ◌∙◌, option_map, Overflow, first_overflow, or_first, first-append, ExpandFault, unless, overflow_in, and_then, IsMemory, Explains, IsFirst}
 use Rattle.cofactor_trace.specs.declared.fault.ExpandFault.TheVariants as fault
-use Rattle.cofactor_trace.specs.Expansion.{unless, overflow_in}
-use Rattle.cofactor_trace.specs.Needed.{and_then}
-use Rattle.cofactor_trace.specs.Faults.{IsMemory, Explains, IsFirst}
 
 -- a fault of the first part is that of the whole
 pub explains-first : {A : Type 0} (first : Option ExpandFault) (r : Result A ExpandFault) (e : ExpandFault) → IsFirst first e → Explains (unless first r) e

@@ -1,16 +1,5 @@
 -- What gathering and dividing keep of rows: what holds of each multiple, and bounds on sums over them.
-use Rattle.std.proofs.Common.{◌≡◌, ℕ, zero, suc, ◌+◌, ◌≤◌, ℤ, pos, negsuc, List, [], ◌∷◌, ◌++◌, map, sym, refl, ap, ◌∙◌, arith}
-use Rattle.std.proofs.lemmas.List.Sums.{sum_by-cons, sum_by-append}
-use Rattle.std.specs.List.{AllByRecursion, fold, flat_map, sum_by}
-use Rattle.std.specs.BTreeSet.{insert_key}
-use Rattle.std.specs.Ordering.{match_ordering}
-use Rattle.std.specs.declared.cmp.Ordering.{Ordering}
-use Rattle.std.specs.declared.cmp.Ordering.TheVariants.{Less, Equal, Greater}
-use Rattle.traced_rows.specs.declared.certificate.CertRow.{CertRow}
-use Rattle.cofactor_trace.specs.declared.table.Multiple.{Multiple}
-use Rattle.cofactor_trace.specs.Multiples.{multiple_of, multiple_cmp}
-use Rattle.cofactor_trace.specs.Gathered.{multiples_of, total_at, kept_row, gathered}
-use Rattle.cofactor_trace.specs.Expansion.{divided_row, primitive, content_of}
+use Rattle.cofactor_trace.proofs.Prelude.{◌≡◌, ℕ, zero, suc, ◌+◌, ◌≤◌, ℤ, pos, negsuc, List, [], ◌∷◌, ◌++◌, map, sym, refl, ap, ◌∙◌, arith, sum_by-cons, sum_by-append, AllByRecursion, fold, flat_map, sum_by, insert_key, match_ordering, Ordering, Less, Equal, Greater, CertRow, Multiple, multiple_of, multiple_cmp, multiples_of, total_at, kept_row, gathered, divided_row, primitive, content_of}
 use Rattle.cofactor_trace.proofs.TableLaws.{all_inserted}
 
 all_append : {X : Type 0} (P : X → Type 0) (xs ys : List X) → AllByRecursion P xs → AllByRecursion P ys → AllByRecursion P (xs ++ ys)

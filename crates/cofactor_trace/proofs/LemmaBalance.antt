@@ -1,31 +1,5 @@
 -- The rows of lemmas and goal add up to their scales times their polynomials.
-use Rattle.std.proofs.Common.{◌≡◌, ℕ, zero, suc, ◌-◌, ◌≤◌, ℤ, pos, ◌+ℤ◌, ◌*ℤ◌, ◌<ℤ◌, Bool, true, false, Some, List, [], ◌∷◌, ◌++◌, map, nat_eq, eqb-true, length, sym, refl, ap, ap₂, subst, ◌∙◌, append_assoc, arith}
-use Rattle.std.proofs.lemmas.Bool.{cond_both}
-use Rattle.std.proofs.lemmas.Int.{ints}
-use Rattle.std.proofs.lemmas.List.{map-append, append-nil, get_or-map, length-map}
-use Rattle.std.proofs.lemmas.List.Elements.{All-map}
-use Rattle.std.proofs.Math.IntN.{+ℤ_idr}
-use Rattle.std.specs.Int.{◌∣◌}
-use Rattle.std.specs.Int.RustNames.{unsigned_abs}
-use Rattle.std.specs.List.{All, AllByRecursion, slice_get}
-use Rattle.definitions.specs.Poly.{Term, coefficient_of, SamePolynomial, poly_multiple, poly_between}
-use Rattle.definitions.specs.Combination.{generator_at}
-use Rattle.definitions.proofs.Coefficients.{coefficient_of-append, coefficient_of-multiple}
-use Rattle.definitions.proofs.Integers.{*ℤ_assoc}
-use Rattle.nc_polynomial.proofs.Units.{one-*ℤ}
-use Rattle.traced_rows.specs.declared.Origin.{Origin}
-use Rattle.traced_rows.specs.declared.Row.{Row}
-use Rattle.traced_rows.specs.declared.Made.{Made}
-use Rattle.traced_rows.specs.declared.evidence.Lemma.{Lemma}
-use Rattle.traced_rows.specs.declared.evidence.LemmaCertificate.{LemmaCertificate}
-use Rattle.cofactor_trace.specs.declared.replacement.Replacement.{Replacement}
-use Rattle.cofactor_trace.specs.Laws.{Traces, AreTraces}
-use Rattle.traced_rows.specs.Traces.{origin_poly, traced_poly, traced_sum}
-use Rattle.cofactor_trace.specs.Needed.{IsRecord, AreRecords, Numbered}
-use Rattle.cofactor_trace.specs.Lemmas.{naming_of, direct_of, lemma_rules, lemma_number, lemma_row, lemma_of, signed}
-use Rattle.traced_rows.specs.LemmaRows.{cert_poly, lemma_row_poly, lemma_sum, AddsUpTo, AreOfLemmas, IsShareOf, IsEvidenceOf}
-use Rattle.cofactor_trace.specs.GatheringLaws.{lemma_polys, GatheringsAddUp}
-use Rattle.traced_rows.proofs.Between.{between-same, between-multiple, between-nothing}
+use Rattle.cofactor_trace.proofs.Prelude.{◌≡◌, ℕ, zero, suc, ◌-◌, ◌≤◌, ℤ, pos, ◌+ℤ◌, ◌*ℤ◌, ◌<ℤ◌, Bool, true, false, Some, List, [], ◌∷◌, ◌++◌, map, nat_eq, eqb-true, length, sym, refl, ap, ap₂, subst, ◌∙◌, append_assoc, arith, cond_both, ints, map-append, append-nil, get_or-map, length-map, All-map, +ℤ_idr, ◌∣◌, unsigned_abs, All, AllByRecursion, slice_get, Term, coefficient_of, SamePolynomial, poly_multiple, poly_between, generator_at, coefficient_of-append, coefficient_of-multiple, *ℤ_assoc, one-*ℤ, Origin, Row, Made, Lemma, LemmaCertificate, Replacement, Traces, AreTraces, origin_poly, traced_poly, traced_sum, IsRecord, AreRecords, Numbered, naming_of, direct_of, lemma_rules, lemma_number, lemma_row, lemma_of, signed, cert_poly, lemma_row_poly, lemma_sum, AddsUpTo, AreOfLemmas, IsShareOf, IsEvidenceOf, lemma_polys, GatheringsAddUp, between-same, between-multiple, between-nothing}
 use Rattle.cofactor_trace.proofs.Divisors.{common_multiple-each, common_multiple-positive}
 use Rattle.cofactor_trace.proofs.Closure.{is_numbered}
 use Rattle.cofactor_trace.proofs.NamingLaws.{are_records}

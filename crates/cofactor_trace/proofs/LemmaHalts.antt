@@ -1,8 +1,6 @@
 -- The first fault of gathering.
-use Rattle.std.proofs.Common.{◌≡◌, Option, Some, None, Result, sym, ap, subst, ◌∙◌}
-use Rattle.cofactor_trace.specs.declared.fault.GatherFault.{GatherFault}
+use Rattle.cofactor_trace.proofs.Prelude.{◌≡◌, Option, Some, None, Result, sym, ap, subst, ◌∙◌, GatherFault, unless}
 use Rattle.cofactor_trace.specs.declared.fault.GatherFault.TheVariants as fault
-use Rattle.cofactor_trace.specs.Expansion.{unless}
 use Rattle.cofactor_trace.specs.GatherFaults.{Explains}
 
 -- a fault of the first part is that of the whole

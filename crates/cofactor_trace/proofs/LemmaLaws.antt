@@ -1,19 +1,7 @@
 -- What is gathered by the table of names is the certificate.
-use Rattle.std.proofs.Common.{◌≡◌, inl, inr, ℕ, ℤ, pos, true, List, [], ◌∷◌, ◌++◌, map, filter, length, nat_eq, eqb-true, eq-eqb, Ok, sym, refl, ap, ap₂, subst, ◌∙◌}
-use Rattle.std.proofs.lemmas.List.{map-append}
-use Rattle.std.proofs.lemmas.Bool.{cond_both, or_cases, or_left, or_right}
-use Rattle.std.specs.List.{AllByRecursion}
-use Rattle.traced_rows.specs.declared.Origin.{Origin}
+use Rattle.cofactor_trace.proofs.Prelude.{◌≡◌, inl, inr, ℕ, ℤ, pos, true, List, [], ◌∷◌, ◌++◌, map, filter, length, nat_eq, eqb-true, eq-eqb, Ok, sym, refl, ap, ap₂, subst, ◌∙◌, map-append, cond_both, or_cases, or_left, or_right, AllByRecursion, Origin, Row, Made, Lemma, Replacement, common_multiple, unless, IsRecord, AreRecords, is_rule, is_named, Numbered, needed_rules, is_lemma, naming_of, lemma_records, lemma_row, lemma_of, scale_fault, gathered_of, extended_all, no_extent, limit_of, named_in, NamesRules}
 use Rattle.traced_rows.specs.declared.Origin.TheVariants as origin
-use Rattle.traced_rows.specs.declared.Row.{Row}
-use Rattle.traced_rows.specs.declared.Made.{Made}
-use Rattle.traced_rows.specs.declared.evidence.Lemma.{Lemma}
-use Rattle.cofactor_trace.specs.declared.replacement.Replacement.{Replacement}
-use Rattle.cofactor_trace.specs.Expansion.{common_multiple, unless}
-use Rattle.cofactor_trace.specs.Needed.{IsRecord, AreRecords, is_rule, is_named, Numbered, needed_rules}
-use Rattle.cofactor_trace.specs.Lemmas.{is_lemma, naming_of, lemma_records, lemma_row, lemma_of, limit_fault, scale_fault, gathered_of}
-use Rattle.cofactor_trace.specs.LemmaSizes.{extended_all, no_extent, limit_of}
-use Rattle.cofactor_trace.specs.Naming.{named_in, NamesRules}
+use Rattle.cofactor_trace.specs.Lemmas.{limit_fault}
 use Rattle.cofactor_trace.proofs.Closure.{names, is_numbered, named_is_needed}
 use Rattle.cofactor_trace.proofs.NeededLaws.{records_of}
 use Rattle.cofactor_trace.proofs.LemmaLimits.{limit_of-extended}

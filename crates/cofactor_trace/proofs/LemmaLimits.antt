@@ -1,18 +1,7 @@
 -- Counts that stop at the greatest number say which limit a certificate with lemmas exceeds.
-use Rattle.std.proofs.Common.{◌≡◌, ℕ, ◌+◌, ◌-◌, ◌^◌, ◌≤◌, min, Bool, true, false, List, [], ◌∷◌, length, map, nat_lt, Option, Some, None, ap, ◌∙◌, arith}
-use Rattle.std.specs.Prelude.{if◌then◌else◌}
-use Rattle.std.specs.List.{fold, sum_by}
-use Rattle.std.proofs.lemmas.List.{length-map}
-use Rattle.std.proofs.lemmas.List.Sums.{sum_by-cons}
-use Rattle.traced_rows.specs.declared.Row.{Row}
-use Rattle.traced_rows.specs.declared.Made.{Made}
-use Rattle.traced_rows.specs.declared.evidence.LemmaRow.{LemmaRow}
-use Rattle.traced_rows.specs.declared.evidence.Lemma.{Lemma}
-use Rattle.cofactor_trace.specs.declared.fault.GatherFault.{GatherFault}
+use Rattle.cofactor_trace.proofs.Prelude.{◌≡◌, ℕ, ◌+◌, ◌-◌, ◌^◌, ◌≤◌, min, Bool, true, false, List, [], ◌∷◌, length, map, nat_lt, Option, Some, None, ap, ◌∙◌, arith, if◌then◌else◌, fold, sum_by, length-map, sum_by-cons, Row, Made, LemmaRow, Lemma, GatherFault, Extent, Naming, lemma_row, lemma_of, row_count, letter_count, letters_with, extended, extended_all, no_extent, limit_of}
 use Rattle.cofactor_trace.specs.declared.fault.GatherFault.TheVariants as fault
-use Rattle.cofactor_trace.specs.declared.extent.Extent.{Extent}
-use Rattle.cofactor_trace.specs.Lemmas.{Naming, lemma_row, lemma_of, row_count, letter_count, limit_fault}
-use Rattle.cofactor_trace.specs.LemmaSizes.{letters_with, extended, extended_all, no_extent, limit_of}
+use Rattle.cofactor_trace.specs.Lemmas.{limit_fault}
 use Rattle.cofactor_trace.proofs.SizeLaws.{below_cap}
 
 module _ (naming : Naming) where

@@ -1,18 +1,5 @@
 -- Lemmas name earlier lemmas, and the generators that the records name.
-use Rattle.std.proofs.Common.{◌≡◌, ℕ, suc, ◌+◌, ◌-◌, ◌≤◌, List, [], ◌∷◌, ◌++◌, map, length, Some, sym, refl, subst, ◌∙◌, append_assoc, arith}
-use Rattle.std.proofs.lemmas.List.{append-nil, length-append, length-map}
-use Rattle.std.proofs.lemmas.List.Elements.{All-nil, All-cons, All-head, All-tail}
-use Rattle.std.proofs.lemmas.Option.{slice_get_within, get_or_from_slice_get}
-use Rattle.std.specs.List.{All, AllByRecursion, slice_get}
-use Rattle.traced_rows.specs.declared.Row.{Row}
-use Rattle.traced_rows.specs.declared.Made.{Made}
-use Rattle.traced_rows.specs.declared.evidence.LemmaRow.{LemmaRow}
-use Rattle.traced_rows.specs.declared.evidence.LemmaCertificate.{LemmaCertificate}
-use Rattle.cofactor_trace.specs.declared.replacement.Replacement.{Replacement}
-use Rattle.cofactor_trace.specs.Laws.{IsUpTo, NamesUpTo}
-use Rattle.cofactor_trace.specs.Needed.{IsRecord, AreRecords, Numbered}
-use Rattle.cofactor_trace.specs.Lemmas.{naming_of, direct_of, lemma_rules, lemma_records, lemma_row, lemma_of}
-use Rattle.cofactor_trace.specs.GatheringLaws.{IsWithin, NamesWithin, NameEarlier, LemmasAreNamed}
+use Rattle.cofactor_trace.proofs.Prelude.{◌≡◌, ℕ, suc, ◌+◌, ◌-◌, ◌≤◌, List, [], ◌∷◌, ◌++◌, map, length, Some, sym, refl, subst, ◌∙◌, append_assoc, arith, append-nil, length-append, length-map, All-nil, All-cons, All-head, All-tail, slice_get_within, get_or_from_slice_get, All, AllByRecursion, slice_get, Row, Made, LemmaRow, LemmaCertificate, Replacement, IsUpTo, NamesUpTo, IsRecord, AreRecords, Numbered, naming_of, direct_of, lemma_rules, lemma_records, lemma_row, lemma_of, IsWithin, NamesWithin, NameEarlier, LemmasAreNamed}
 use Rattle.cofactor_trace.proofs.LemmaLaws.{target_names}
 use Rattle.cofactor_trace.proofs.LemmaSources.{direct_is, number_positive, number_within, IsKnown, by_source, lemma_knows, target_knows, IsEntry, lemma_entries}
 use Rattle.cofactor_trace.proofs.GatheredParts.{parts}

@@ -1,18 +1,7 @@
 -- The replacements of the generators and rules that a lemma or the target names: generators, direct rules, earlier lemmas.
-use Rattle.std.proofs.Common.{◌≡◌, inl, inr, ℕ, ◌-◌, ◌<◌, ◌≤◌, ℤ, pos, negsuc, Bool, true, false, ◌&&◌, cond, List, [], ◌∷◌, ◌++◌, filter, length, nat_eq, eqb-true, eq-eqb, Option, Some, None, unwrap_or, is_none, sym, refl, ap, subst, ◌∙◌, arith}
-use Rattle.std.proofs.lemmas.Bool.Decides.{Decides-int_eq, nat_tests}
-use Rattle.std.proofs.lemmas.Bool.{and_parts, cond_both, or_cases, or_left, or_right}
-use Rattle.std.specs.List.{AllByRecursion, slice_get}
-use Rattle.std.specs.Option.{option_and_then}
-use Rattle.std.specs.Ordering.{int_eq}
-use Rattle.traced_rows.specs.declared.Origin.{Origin}
+use Rattle.cofactor_trace.proofs.Prelude.{◌≡◌, inl, inr, ℕ, ◌-◌, ◌<◌, ◌≤◌, ℤ, pos, negsuc, Bool, true, false, ◌&&◌, cond, List, [], ◌∷◌, ◌++◌, filter, length, nat_eq, eqb-true, eq-eqb, Option, Some, None, unwrap_or, is_none, sym, refl, ap, subst, ◌∙◌, arith, Decides-int_eq, nat_tests, and_parts, cond_both, or_cases, or_left, or_right, AllByRecursion, slice_get, option_and_then, int_eq, Origin, Row, Made, Replacement, IsRecord, AreRecords, is_rule, Numbered, needed_rules, signed_generator, single_row, direct_of, is_lemma, lemma_at, lemma_rules, lemma_number, naming_of, signed}
 use Rattle.traced_rows.specs.declared.Origin.TheVariants as origin
-use Rattle.traced_rows.specs.declared.Row.{Row}
-use Rattle.traced_rows.specs.declared.Made.{Made}
 use Rattle.traced_rows.specs.declared.evidence.CertFrom.TheVariants as cert
-use Rattle.cofactor_trace.specs.declared.replacement.Replacement.{Replacement}
-use Rattle.cofactor_trace.specs.Needed.{IsRecord, AreRecords, is_rule, Numbered, needed_rules}
-use Rattle.cofactor_trace.specs.Lemmas.{signed_generator, single_row, direct_of, is_lemma, lemma_at, lemma_rules, lemma_number, naming_of, signed}
 use Rattle.cofactor_trace.proofs.Closure.{names, record_names, is_numbered, Above, above_lower, needed_ascend, numbered_above}
 use Rattle.cofactor_trace.proofs.NeededLaws.{AreNumbered, all_numbered}
 use Rattle.cofactor_trace.proofs.LemmaLaws.{NamesNeeded, needed_name}

@@ -1,20 +1,6 @@
 -- An expansion is within the limits, and names the generators that the records name.
-use Rattle.std.proofs.Common.{◌≡◌, ◌+◌, ◌≤◌, ◌*ℤ◌, false, ◌||◌, List, [], ◌∷◌, length, nat_lt, None, Ok, Err, refl, subst, arith}
-use Rattle.std.proofs.lemmas.Bool.{ltb-false, or_parts}
-use Rattle.std.proofs.lemmas.Bool.Decides.{nat_tests}
-use Rattle.std.proofs.lemmas.List.Sums.{sum_by-cons}
-use Rattle.std.proofs.lemmas.List.Elements.{All-from_recursion}
-use Rattle.std.specs.List.{sum_by}
-use Rattle.std.specs.BTreeMap.{insert_entry}
-use Rattle.std.specs.Ordering.{nat_cmp}
-use Rattle.traced_rows.specs.declared.Made.{Made}
-use Rattle.traced_rows.specs.declared.certificate.CertRow.{CertRow}
-use Rattle.traced_rows.specs.declared.certificate.Cofactors.{Cofactors}
-use Rattle.cofactor_trace.specs.declared.table.Multiple.{Multiple}
-use Rattle.cofactor_trace.specs.Gathered.{gathered}
-use Rattle.cofactor_trace.specs.Expansion.{Known, common_denominator, joined, has_long_word, letter_count, limit_fault, primitive, record_expansion}
-use Rattle.cofactor_trace.specs.Needed.{Numbered, Expansions, known_from, and_then, expansion_from, needed_rules}
-use Rattle.cofactor_trace.specs.Laws.{IsWithinLimits, ExpansionsFit}
+use Rattle.cofactor_trace.proofs.Prelude.{◌≡◌, ◌+◌, ◌≤◌, ◌*ℤ◌, false, ◌||◌, List, [], ◌∷◌, length, nat_lt, None, Ok, Err, refl, subst, arith, ltb-false, or_parts, nat_tests, sum_by-cons, All-from_recursion, sum_by, insert_entry, nat_cmp, Made, CertRow, Cofactors, Multiple, gathered, Known, common_denominator, joined, has_long_word, limit_fault, primitive, record_expansion, Numbered, Expansions, known_from, and_then, expansion_from, needed_rules, IsWithinLimits, ExpansionsFit}
+use Rattle.cofactor_trace.specs.Expansion.{letter_count}
 use Rattle.cofactor_trace.proofs.RecordLaws.{primitive_is}
 use Rattle.cofactor_trace.proofs.Kept.{Each, each_primitive, sum-primitive}
 

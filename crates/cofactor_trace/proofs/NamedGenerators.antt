@@ -1,21 +1,6 @@
 -- An expansion is over the generators that the records name.
-use Rattle.std.proofs.Common.{refl, Option, ◌≡◌, ℕ, ◌≤◌, ℤ, ◌*ℤ◌, List, [], ◌∷◌, map, Ok, Err, unwrap_or, subst}
-use Rattle.std.proofs.lemmas.Bool.{cond_both}
-use Rattle.std.proofs.lemmas.List.Elements.{All-head, All-tail, All-from_recursion}
-use Rattle.std.specs.List.{All, AllByRecursion}
-use Rattle.std.specs.Map.{lookup}
-use Rattle.std.specs.BTreeMap.{insert_entry, is_at}
-use Rattle.std.specs.Ordering.{nat_cmp, is_eq}
-use Rattle.traced_rows.specs.declared.Origin.{Origin}
+use Rattle.cofactor_trace.proofs.Prelude.{refl, Option, ◌≡◌, ℕ, ◌≤◌, ℤ, ◌*ℤ◌, List, [], ◌∷◌, map, Ok, Err, unwrap_or, subst, cond_both, All-head, All-tail, All-from_recursion, All, AllByRecursion, lookup, insert_entry, is_at, nat_cmp, is_eq, Origin, Row, Made, CertRow, Cofactors, Multiple, Known, common_denominator, joined, joined_rows, joined_row, share, record_expansion, IsUpTo, NamesUpTo, GeneratorsAreNamed, Numbered, Expansions, none, known_from, and_then, expansion_from, needed_rules}
 use Rattle.traced_rows.specs.declared.Origin.TheVariants as origin
-use Rattle.traced_rows.specs.declared.Row.{Row}
-use Rattle.traced_rows.specs.declared.Made.{Made}
-use Rattle.traced_rows.specs.declared.certificate.CertRow.{CertRow}
-use Rattle.traced_rows.specs.declared.certificate.Cofactors.{Cofactors}
-use Rattle.cofactor_trace.specs.declared.table.Multiple.{Multiple}
-use Rattle.cofactor_trace.specs.Expansion.{Known, common_denominator, joined, joined_rows, joined_row, share, record_expansion}
-use Rattle.cofactor_trace.specs.Laws.{IsUpTo, NamesUpTo, GeneratorsAreNamed}
-use Rattle.cofactor_trace.specs.Needed.{Numbered, Expansions, none, known_from, and_then, expansion_from, needed_rules}
 use Rattle.cofactor_trace.proofs.GatheredParts.{needed_each}
 use Rattle.cofactor_trace.proofs.Kept.{Each, each_append, each_primitive}
 use Rattle.cofactor_trace.proofs.Passes.{each_with}

@@ -1,18 +1,6 @@
 -- Records that are pointed to, one by one.
-use Rattle.std.proofs.Common.{◌≡◌, ℕ, ◌+◌, ◌<◌, ℤ, int_div, List, [], ◌∷◌, ◌++◌, map, length, drop, get_or, Some, sym, ap, subst, ◌∙◌}
-use Rattle.std.specs.List.{All}
-use Rattle.std.specs.Borrow.{Bor}
-use Rattle.std.proofs.lemmas.List.{get_or-map, length-map}
-use Rattle.coef_int.specs.declared.Overflow.{Overflow}
-use Rattle.coef_int.specs.Range.{IsCoefficient}
-use Rattle.coef_int.specs.Operations.{product_of, first_overflow}
-use Rattle.nc_polynomial.proofs.Steps.{drop_next}
-use Rattle.nc_polynomial.proofs.Chains.{first-fits}
-use Rattle.coef_int.specs.Divisor.{gcd_of}
-use Rattle.traced_rows.specs.declared.Made.{Made}
-use Rattle.cofactor_trace.specs.Expansion.{lcm_of, common_multiple, multiple_products}
+use Rattle.cofactor_trace.proofs.Prelude.{◌≡◌, ℕ, ◌+◌, ◌<◌, ℤ, int_div, List, [], ◌∷◌, ◌++◌, map, length, drop, get_or, Some, sym, ap, subst, ◌∙◌, All, Bor, get_or-map, length-map, Overflow, IsCoefficient, product_of, first_overflow, drop_next, first-fits, gcd_of, Made, lcm_of, common_multiple, multiple_products, records}
 use Rattle.cofactor_trace.proofs.Operations.{first-before}
-use Rattle.cofactor_trace.specs.Naming.{records}
 
 module _ (xs : List (Bor Made)) (i : ℕ) (x : Bor Made) (inside : i < length xs) (item : x ≡ get_or xs i x) where
   -- what holds of each record holds of this one

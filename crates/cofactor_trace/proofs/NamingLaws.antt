@@ -1,20 +1,6 @@
 -- The rules are named one after another, and each lemma by its place among the lemmas.
-use Rattle.std.proofs.Common.{◌≡◌, ℕ, suc, ◌+◌, ◌-◌, ◌<◌, ◌≤◌, get_or, set, Bool, true, false, cond, List, [], ◌∷◌, ◌++◌, map, filter, reverse, length, Option, Some, None, unwrap_or, is_none, sym, refl, ap, subst, ◌∙◌, append_assoc, arith}
-use Rattle.std.proofs.lemmas.List.{get_or-set_same, get_or-set_other, length-set, append-nil, length-map, map-append}
-use Rattle.std.proofs.lemmas.List.Elements.{filter-append, All-filter, All-nil, All-cons, All-weaker, All-from_recursion, recursion_from_All}
-use Rattle.std.proofs.lemmas.Bool.{cond_both}
-use Rattle.std.proofs.lemmas.Bool.Decides.{nat_tests}
-use Rattle.std.proofs.lemmas.Option.{slice_get_within, get_or_from_slice_get}
-use Rattle.std.specs.Option.{option_and_then}
-use Rattle.std.specs.List.{All, AllByRecursion, slice_get}
-use Rattle.definitions.proofs.StarSound.{all-append}
+use Rattle.cofactor_trace.proofs.Prelude.{◌≡◌, ℕ, suc, ◌+◌, ◌-◌, ◌<◌, ◌≤◌, get_or, set, Bool, true, false, cond, List, [], ◌∷◌, ◌++◌, map, filter, reverse, length, Option, Some, None, unwrap_or, is_none, sym, refl, ap, subst, ◌∙◌, append_assoc, arith, get_or-set_same, get_or-set_other, length-set, append-nil, length-map, map-append, filter-append, All-filter, All-nil, All-cons, All-weaker, All-from_recursion, recursion_from_All, cond_both, nat_tests, slice_get_within, get_or_from_slice_get, option_and_then, All, AllByRecursion, slice_get, all-append, Row, Made, Replacement, IsAmongFirst, IsRecord, AreRecords, Numbered, needed_rules, direct_of, is_lemma, lemma_at, lemma_rules, lemma_number, naming_of, named_in, NamesRules}
 use Rattle.traced_rows.specs.declared.Origin.TheVariants as origin
-use Rattle.traced_rows.specs.declared.Row.{Row}
-use Rattle.traced_rows.specs.declared.Made.{Made}
-use Rattle.cofactor_trace.specs.declared.replacement.Replacement.{Replacement}
-use Rattle.cofactor_trace.specs.Needed.{IsAmongFirst, IsRecord, AreRecords, Numbered, needed_rules}
-use Rattle.cofactor_trace.specs.Lemmas.{direct_of, is_lemma, lemma_at, lemma_rules, lemma_number, naming_of}
-use Rattle.cofactor_trace.specs.Naming.{named_in, NamesRules}
 use Rattle.cofactor_trace.proofs.NeededLaws.{AreNumbered, all_numbered, among_more, next_number, none_left}
 use Rattle.cofactor_trace.proofs.Closure.{Above, needed_ascend}
 

@@ -1,22 +1,7 @@
 -- The needed rules one by one, and their expansions.
-use Rattle.std.proofs.Common.{◌≡◌, ℕ, suc, ◌+◌, ◌-◌, ◌<◌, ◌≤◌, get_or, Bool, true, false, ◌||◌, cond, List, [], ◌∷◌, ◌++◌, map, reverse, length, drop, Some, Ok, refl, sym, ap, subst, ◌∙◌, arith}
-use Rattle.std.proofs.Math.Bool.{or-false}
-use Rattle.std.proofs.lemmas.Bool.{cond_both}
-use Rattle.std.specs.List.{AllByRecursion, list_any, slice_get}
-use Rattle.std.proofs.lemmas.List.{reverse-append, drop_all}
-use Rattle.nc_polynomial.proofs.Steps.{drop_next}
-use Rattle.std.specs.BTreeMap.{insert_entry}
-use Rattle.std.specs.Ordering.{nat_cmp}
-use Rattle.traced_rows.specs.declared.Made.{Made}
-use Rattle.traced_rows.specs.declared.certificate.Cofactors.{Cofactors}
-use Rattle.cofactor_trace.specs.Expansion.{record_expansion}
-use Rattle.cofactor_trace.specs.Needed.{Numbered, Expansions, is_rule, is_named, needed_from, needed_rules, known_from, and_then, expansion_from, expansion_of, IsAmongFirst}
-use Rattle.cofactor_trace.specs.Faults.{Explains}
-use Rattle.cofactor_trace.specs.declared.fault.ExpandFault.{ExpandFault}
-use Rattle.traced_rows.specs.declared.Origin.{Origin}
+use Rattle.cofactor_trace.proofs.Prelude.{◌≡◌, ℕ, suc, ◌+◌, ◌-◌, ◌<◌, ◌≤◌, get_or, Bool, true, false, ◌||◌, cond, List, [], ◌∷◌, ◌++◌, map, reverse, length, drop, Some, Ok, refl, sym, ap, subst, ◌∙◌, arith, or-false, cond_both, AllByRecursion, list_any, slice_get, reverse-append, drop_all, drop_next, insert_entry, nat_cmp, Made, Cofactors, record_expansion, Numbered, Expansions, is_rule, is_named, needed_from, needed_rules, known_from, and_then, expansion_from, expansion_of, IsAmongFirst, Explains, ExpandFault, Origin, slice_get_within, get_or_from_slice_get}
 use Rattle.traced_rows.specs.declared.Origin.TheVariants as origin
 use Rattle.cofactor_trace.proofs.Halts.{explains-and_then}
-use Rattle.std.proofs.lemmas.Option.{slice_get_within, get_or_from_slice_get}
 
 -- what the records name, with one record more
 pub named_with : (n : ℕ) (target m : Made) (rest : List Made) → is_named n (target ∷ rest) || list_any (λ r. is_rule n r.from) m.rows ≡ is_named n (target ∷ (m ∷ rest))

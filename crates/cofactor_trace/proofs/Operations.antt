@@ -1,11 +1,5 @@
 -- Operations one after another, and the first of them that overflows.
-use Rattle.std.proofs.Common.{◌≡◌, ◌↔◌, ℕ, ◌+◌, ◌<◌, ◌≤◌, ℤ, ◌*ℤ◌, Result, Ok, Err, IfOk, IfErr, IsOk, MatchResult, List, [], ◌∷◌, ◌++◌, map, length, drop, get_or, Some, None, refl, sym, subst, ap, ◌∙◌}
-use Rattle.std.proofs.lemmas.List.{drop_all}
-use Rattle.coef_int.specs.declared.Overflow.{Overflow}
-use Rattle.coef_int.specs.Range.{IsCoefficient}
-use Rattle.coef_int.specs.Operations.{exact_value, product_of, first_overflow}
-use Rattle.nc_polynomial.proofs.Steps.{drop_next}
-use Rattle.nc_polynomial.proofs.Chains.{or_first, first-append, first-fits, first-fails}
+use Rattle.cofactor_trace.proofs.Prelude.{◌≡◌, ◌↔◌, ℕ, ◌+◌, ◌<◌, ◌≤◌, ℤ, ◌*ℤ◌, Result, Ok, Err, IfOk, IfErr, IsOk, MatchResult, List, [], ◌∷◌, ◌++◌, map, length, drop, get_or, Some, None, refl, sym, subst, ap, ◌∙◌, drop_all, Overflow, IsCoefficient, exact_value, product_of, first_overflow, drop_next, or_first, first-append, first-fits, first-fails}
 
 pub first-behind : (os more : List Overflow) → first_overflow os ≡ None → first_overflow (os ++ more) ≡ first_overflow more
 first-behind os more none = first-append os more ∙ ap (λ f. or_first f (first_overflow more)) none

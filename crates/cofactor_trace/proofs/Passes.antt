@@ -1,30 +1,7 @@
 -- Expansions one after another balance, since each stands on balanced ones.
-use Rattle.std.proofs.Common.{◌≡◌, ℕ, suc, ◌-◌, ℤ, pos, ◌<ℤ◌, Bool, true, ◌||◌, List, [], ◌∷◌, nat_eq, eqb-true, eq-eqb, Result, Ok, Err, unwrap_or, sym, refl, ap, subst, ◌∙◌, arith}
-use Rattle.std.proofs.lemmas.Bool.{cond_both, or_left, or_right}
-use Rattle.std.proofs.lemmas.Bool.Decides.{nat_tests}
-use Rattle.std.proofs.lemmas.Int.{ints}
-use Rattle.std.proofs.lemmas.Cmp.{ranked}
-use Rattle.std.proofs.lemmas.List.{append-nil}
-use Rattle.std.specs.List.{AllByRecursion, list_any}
-use Rattle.std.specs.Map.{lookup}
-use Rattle.std.specs.BTreeMap.{insert_entry, is_at}
-use Rattle.std.specs.Ordering.{nat_cmp, is_eq, match_ordering}
-use Rattle.std.specs.declared.cmp.Ordering.{Ordering}
-use Rattle.std.specs.declared.cmp.Ordering.TheVariants.{Less, Equal, Greater}
-use Rattle.definitions.specs.Poly.{Term, coefficient_of, poly_multiple}
-use Rattle.definitions.specs.Combination.{generator_at, IsCombination}
-use Rattle.traced_rows.specs.declared.Origin.{Origin}
+use Rattle.cofactor_trace.proofs.Prelude.{◌≡◌, ℕ, suc, ◌-◌, ℤ, pos, ◌<ℤ◌, Bool, true, ◌||◌, List, [], ◌∷◌, nat_eq, eqb-true, eq-eqb, Result, Ok, Err, unwrap_or, sym, refl, ap, subst, ◌∙◌, arith, cond_both, or_left, or_right, nat_tests, ints, ranked, append-nil, AllByRecursion, list_any, lookup, insert_entry, is_at, nat_cmp, is_eq, match_ordering, Ordering, Less, Equal, Greater, Term, coefficient_of, poly_multiple, generator_at, IsCombination, Origin, Row, Made, Cofactors, ExpandFault, rows_of, record_expansion, Traces, ExpansionsBalance, IsRecord, is_rule, is_named, Numbered, needed_rules, Expansions, none, known_from, and_then, expansion_from, between-nothing}
 use Rattle.traced_rows.specs.declared.Origin.TheVariants as origin
-use Rattle.traced_rows.specs.declared.Row.{Row}
-use Rattle.traced_rows.specs.declared.Made.{Made}
-use Rattle.traced_rows.specs.declared.certificate.Cofactors.{Cofactors}
-use Rattle.cofactor_trace.specs.declared.fault.ExpandFault.{ExpandFault}
-use Rattle.traced_rows.specs.Rows.{rows_of}
-use Rattle.cofactor_trace.specs.Expansion.{record_expansion}
-use Rattle.cofactor_trace.specs.Laws.{Traces, ExpansionsBalance}
-use Rattle.cofactor_trace.specs.Needed.{IsRecord, is_rule, is_named, Numbered, needed_rules, Expansions, none, known_from, and_then, expansion_from}
 use Rattle.cofactor_trace.proofs.Balance.{IsKnown, record_balances}
-use Rattle.traced_rows.proofs.Between.{between-nothing}
 use Rattle.cofactor_trace.proofs.Closure.{names, record_names, is_numbered, named_is_needed, Above, needed_ascend, numbered_above}
 use Rattle.cofactor_trace.proofs.NeededLaws.{records_of, AreNumbered, all_numbered}
 

@@ -1,20 +1,6 @@
 -- Where the expansion of a record ends.
-use Rattle.std.proofs.Common.{◌≡◌, ℤ, pos, ◌*ℤ◌, List, [], ◌∷◌, ◌++◌, Option, Some, None, Ok, refl, sym, ap, subst, ◌∙◌}
-use Rattle.std.specs.Option.{option_map}
-use Rattle.coef_int.specs.declared.Overflow.{Overflow}
-use Rattle.coef_int.specs.Range.{IsCoefficient}
-use Rattle.coef_int.specs.Operations.{product_of, first_overflow}
-use Rattle.nc_polynomial.proofs.Chains.{first-fits, first-fails}
-use Rattle.traced_rows.specs.declared.Row.{Row}
-use Rattle.traced_rows.specs.declared.Made.{Made}
-use Rattle.traced_rows.specs.declared.certificate.CertRow.{CertRow}
-use Rattle.traced_rows.specs.declared.certificate.Cofactors.{Cofactors}
-use Rattle.cofactor_trace.specs.declared.fault.ExpandFault.{ExpandFault}
+use Rattle.cofactor_trace.proofs.Prelude.{◌≡◌, ℤ, pos, ◌*ℤ◌, List, [], ◌∷◌, ◌++◌, Option, Some, None, Ok, refl, sym, ap, subst, ◌∙◌, option_map, Overflow, IsCoefficient, product_of, first_overflow, first-fits, first-fails, Row, Made, CertRow, Cofactors, ExpandFault, gathered, sums_of_gathering, Known, multiple_products, denominators, common_denominator, denominator_products, joined, joined_products, limit_fault, primitive, overflow_in, record_expansion, Explains, IsFirst, IsOverflowOf, Entries, with_rows, rows_in}
 use Rattle.cofactor_trace.specs.declared.fault.ExpandFault.TheVariants as fault
-use Rattle.cofactor_trace.specs.Gathered.{gathered, sums_of_gathering}
-use Rattle.cofactor_trace.specs.Expansion.{Known, multiple_products, denominators, common_denominator, denominator_products, joined, joined_products, limit_fault, primitive, overflow_in, record_expansion}
-use Rattle.cofactor_trace.specs.Faults.{Explains, IsFirst, IsOverflowOf}
-use Rattle.cofactor_trace.specs.Table.{Entries, with_rows, rows_in}
 use Rattle.cofactor_trace.proofs.Operations.{first-behind}
 use Rattle.cofactor_trace.proofs.Halts.{explains-first, explains-later, ok-later, is_first-append, unless_ok, unmapped-none}
 use Rattle.cofactor_trace.proofs.TableLaws.{unless_overflow, rows_in-with_rows}

@@ -1,15 +1,8 @@
 -- Counts that stop at the greatest number say which limit is exceeded.
-use Rattle.std.proofs.Common.{sym, ◌<◌, ◌≡◌, ℕ, ◌+◌, ◌-◌, ◌^◌, ◌≤◌, ◌||◌, min, Bool, true, false, List, [], ◌∷◌, length, nat_lt, Option, Some, None, ap, ◌∙◌, arith}
-use Rattle.std.proofs.Math.Bool.{or-false}
-use Rattle.std.specs.Prelude.{if◌then◌else◌}
-use Rattle.std.proofs.lemmas.Bool.Decides.{nat_tests}
-use Rattle.std.proofs.lemmas.List.Sums.{sum_by-cons}
-use Rattle.traced_rows.specs.declared.certificate.CertRow.{CertRow}
-use Rattle.cofactor_trace.specs.declared.size.Size.{Size}
-use Rattle.cofactor_trace.specs.declared.fault.ExpandFault.{ExpandFault}
+use Rattle.cofactor_trace.proofs.Prelude.{sym, ◌<◌, ◌≡◌, ℕ, ◌+◌, ◌-◌, ◌^◌, ◌≤◌, ◌||◌, min, Bool, true, false, List, [], ◌∷◌, length, nat_lt, Option, Some, None, ap, ◌∙◌, arith, or-false, if◌then◌else◌, nat_tests, sum_by-cons, CertRow, Size, ExpandFault, has_long_word, limit_fault, measured, measured_all}
 use Rattle.cofactor_trace.specs.declared.fault.ExpandFault.TheVariants as fault
-use Rattle.cofactor_trace.specs.Expansion.{has_long_word, letter_count, limit_fault}
-use Rattle.cofactor_trace.specs.Sizes.{measured, measured_all, limit_of}
+use Rattle.cofactor_trace.specs.Expansion.{letter_count}
+use Rattle.cofactor_trace.specs.Sizes.{limit_of}
 
 -- no rows
 abbrev pub no_size : Size

@@ -1,31 +1,5 @@
 -- The table of rows lists each multiple once, ascending, with the sum of its coefficients or the first overflow on the way to it.
-use Rattle.std.proofs.Common.{◌≡◌, ℤ, pos, ◌+ℤ◌, Bool, true, false, ◌||◌, cond, List, [], ◌∷◌, ◌++◌, map, Option, Some, None, Result, Ok, Err, unwrap_or, refl, sym, ap, ap₂, subst, ◌∙◌, arith, append_assoc}
-use Rattle.std.proofs.lemmas.Cmp.{ranked, tied_itself}
-use Rattle.std.proofs.lemmas.List.{append-nil, map-append}
-use Rattle.std.proofs.lemmas.List.Sums.{fold-append}
-use Rattle.word_core.specs.Canonical.{word_cmp}
-use Rattle.word_core.proofs.Order.{word_cmp-same}
-use Rattle.std.specs.List.{AllByRecursion, fold, flat_map, list_any}
-use Rattle.std.specs.List.Sorted.{IsStrictlySortedBy}
-use Rattle.std.specs.Map.{lookup}
-use Rattle.std.specs.BTreeMap.{insert_entry, is_at}
-use Rattle.std.specs.BTreeSet.{insert_key}
-use Rattle.std.specs.Ordering.{is_eq, match_ordering, ordering_reverse, ordering_then, nat_cmp}
-use Rattle.std.specs.declared.cmp.Ordering.{Ordering}
-use Rattle.std.specs.declared.cmp.Ordering.TheVariants.{Less, Equal, Greater}
-use Rattle.std.proofs.lemmas.Bool.{cond_both}
-use Rattle.std.proofs.lemmas.Bool.Decides.{nat_tests}
-use Rattle.std.proofs.lemmas.List.Elements.{All-from_recursion, All-weaker, recursion_from_All}
-use Rattle.std.proofs.lemmas.Map.Views.{All-insert_key}
-use Rattle.coef_int.specs.declared.Overflow.{Overflow}
-use Rattle.coef_int.specs.Range.{is_coefficient}
-use Rattle.coef_int.specs.Operations.{sum_of, first_overflow}
-use Rattle.nc_polynomial.proofs.Chains.{or_first, first-append}
-use Rattle.traced_rows.specs.declared.certificate.CertRow.{CertRow}
-use Rattle.cofactor_trace.specs.declared.table.Multiple.{Multiple}
-use Rattle.cofactor_trace.specs.Multiples.{multiple_of, multiple_cmp, multiple_cmp_total}
-use Rattle.cofactor_trace.specs.Gathered.{multiples_of, coefficients_at, kept_row, gathered, running_sums, sums_of_gathering}
-use Rattle.cofactor_trace.specs.Table.{Sum, IsInRange, added, Entries, sum_in, with_row, with_rows, before, rows_in}
+use Rattle.cofactor_trace.proofs.Prelude.{◌≡◌, ℤ, pos, ◌+ℤ◌, Bool, true, false, ◌||◌, cond, List, [], ◌∷◌, ◌++◌, map, Option, Some, None, Result, Ok, Err, unwrap_or, refl, sym, ap, ap₂, subst, ◌∙◌, arith, append_assoc, ranked, tied_itself, append-nil, map-append, fold-append, word_cmp, word_cmp-same, AllByRecursion, fold, flat_map, list_any, IsStrictlySortedBy, lookup, insert_entry, is_at, insert_key, is_eq, match_ordering, ordering_reverse, ordering_then, nat_cmp, Ordering, Less, Equal, Greater, cond_both, nat_tests, All-from_recursion, All-weaker, recursion_from_All, All-insert_key, Overflow, is_coefficient, sum_of, first_overflow, or_first, first-append, CertRow, Multiple, multiple_of, multiple_cmp, multiple_cmp_total, multiples_of, coefficients_at, kept_row, gathered, running_sums, sums_of_gathering, Sum, IsInRange, added, Entries, sum_in, with_row, with_rows, before, rows_in}
 
 pub added-in_range : (s : Sum) (c : ℤ) → IsInRange (added s c)
 added-in_range (Err o) c = tt

@@ -1,26 +1,5 @@
 -- The coefficient of a word in a sum of rows, and what gathering leaves of it.
-use Rattle.std.proofs.Common.{◌≡◌, ℕ, zero, suc, ℤ, pos, negsuc, ◌+ℤ◌, ◌*ℤ◌, true, false, ◌||◌, cond, List, [], ◌∷◌, ◌++◌, map, filter, sym, refl, ap, ap₂, subst, ◌∙◌, arith}
-use Rattle.std.proofs.lemmas.Bool.{or_left, or_parts}
-use Rattle.std.proofs.lemmas.Int.{ints}
-use Rattle.std.proofs.Math.IntN.{+ℤ_assoc, +ℤ_idl, +ℤ_idr, zero-*ℤ, *ℤ-zero}
-use Rattle.std.specs.List.{AllByRecursion, fold, flat_map}
-use Rattle.std.specs.List.Sorted.{IsStrictlySortedBy}
-use Rattle.std.specs.BTreeSet.{insert_key}
-use Rattle.std.specs.Ordering.{is_eq}
-use Rattle.std.specs.declared.cmp.Ordering.{Ordering}
-use Rattle.std.specs.declared.cmp.Ordering.TheVariants.{Less, Equal, Greater}
-use Rattle.definitions.specs.Poly.{coefficient_of, poly_multiple, poly_between}
-use Rattle.definitions.specs.Combination.{generator_at, row_poly, row_sum}
-use Rattle.definitions.proofs.Coefficients.{coefficient_of-append, coefficient_of-multiple}
-use Rattle.definitions.proofs.Integers.{*ℤ_assoc, *ℤ-+ℤ, +ℤ-*ℤ, +ℤ_left_comm}
-use Rattle.traced_rows.specs.declared.Row.{Row}
-use Rattle.traced_rows.specs.declared.certificate.CertRow.{CertRow}
-use Rattle.cofactor_trace.specs.declared.table.Multiple.{Multiple}
-use Rattle.traced_rows.specs.Rows.{row_of, rows_of}
-use Rattle.cofactor_trace.specs.Multiples.{multiple_of, multiple_cmp}
-use Rattle.cofactor_trace.specs.Gathered.{multiples_of, total_at, coefficients_at, kept_row, gathered}
-use Rattle.cofactor_trace.specs.Expansion.{joined_row}
-use Rattle.traced_rows.proofs.Between.{between-append, between-multiple, between-between}
+use Rattle.cofactor_trace.proofs.Prelude.{◌≡◌, ℕ, zero, suc, ℤ, pos, negsuc, ◌+ℤ◌, ◌*ℤ◌, true, false, ◌||◌, cond, List, [], ◌∷◌, ◌++◌, map, filter, sym, refl, ap, ap₂, subst, ◌∙◌, arith, or_left, or_parts, ints, +ℤ_assoc, +ℤ_idl, +ℤ_idr, zero-*ℤ, *ℤ-zero, AllByRecursion, fold, flat_map, IsStrictlySortedBy, insert_key, is_eq, Ordering, Less, Equal, Greater, coefficient_of, poly_multiple, poly_between, generator_at, row_poly, row_sum, coefficient_of-append, coefficient_of-multiple, *ℤ_assoc, *ℤ-+ℤ, +ℤ-*ℤ, +ℤ_left_comm, Row, CertRow, Multiple, row_of, rows_of, multiple_of, multiple_cmp, multiples_of, total_at, coefficients_at, kept_row, gathered, joined_row, between-append, between-multiple, between-between}
 use Rattle.cofactor_trace.proofs.TableLaws.{is_among, equal, itself, turned_round, among_all, among_inserted, sorted-multiples}
 
 module _ (generators : List (List (ℤ × List ℕ))) (w : List ℕ) where

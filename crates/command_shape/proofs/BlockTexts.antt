@@ -1,12 +1,5 @@
 -- Texts of blocks of one kind: each has blocks or a first fault, and each block passes all tests, or one of them is the first that fails.
-use Rattle.std.proofs.Common.{◌≡◌, ◌⊎◌, inl, inr, ℕ, ◌+◌, List, [], ◌∷◌, ◌++◌, Option, Some, codes, decimal, refl, sym, ap, subst, ◌∙◌, arith}
-use Rattle.std.proofs.lemmas.List.{append_assoc, append-nil}
-use Rattle.std.specs.List.{All, AllByRecursion}
-use Rattle.std.proofs.lemmas.List.Elements.{All-nil, All-cons, All-head, All-tail}
-use Rattle.block_text.specs.Fault.{Fault}
-use Rattle.command_shape.specs.Ending.{Ending, line, refused_evidence}
-use Rattle.command_shape.specs.Texts.{evidence_fault}
-use Rattle.command_shape.specs.Blocks.{block_text, refused_text, OverEvidence, faulty, read, AcceptsBlock, RefusesBlock, JudgesFrom, Judges, accepted, refused, lines_on}
+use Rattle.command_shape.proofs.Prelude.{◌≡◌, ◌⊎◌, inl, inr, ℕ, ◌+◌, List, [], ◌∷◌, ◌++◌, Option, Some, codes, decimal, refl, sym, ap, subst, ◌∙◌, arith, append_assoc, append-nil, All, AllByRecursion, All-nil, All-cons, All-head, All-tail, Fault, Ending, line, refused_evidence, evidence_fault, block_text, refused_text, OverEvidence, faulty, read, AcceptsBlock, RefusesBlock, JudgesFrom, Judges, accepted, refused, lines_on}
 use Rattle.command_shape.proofs.Judging.{judged_status}
 
 -- What is asked of a kind of blocks.

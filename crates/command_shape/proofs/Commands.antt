@@ -1,21 +1,6 @@
 -- an accepted list is taken, and clap's matches of it give what it names
-use Rattle.std.proofs.Common.{◌≡◌, ◌∙◌, ap, sym, subst, refl, false, List, [], ◌∷◌, ◌^◌, ◌<◌, arith, Some, None, codes, decimal, fold}
-use Rattle.clap.specs.Walk.{Row, Text, with_default, walked}
-use Rattle.clap.specs.Simple.{App, subcommand_of}
-use Rattle.clap.specs.Faults.{check_fault, turn_fault, walk_fault}
-use Rattle.clap.proofs.OnLiterals.{clap_on_literals}
+use Rattle.command_shape.proofs.Prelude.{◌≡◌, ◌∙◌, ap, sym, subst, refl, false, List, [], ◌∷◌, ◌^◌, ◌<◌, arith, Some, None, codes, decimal, fold, Row, Text, with_default, walked, App, subcommand_of, check_fault, turn_fault, walk_fault, clap_on_literals, size_limit, default_pairs_word, default_steps_word, default_workers_word, default_seed_word, default_format_word, default_pairs, default_steps, command_set, IsTaken, name_of, prove_command, refute_command, bench_command, pair_command, IsFileWord, GivesPair, MatchesGive, Names, NamesProve, NamesRefute, NamesBench, NamesPair, prove_spans, refute_spans, bench_spans, Call, Prove, Refute, Bench, Evidence, ProveCall, RefuteCall, BenchCall, PairCall}
 use Rattle.clap.specs.declared.builder.value_parser.ValueParser.TheVariants as parser
-use Rattle.command_shape.specs.Limits.{size_limit}
-use Rattle.command_shape.specs.Limits.{default_pairs_word, default_steps_word, default_workers_word, default_seed_word, default_format_word, default_pairs, default_steps}
-use Rattle.command_shape.specs.CommandSet.{command_set, IsTaken, name_of, prove_command, refute_command, bench_command, pair_command}
-use Rattle.command_shape.specs.Accepted.{IsFileWord}
-use Rattle.command_shape.specs.Calls.{GivesPair, MatchesGive, Names, NamesProve, NamesRefute, NamesBench, NamesPair, prove_spans, refute_spans, bench_spans}
-use Rattle.command_shape.specs.declared.call.Call.{Call}
-use Rattle.command_shape.specs.declared.call.Call.TheVariants.{Prove, Refute, Bench, Evidence}
-use Rattle.command_shape.specs.declared.call.ProveCall.{ProveCall}
-use Rattle.command_shape.specs.declared.call.RefuteCall.{RefuteCall}
-use Rattle.command_shape.specs.declared.call.BenchCall.{BenchCall}
-use Rattle.command_shape.specs.declared.call.PairCall.{PairCall}
 use Rattle.command_shape.proofs.Steps.{given_row, plain_word, between}
 use Rattle.command_shape.proofs.Options.{Goes, or_nothing}
 use Rattle.command_shape.proofs.Ends.{IsPlaceOf, Level, AreClean, level, row_at, row_kept, first_placed, first_placed_well, next_placed, next_placed_well, place_settles, place_settles_well}

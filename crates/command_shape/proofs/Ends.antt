@@ -1,20 +1,5 @@
 -- the first words of a command, its defaults, and what its rows give
-use Rattle.std.proofs.Common.{◌≡◌, ◌∙◌, ap, sym, refl, ℕ, Bool, true, false, List, [], ◌∷◌, ◌++◌, Option, Some, None, cond, map, ◌||◌, fold}
-use Rattle.std.specs.Prelude.{⊤, find, option_map}
-use Rattle.std.specs.Str.{bytes_eq}
-use Rattle.std.proofs.lemmas.List.{append-nil}
-use Rattle.std.proofs.lemmas.Slice.Eq.{bytes_eq-Decides}
-use Rattle.clap.specs.Values.{reading_of}
-use Rattle.clap.specs.Walk.{Row, Rule, Text, Walk, Held, walked, settled_rows, settled, has_row, arg_by_id, arg_by_index, with_default, default_rows, rows_after, nothing_held, reading_by, more_values, is_empty}
-use Rattle.clap.specs.Walk.{walk as whole_walk}
-use Rattle.clap.specs.Simple.{Shape, filled, with_index}
-use Rattle.clap.specs.Faults.{turn_fault, settle_fault, level_fault, defaults_fault, given_default_fault, check_fault}
-use Rattle.clap.specs.Kinds.{value_kinds}
-use Rattle.clap.specs.declared.builder.value_parser.ValueParser.{ValueParser}
-use Rattle.clap.specs.declared.builder.value_parser.Reading.TheVariants.{AsWritten}
-use Rattle.clap.specs.declared.parser.matches.ValueSource.TheVariants.{DefaultValue}
-use Rattle.command_shape.specs.CommandSet.{required_word}
-use Rattle.command_shape.specs.Accepted.{Given, given_id, option_of}
+use Rattle.command_shape.proofs.Prelude.{◌≡◌, ◌∙◌, ap, sym, refl, ℕ, Bool, true, false, List, [], ◌∷◌, ◌++◌, Option, Some, None, cond, map, ◌||◌, fold, ⊤, find, option_map, bytes_eq, append-nil, bytes_eq-Decides, reading_of, Row, Rule, Text, Walk, Held, walked, settled_rows, settled, has_row, arg_by_id, arg_by_index, with_default, default_rows, rows_after, nothing_held, reading_by, more_values, is_empty, whole_walk, Shape, filled, with_index, turn_fault, settle_fault, level_fault, defaults_fault, given_default_fault, check_fault, value_kinds, ValueParser, AsWritten, DefaultValue, required_word, Given, given_id, option_of}
 use Rattle.command_shape.proofs.Steps.{held, between, IsPlainWord, given_row, no_such_row, row_added}
 use Rattle.command_shape.proofs.Options.{Goes, row_given, or_nothing, has_row_end}
 

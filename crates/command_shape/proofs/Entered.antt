@@ -1,13 +1,5 @@
 -- A command that is taken has its words, and its numbers are in range.
-use Rattle.std.proofs.Common.{◌≡◌, refl, false, List, [], Option, Some, None}
-use Rattle.std.specs.Prelude.{find, option_map, is_some}
-use Rattle.std.specs.Option.{option_map_or}
-use Rattle.clap.specs.Walk.{Row, Text, Held, nothing_held, walk_from, settled, answers_to, finished, stop_after}
-use Rattle.clap.specs.Walk.{walk as whole_walk}
-use Rattle.clap.specs.Simple.{Shape, subcommand_of, built, names_of, entered, label_of, rows_at, argument_words}
-use Rattle.clap.specs.Faults.{check_fault, level_fault, entered_fault, settle_fault, walk_fault, defaults_fault}
-use Rattle.command_shape.specs.CommandSet.{command_set, IsTaken}
-use Rattle.command_shape.specs.Present.{MatchesHave}
+use Rattle.command_shape.proofs.Prelude.{◌≡◌, refl, false, List, [], Option, Some, None, find, option_map, is_some, option_map_or, Row, Text, Held, nothing_held, walk_from, settled, answers_to, finished, stop_after, whole_walk, Shape, subcommand_of, built, names_of, entered, label_of, rows_at, argument_words, check_fault, level_fault, entered_fault, settle_fault, walk_fault, defaults_fault, command_set, IsTaken, MatchesHave}
 use Rattle.command_shape.proofs.Found.{found}
 use Rattle.command_shape.proofs.Rows.{both_none}
 use Rattle.command_shape.proofs.Members.{IsRead, all_read}

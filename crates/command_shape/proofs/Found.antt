@@ -1,7 +1,5 @@
 -- what a search finds
-use Rattle.std.proofs.Common.{◌≡◌, Bool, true, false, List, [], ◌∷◌, Some, cond, subst, refl}
-use Rattle.std.specs.Prelude.{find}
-use Rattle.std.specs.List.{AllByRecursion}
+use Rattle.command_shape.proofs.Prelude.{◌≡◌, Bool, true, false, List, [], ◌∷◌, Some, cond, subst, refl, find, AllByRecursion}
 
 -- it has what each element has, and passes the test
 pub found : {X : Type 0} (P : X → Type 0) (test : X → Bool) (xs : List X) (x : X) → AllByRecursion P xs → find test xs ≡ Some x → P x × (test x ≡ true)

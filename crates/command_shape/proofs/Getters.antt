@@ -1,22 +1,6 @@
 -- what the getters of clap's matches read
-use Rattle.std.proofs.Common.{◌≡◌, ◌∙◌, inl, inr, ap, sym, refl, ℕ, true, false, List, arith, Option, Some, None, Result, Ok, Err, codes}
-use Rattle.std.specs.Prelude.{option_map}
-use Rattle.std.specs.Option.{IsSome}
-use Rattle.std.specs.Borrow.{Bor}
-use Rattle.std.specs.Str.{bytes_eq}
-use Rattle.std.proofs.lemmas.Slice.Eq.{bytes_eq-Decides}
-use Rattle.std.specs.Str.Parse.{ParsesUnsigned, digits_value, without_leading_plus}
-use Rattle.clap.specs.Values.{IsUnsignedIn}
-use Rattle.clap.specs.Matches.{ReadsOne}
-use Rattle.clap.specs.Words.{Row}
-use Rattle.in_order_parallel.specs.Limits.{worker_limit}
-use Rattle.command_shape.specs.Limits.{pair_limit, step_limit, seed_limit, format_limit, size_limit}
-use Rattle.command_shape.specs.CommandSet.{name_of}
+use Rattle.command_shape.proofs.Prelude.{◌≡◌, ◌∙◌, inl, inr, ap, sym, refl, ℕ, true, false, List, arith, Option, Some, None, Result, Ok, Err, codes, option_map, IsSome, Bor, bytes_eq, bytes_eq-Decides, ParsesUnsigned, digits_value, without_leading_plus, IsUnsignedIn, ReadsOne, Row, worker_limit, pair_limit, step_limit, seed_limit, format_limit, size_limit, name_of, HasNumber, HasProve, HasRefute, HasBench, HasPair, HasCommand, IsEvidenceName, MatchesHave, number_of, IsWithin, IsInRange, GivesCall, MatchesGive, Call, Prove, Refute, Bench, Evidence}
 use Rattle.command_shape.proofs.Members.{not_other}
-use Rattle.command_shape.specs.Present.{HasNumber, HasProve, HasRefute, HasBench, HasPair, HasCommand, IsEvidenceName, MatchesHave}
-use Rattle.command_shape.specs.Calls.{number_of, IsWithin, IsInRange, GivesCall, MatchesGive}
-use Rattle.command_shape.specs.declared.call.Call.{Call}
-use Rattle.command_shape.specs.declared.call.Call.TheVariants.{Prove, Refute, Bench, Evidence}
 
 pub some_text : (o : Option (Bor (List ℕ))) (t : List ℕ) → option_map (λ s. s.now) o ≡ Some t → IsSome o
 some_text None t e = cc

@@ -1,19 +1,5 @@
 -- an accepted list of a command with a first word and options is taken, and what its rows give
-use Rattle.std.proofs.Common.{◌≡◌, ◌∙◌, inl, inr, ap, sym, subst, refl, ℕ, Bool, true, false, List, [], ◌∷◌, ◌<◌, ◌^◌, arith, Option, Some, None, codes, cond, map, decimal, not, ◌||◌, fold, flat_map}
-use Rattle.std.specs.Prelude.{⊤, option_map, option_and_then, slice_get}
-use Rattle.std.specs.List.{AllByRecursion}
-use Rattle.std.specs.Str.{bytes_eq}
-use Rattle.std.specs.Str.Parse.{digits_value, without_leading_plus}
-use Rattle.std.proofs.lemmas.Slice.Eq.{bytes_eq-Decides}
-use Rattle.clap.specs.Lexer.{long_of}
-use Rattle.clap.specs.Walk.{Row, Rule, Text, walked, has_row, row_text, with_default, arg_by_id, arg_by_long}
-use Rattle.clap.specs.Simple.{Shape, filled}
-use Rattle.clap.specs.Faults.{walk_fault, check_fault}
-use Rattle.clap.specs.Kinds.{value_kinds}
-use Rattle.clap.specs.declared.builder.value_parser.ValueParser.{ValueParser}
-use Rattle.command_shape.specs.CommandSet.{number_option, flag_option}
-use Rattle.command_shape.specs.Accepted.{Given, number, flag, given_id, given_words, IsFileWord, Span, IsAllowed, AreOptions, option_of, number_or, is_flag}
-use Rattle.command_shape.specs.Calls.{number_of, flag_of}
+use Rattle.command_shape.proofs.Prelude.{◌≡◌, ◌∙◌, inl, inr, ap, sym, subst, refl, ℕ, Bool, true, false, List, [], ◌∷◌, ◌<◌, ◌^◌, arith, Option, Some, None, codes, cond, map, decimal, not, ◌||◌, fold, flat_map, ⊤, option_map, option_and_then, slice_get, AllByRecursion, bytes_eq, digits_value, without_leading_plus, bytes_eq-Decides, long_of, Row, Rule, Text, walked, has_row, row_text, with_default, arg_by_id, arg_by_long, Shape, filled, walk_fault, check_fault, value_kinds, ValueParser, number_option, flag_option, Given, number, flag, given_id, given_words, IsFileWord, Span, IsAllowed, AreOptions, option_of, number_or, is_flag, number_of, flag_of}
 use Rattle.command_shape.proofs.Found.{found}
 use Rattle.command_shape.proofs.Steps.{between, given_row, IsOptionOf, plain_word}
 use Rattle.command_shape.proofs.Options.{Goes, IsKnown, AreKnown, row_given, or_nothing, goes}

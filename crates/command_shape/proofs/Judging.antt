@@ -1,8 +1,5 @@
 -- Blocks that are judged one after another.
-use Rattle.std.proofs.Common.{◌≡◌, ℕ, ◌+◌, ◌<◌, ◌≤◌, ◌⊎◌, inl, inr, List, [], ◌∷◌, ◌++◌, length, drop, get_or, refl, sym, subst}
-use Rattle.std.proofs.lemmas.List.{append_assoc, append-nil}
-use Rattle.command_shape.specs.Ending.{line}
-use Rattle.command_shape.specs.Blocks.{block_text, refused_text, accepted, refused, JudgesFrom}
+use Rattle.command_shape.proofs.Prelude.{◌≡◌, ℕ, ◌+◌, ◌<◌, ◌≤◌, ◌⊎◌, inl, inr, List, [], ◌∷◌, ◌++◌, length, drop, get_or, refl, sym, subst, append_assoc, append-nil, line, block_text, refused_text, accepted, refused, JudgesFrom}
 use Rattle.command_shape.proofs.Places.{drop-at, drop-all}
 
 module _ {Block : Type 0} (accepts refuses : Block → List ℕ → Type 0) where

@@ -1,16 +1,5 @@
 -- The command set, a line a command: what names it, and what its words have.
-use Rattle.std.proofs.Common.{◌≡◌, inl, inr, refl, false, [], List, codes}
-use Rattle.std.specs.Prelude.{if◌then◌else◌}
-use Rattle.std.specs.List.{AllByRecursion}
-use Rattle.std.specs.Str.{bytes_eq}
-use Rattle.clap.specs.Walk.{Text, rows_after, nothing_held}
-use Rattle.clap.specs.Simple.{Shape, built}
-use Rattle.clap.specs.Faults.{level_fault}
-use Rattle.clap.proofs.OnLiterals.{clap_on_literals}
-use Rattle.command_shape.specs.declared.evidence.EvidenceCommand.{EvidenceCommand}
-use Rattle.command_shape.specs.declared.evidence.EvidenceCommand.TheVariants.{Check, Model, Confirm, Explain, Cancel}
-use Rattle.command_shape.specs.CommandSet.{command_set, name_of, prove_command, refute_command, bench_command, pair_command}
-use Rattle.command_shape.specs.Present.{HasCommand, IsEvidenceName}
+use Rattle.command_shape.proofs.Prelude.{◌≡◌, inl, inr, refl, false, [], List, codes, if◌then◌else◌, AllByRecursion, bytes_eq, Text, rows_after, nothing_held, Shape, built, level_fault, clap_on_literals, EvidenceCommand, Check, Model, Confirm, Explain, Cancel, command_set, name_of, prove_command, refute_command, bench_command, pair_command, HasCommand, IsEvidenceName}
 use Rattle.command_shape.proofs.Taken.{prove_has, refute_has, bench_has, pair_has}
 use Rattle.command_shape.proofs.Top.{leaf, IsNamed}
 

@@ -1,21 +1,5 @@
 -- The call that a taken list of words names.
-use Rattle.std.proofs.Common.{◌≡◌, ◌∙◌, ap, inl, inr, refl, not, ℕ, Bool, true, false, List, Option, Some, None, codes}
-use Rattle.std.specs.Prelude.{option_map}
-use Rattle.std.specs.Str.{bytes_eq}
-use Rattle.std.specs.Str.Parse.{digits_value, without_leading_plus}
-use Rattle.clap.specs.Walk.{Row, Text}
-use Rattle.clap.specs.Simple.{subcommand_of}
-use Rattle.in_order_parallel.specs.Limits.{worker_limit}
-use Rattle.command_shape.specs.Limits.{pair_limit, step_limit, seed_limit, format_limit, size_limit}
-use Rattle.command_shape.specs.CommandSet.{command_set, IsTaken}
-use Rattle.command_shape.specs.Present.{HasNumber, HasFlag, HasProve, HasRefute, HasBench, HasPair, HasCommand, MatchesHave}
-use Rattle.command_shape.specs.Calls.{number_of, flag_of, GivesProve, GivesRefute, GivesBench, GivesPair, GivesCall, MatchesGive}
-use Rattle.command_shape.specs.declared.call.Call.{Call}
-use Rattle.command_shape.specs.declared.call.Call.TheVariants.{Prove, Refute, Bench, Evidence}
-use Rattle.command_shape.specs.declared.call.ProveCall.{ProveCall}
-use Rattle.command_shape.specs.declared.call.RefuteCall.{RefuteCall}
-use Rattle.command_shape.specs.declared.call.BenchCall.{BenchCall}
-use Rattle.command_shape.specs.declared.call.PairCall.{PairCall}
+use Rattle.command_shape.proofs.Prelude.{◌≡◌, ◌∙◌, ap, inl, inr, refl, not, ℕ, Bool, true, false, List, Option, Some, None, codes, option_map, bytes_eq, digits_value, without_leading_plus, Row, Text, subcommand_of, worker_limit, pair_limit, step_limit, seed_limit, format_limit, size_limit, command_set, IsTaken, HasNumber, HasFlag, HasProve, HasRefute, HasBench, HasPair, HasCommand, MatchesHave, number_of, flag_of, GivesProve, GivesRefute, GivesBench, GivesPair, GivesCall, MatchesGive, Call, Prove, Refute, Bench, Evidence, ProveCall, RefuteCall, BenchCall, PairCall}
 use Rattle.command_shape.proofs.Entered.{taken_has}
 
 number_given : (id : Text) (least most : ℕ) (rows : List Row) → HasNumber id least most rows → (n : ℕ) × (number_of id rows ≡ Some n)

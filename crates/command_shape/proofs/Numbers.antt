@@ -1,14 +1,6 @@
 -- a number in plain decimal digits, as a word
-use Rattle.std.proofs.Common.{◌≡◌, ◌∙◌, ap, refl, ℕ, Bool, true, false, List, [], ◌∷◌, ◌<◌, ◌≤◌, ◌^◌, ◌==◌, arith, decimal, cond, drop}
-use Rattle.std.proofs.lemmas.Bool.{ne_eqb}
-use Rattle.std.proofs.lemmas.Fmt.{decimal_is_IsNumeral}
-use Rattle.std.proofs.lemmas.Str.Parse.{digit_from_value}
-use Rattle.std.specs.Str.Parse.{IsNumeral, digits_value, without_leading_plus}
-use Rattle.clap.specs.ValueTests.{accepts}
-use Rattle.clap.specs.Kinds.{value_kinds}
+use Rattle.command_shape.proofs.Prelude.{◌≡◌, ◌∙◌, ap, refl, ℕ, Bool, true, false, List, [], ◌∷◌, ◌<◌, ◌≤◌, ◌^◌, ◌==◌, arith, decimal, cond, drop, ne_eqb, decimal_is_IsNumeral, digit_from_value, IsNumeral, digits_value, without_leading_plus, accepts, value_kinds, Accepts-accepts, IsFileWord}
 use Rattle.clap.specs.declared.builder.value_parser.ValueParser.TheVariants as parser
-use Rattle.clap.proofs.ValueTestLemmas.{Accepts-accepts}
-use Rattle.command_shape.specs.Accepted.{IsFileWord}
 
 pub no_plus : (ds : List ℕ) → IsNumeral 10 ds → without_leading_plus ds ≡ ds
 no_plus [] h = refl

@@ -1,16 +1,6 @@
 -- the walk over the options of an accepted list
-use Rattle.std.proofs.Common.{◌≡◌, ◌≢◌, ◌∙◌, ap, sym, refl, ℕ, Bool, true, false, List, [], ◌∷◌, ◌++◌, Option, Some, None, codes, map, decimal, ◌||◌, fold, flat_map}
-use Rattle.std.specs.Prelude.{⊤}
-use Rattle.std.specs.Str.{bytes_eq}
-use Rattle.std.proofs.lemmas.List.{append-nil, append_assoc}
-use Rattle.std.proofs.lemmas.Slice.Eq.{bytes_eq-Decides}
-use Rattle.clap.specs.Walk.{Row, Text, Walk, walked, settled_rows, has_row}
-use Rattle.clap.specs.Simple.{Shape, filled}
-use Rattle.clap.specs.Faults.{turn_fault, settle_fault, walk_fault}
-use Rattle.clap.specs.Kinds.{Kinds, value_kinds, or_else}
+use Rattle.command_shape.proofs.Prelude.{◌≡◌, ◌≢◌, ◌∙◌, ap, sym, refl, ℕ, Bool, true, false, List, [], ◌∷◌, ◌++◌, Option, Some, None, codes, map, decimal, ◌||◌, fold, flat_map, ⊤, bytes_eq, append-nil, append_assoc, bytes_eq-Decides, Row, Text, Walk, walked, settled_rows, has_row, Shape, filled, turn_fault, settle_fault, walk_fault, Kinds, value_kinds, or_else, number_option, flag_option, Given, number, flag, given_id, given_words, IsNotGiven}
 use Rattle.clap.specs.declared.builder.value_parser.ValueParser.TheVariants as parser
-use Rattle.command_shape.specs.CommandSet.{number_option, flag_option}
-use Rattle.command_shape.specs.Accepted.{Given, number, flag, given_id, given_words, IsNotGiven}
 use Rattle.command_shape.proofs.Steps.{held, between, opened, IsPlainWord, IsOptionOf, opens, takes_value, opens_well, takes_well, given_row, row_added, settles, settles_well, flags, flags_well}
 
 abbrev pub given_text : Given → Text

@@ -1,5 +1,5 @@
 -- A list up to a place, the item there, and what follows it.
-use Rattle.std.proofs.Common.{◌≡◌, ℕ, zero, suc, ◌+◌, ◌<◌, ◌≤◌, List, [], ◌∷◌, ◌++◌, length, take, drop, get_or, refl, sym, ap, ◌∙◌, arith}
+use Rattle.command_shape.proofs.Prelude.{◌≡◌, ℕ, zero, suc, ◌+◌, ◌<◌, ◌≤◌, List, [], ◌∷◌, ◌++◌, length, take, drop, get_or, refl, sym, ap, ◌∙◌, arith}
 
 module _ {Item : Type 0} where
   drop-suc : (bs : List Item) (place : ℕ) (b : Item) → place < length bs → b ≡ get_or bs place b → drop place bs ≡ b ∷ drop (suc place) bs

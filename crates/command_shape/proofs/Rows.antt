@@ -1,19 +1,6 @@
 -- what a walk without a fault leaves: each row has a value, which passes the parser of its argument
-use Rattle.std.proofs.Common.{◌≡◌, ◌∙◌, ◌⊎◌, ⊎_elim, ap, sym, subst, refl, ℕ, suc, Bool, true, false, List, [], ◌∷◌, ◌++◌, ◌==◌, arith, Option, Some, None, codes, cond, ◌||◌, ◌&&◌, fold, not, length, if◌then◌else◌}
-use Rattle.std.specs.Prelude.{⊤, find, slice_get, is_some}
-use Rattle.std.specs.List.{AllByRecursion}
-use Rattle.std.specs.Option.{option_map_or}
-use Rattle.std.specs.Str.{bytes_eq, chars}
-use Rattle.std.proofs.lemmas.Bool.{ne_eqb}
-use Rattle.clap.specs.Facts.{unwrap_or_range, parser_of_value}
-use Rattle.clap.specs.Lexer.{long_of, short_of}
-use Rattle.clap.specs.Walk.{Row, Rule, Text, Walk, Held, Step, Waiting, Outcome, idle, option, positional, next, trailing, subcommand, value, done, waits, plain, refused, walked, settled_rows, settled, used_by_id, has_row, arg_by_id, arg_by_index, arg_by_long, has_short, used, reacted, action_of, reading_by, word_met, after_step, to_positional, after_flag, plain_word, long_met, bundle_met, bundle, bundle_step, has_long, most_values, values_or_missing, subcommand_met, is_pending, takes_several, long_or_other, short_or_plain, positional_held, is_multiple, next_position, pushed, takes_values, with_values, without, option_word}
-use Rattle.clap.specs.Simple.{Shape}
-use Rattle.clap.specs.Faults.{turn_fault, word_fault, step_fault, settle_fault, use_fault, react_fault, walk_fault, long_fault, flags_fault, bundle_fault, bundle_step_fault, values_fault, set_fault, repeat_fault, positional_fault, action_fault, flag_word_fault, stray_fault}
-use Rattle.clap.specs.Kinds.{Kinds, value_kinds, or_else, range_kinds}
-use Rattle.clap.specs.declared.builder.ArgAction.TheVariants.{Set, SetTrue}
-use Rattle.clap.specs.declared.builder.value_parser.Reading.TheVariants.{AsWritten}
-use Rattle.clap.specs.declared.parser.matches.ValueSource.TheVariants.{CommandLine}
+use Rattle.command_shape.proofs.Prelude.{◌≡◌, ◌∙◌, ◌⊎◌, ⊎_elim, ap, sym, subst, refl, ℕ, suc, Bool, true, false, List, [], ◌∷◌, ◌++◌, ◌==◌, arith, Option, Some, None, codes, cond, ◌||◌, ◌&&◌, fold, not, length, if◌then◌else◌, ⊤, find, slice_get, is_some, AllByRecursion, option_map_or, bytes_eq, chars, ne_eqb, unwrap_or_range, parser_of_value, long_of, short_of, Row, Rule, Text, Walk, Held, Step, Waiting, Outcome, idle, option, positional, next, trailing, subcommand, value, done, waits, plain, walked, settled_rows, settled, used_by_id, has_row, arg_by_id, arg_by_index, arg_by_long, has_short, used, reacted, action_of, reading_by, word_met, after_step, to_positional, after_flag, plain_word, long_met, bundle_met, bundle, bundle_step, has_long, most_values, values_or_missing, subcommand_met, is_pending, takes_several, long_or_other, short_or_plain, positional_held, is_multiple, next_position, pushed, takes_values, with_values, without, option_word, Shape, turn_fault, word_fault, step_fault, settle_fault, use_fault, react_fault, walk_fault, long_fault, flags_fault, bundle_fault, bundle_step_fault, values_fault, set_fault, repeat_fault, positional_fault, action_fault, flag_word_fault, stray_fault, Kinds, value_kinds, or_else, range_kinds, Set, SetTrue, AsWritten, CommandLine}
+use Rattle.clap.specs.Walk.{refused}
 use Rattle.command_shape.proofs.Found.{found}
 use Rattle.command_shape.proofs.Steps.{one_more}
 

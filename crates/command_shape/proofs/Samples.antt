@@ -1,12 +1,5 @@
 -- two accepted lists, written out
-use Rattle.std.proofs.Common.{refl, inl, inr, false, [], ◌∷◌, arith, codes}
-use Rattle.command_shape.specs.Accepted.{number, flag}
-use Rattle.command_shape.specs.Calls.{Names}
-use Rattle.command_shape.specs.declared.evidence.EvidenceCommand.TheVariants.{Check}
-use Rattle.command_shape.specs.declared.call.Call.TheVariants.{Prove, Evidence}
-use Rattle.command_shape.specs.declared.call.ProveCall.{ProveCall}
-use Rattle.command_shape.specs.declared.call.PairCall.{PairCall}
-use Rattle.std.proofs.lemmas.Fmt.{decimal_digit}
+use Rattle.command_shape.proofs.Prelude.{refl, inl, inr, false, [], ◌∷◌, arith, codes, number, flag, Names, Check, Prove, Evidence, ProveCall, PairCall, decimal_digit}
 
 pub call : ProveCall
 call = record { file = codes "f"; pairs = 7; steps = 20000; workers = 4; seed = 1; format = 2; models = false }

@@ -1,19 +1,6 @@
 -- the walk over one option, from a place between two options
-use Rattle.std.proofs.Common.{◌≡◌, ◌∙◌, ap, refl, ℕ, Bool, true, false, List, [], ◌∷◌, ◌++◌, Option, Some, None, ◌==◌, codes, cond, ◌||◌}
-use Rattle.std.proofs.lemmas.Bool.{ne_eqb}
-use Rattle.std.proofs.lemmas.List.{append-nil}
-use Rattle.std.specs.Str.{bytes_eq}
-use Rattle.clap.specs.Lexer.{long_of, short_of}
-use Rattle.clap.specs.Walk.{Row, Rule, Text, Walk, Held, idle, option, walked, settled_rows, arg_by_id, arg_by_long, has_row, without, with_values, at_row, more_values}
-use Rattle.clap.specs.Simple.{Shape, filled}
-use Rattle.clap.specs.Faults.{turn_fault, settle_fault}
-use Rattle.clap.specs.Kinds.{value_kinds}
+use Rattle.command_shape.proofs.Prelude.{◌≡◌, ◌∙◌, ap, refl, ℕ, Bool, true, false, List, [], ◌∷◌, ◌++◌, Option, Some, None, ◌==◌, codes, cond, ◌||◌, ne_eqb, append-nil, bytes_eq, long_of, short_of, Row, Rule, Text, Walk, Held, idle, option, walked, settled_rows, arg_by_id, arg_by_long, has_row, without, with_values, at_row, more_values, Shape, filled, turn_fault, settle_fault, value_kinds, Reading, AsWritten, CommandLine, number_option, flag_option, IsFileWord}
 use Rattle.clap.specs.declared.builder.value_parser.ValueParser.TheVariants as parser
-use Rattle.clap.specs.declared.builder.value_parser.Reading.{Reading}
-use Rattle.clap.specs.declared.builder.value_parser.Reading.TheVariants.{AsWritten}
-use Rattle.clap.specs.declared.parser.matches.ValueSource.TheVariants.{CommandLine}
-use Rattle.command_shape.specs.CommandSet.{number_option, flag_option}
-use Rattle.command_shape.specs.Accepted.{IsFileWord}
 
 abbrev pub held : List Row → Option (Text × List Text) → Held
 held rows p = record { rows = rows; pending = p; skip = 0 }

@@ -1,13 +1,7 @@
 -- A stop may say less, and it is returned.
-use Rattle.std.proofs.Common.{◌≡◌, List, Result, Ok, Err, IfErr, subst, sym}
-use Rattle.std.specs.Result.{IsErr, IsErrAnd}
-use Rattle.lists.specs.Stop.{IsMemory}
-use Rattle.lists.specs.declared.stop.Stop.{Stop}
+use Rattle.command_shape.proofs.Prelude.{◌≡◌, List, Result, Ok, Err, IfErr, subst, sym, IsErr, IsErrAnd, IsMemory, Stop, Fault, Ending, StopsBy, EndsAs}
 use Rattle.lists.specs.declared.stop.Stop.TheVariants as why
-use Rattle.block_text.specs.Fault.{Fault}
-use Rattle.command_shape.specs.Ending.{Ending}
 use Rattle.command_shape.specs.Blocks as blocks
-use Rattle.command_shape.specs.Stop.{StopsBy, EndsAs}
 
 pub stops_weaker : (P Q : Ending → Type 0) → ((ending : Ending) → P ending → Q ending) → (stop : Stop Ending) → StopsBy P stop → StopsBy Q stop
 stops_weaker P Q weaker (why.Fault ending) holds = weaker ending holds

@@ -1,31 +1,6 @@
 -- The words of a command, and its numbers, which are in range.
-use Rattle.std.proofs.Common.{◌≡◌, ◌∙◌, ◌⊎◌, ⊎_elim, inl, inr, ap, sym, subst, refl, ℕ, Bool, true, false, List, [], ◌∷◌, Option, Some, None, codes, not, ◌||◌, ◌&&◌, fold}
-use Rattle.std.specs.Prelude.{slice_get, option_and_then}
-use Rattle.std.specs.List.{AllByRecursion, list_any}
-use Rattle.std.specs.Str.{bytes_eq}
-use Rattle.std.proofs.lemmas.Slice.Eq.{bytes_eq-Decides}
-use Rattle.clap.specs.Facts.{parser_of_value, unwrap_or_range}
-use Rattle.clap.specs.Values.{Accepts}
-use Rattle.clap.specs.ValueTests.{accepts}
-use Rattle.clap.proofs.ValueTestLemmas.{accepts-Accepts}
-use Rattle.clap.specs.Takes.{is_given}
-use Rattle.clap.specs.Walk.{Row, Rule, Text, Walk, Held, with_default, rows_after, nothing_held, walk_from, settled, arg_by_id, one_of, idle, row_text, reading_by, action_of, has_short}
-use Rattle.clap.specs.Walk.{walk as whole_walk}
-use Rattle.clap.specs.Simple.{Shape, filled}
-use Rattle.clap.specs.Faults.{check_fault, level_fault, settle_fault, walk_fault, defaults_fault}
-use Rattle.clap.specs.Kinds.{value_kinds, check_kinds}
-use Rattle.clap.specs.declared.builder.ArgAction.{ArgAction}
-use Rattle.clap.specs.declared.builder.ArgAction.TheVariants.{Set, SetTrue}
-use Rattle.clap.specs.declared.builder.range.ValueRange.{ValueRange}
-use Rattle.clap.specs.declared.builder.value_parser.ValueParser.{ValueParser}
+use Rattle.command_shape.proofs.Prelude.{◌≡◌, ◌∙◌, ◌⊎◌, ⊎_elim, inl, inr, ap, sym, subst, refl, ℕ, Bool, true, false, List, [], ◌∷◌, Option, Some, None, codes, not, ◌||◌, ◌&&◌, fold, slice_get, option_and_then, AllByRecursion, list_any, bytes_eq, bytes_eq-Decides, parser_of_value, unwrap_or_range, Accepts, accepts, accepts-Accepts, is_given, Row, Rule, Text, Walk, Held, with_default, rows_after, nothing_held, walk_from, settled, arg_by_id, one_of, idle, row_text, reading_by, action_of, has_short, whole_walk, Shape, filled, check_fault, level_fault, settle_fault, walk_fault, defaults_fault, value_kinds, check_kinds, ArgAction, Set, SetTrue, ValueRange, ValueParser, Reading, AsWritten, worker_limit, pair_limit, step_limit, seed_limit, format_limit, size_limit, default_pairs_word, default_steps_word, default_workers_word, default_seed_word, default_format_word, prove_command, refute_command, bench_command, pair_command, number_option, flag_option, HasText, HasNumber, HasFlag, HasProve, HasRefute, HasBench, HasPair}
 use Rattle.clap.specs.declared.builder.value_parser.ValueParser.TheVariants as parser
-use Rattle.clap.specs.declared.builder.value_parser.Reading.{Reading}
-use Rattle.clap.specs.declared.builder.value_parser.Reading.TheVariants.{AsWritten}
-use Rattle.in_order_parallel.specs.Limits.{worker_limit}
-use Rattle.command_shape.specs.Limits.{pair_limit, step_limit, seed_limit, format_limit, size_limit}
-use Rattle.command_shape.specs.Limits.{default_pairs_word, default_steps_word, default_workers_word, default_seed_word, default_format_word}
-use Rattle.command_shape.specs.CommandSet.{prove_command, refute_command, bench_command, pair_command, number_option, flag_option}
-use Rattle.command_shape.specs.Present.{HasText, HasNumber, HasFlag, HasProve, HasRefute, HasBench, HasPair}
 use Rattle.command_shape.proofs.Found.{found}
 use Rattle.command_shape.proofs.Ends.{place, row_at, row_kept, row_defaulted, default_list}
 use Rattle.command_shape.proofs.Gives.{not_there}

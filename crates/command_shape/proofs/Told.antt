@@ -1,5 +1,6 @@
 -- Texts that are appended to one another.
-use Rattle.std.proofs.Common.{◌≡◌, ◌∙◌, ℕ, List, ◌++◌, Result, Ok, Err, OnOk, ap, append_assoc}
+use Rattle.command_shape.proofs.Prelude.{◌≡◌, ◌∙◌, ℕ, List, ◌++◌, Result, Ok, Err, OnOk, ap}
+use Rattle.std.proofs.Common.{append_assoc}
 
 -- two texts, one after the other
 pub two_put : {E : Type 0} (r : Result (Unit {0}) E) (before first second between after : List ℕ) → between ≡ before ++ first → OnOk r (after ≡ between ++ second)

@@ -1,11 +1,6 @@
 -- the first word names the command, which reads those after it
-use Rattle.std.proofs.Common.{◌≡◌, ◌∙◌, ap, sym, refl, false, List, [], ◌∷◌, ◌++◌, Some, None, fold}
-use Rattle.std.specs.Prelude.{find}
-use Rattle.std.proofs.lemmas.List.{append-nil, append_assoc}
-use Rattle.clap.specs.Walk.{Rule, Text, Walk, Names, walked, rows_after, nothing_held, answers_to, walk}
-use Rattle.clap.specs.Simple.{App, Shape, label_of, names_of, built, built_leaf, inherited, marked_built, with_leaf_noted, entered, subcommand_of}
-use Rattle.clap.specs.Faults.{turn_fault, walk_fault, level_fault, defaults_fault}
-use Rattle.command_shape.specs.CommandSet.{command_set, IsTaken, bare_command}
+use Rattle.command_shape.proofs.Prelude.{◌≡◌, ◌∙◌, ap, sym, refl, false, List, [], ◌∷◌, ◌++◌, Some, None, fold, find, append-nil, append_assoc, Rule, Text, Walk, walked, rows_after, nothing_held, answers_to, walk, App, Shape, label_of, names_of, built, built_leaf, inherited, marked_built, with_leaf_noted, entered, subcommand_of, turn_fault, walk_fault, level_fault, defaults_fault, command_set, IsTaken, bare_command}
+use Rattle.clap.specs.Walk.{Names}
 use Rattle.command_shape.proofs.Steps.{between}
 use Rattle.command_shape.proofs.Options.{or_nothing}
 

@@ -1,17 +1,5 @@
 -- the matches give one command at most
-use Rattle.std.proofs.Common.{◌≡◌, ◌∙◌, ap, sym, refl, ℕ, Bool, true, false, List, [], Option, Some, None, codes, not}
-use Rattle.std.specs.Prelude.{if◌then◌else◌, unwrap_or}
-use Rattle.std.specs.Str.{bytes_eq}
-use Rattle.clap.specs.Words.{Row, Text, first_of}
-use Rattle.command_shape.specs.declared.evidence.EvidenceCommand.{EvidenceCommand}
-use Rattle.command_shape.specs.CommandSet.{name_of}
-use Rattle.command_shape.specs.Calls.{number_of, flag_of, GivesProve, GivesRefute, GivesBench, GivesPair, GivesCall, MatchesGive}
-use Rattle.command_shape.specs.declared.call.Call.{Call}
-use Rattle.command_shape.specs.declared.call.Call.TheVariants.{Prove, Refute, Bench, Evidence}
-use Rattle.command_shape.specs.declared.call.ProveCall.{ProveCall}
-use Rattle.command_shape.specs.declared.call.RefuteCall.{RefuteCall}
-use Rattle.command_shape.specs.declared.call.BenchCall.{BenchCall}
-use Rattle.command_shape.specs.declared.call.PairCall.{PairCall}
+use Rattle.command_shape.proofs.Prelude.{◌≡◌, ◌∙◌, ap, sym, refl, ℕ, Bool, true, false, List, [], Option, Some, None, codes, not, if◌then◌else◌, unwrap_or, bytes_eq, Row, Text, first_of, EvidenceCommand, name_of, number_of, flag_of, GivesProve, GivesRefute, GivesBench, GivesPair, GivesCall, MatchesGive, Call, Prove, Refute, Bench, Evidence, ProveCall, RefuteCall, BenchCall, PairCall}
 use Rattle.command_shape.proofs.Members.{not_other, command_at, command_at-name_of}
 
 text_at : Text → List Row → Text

@@ -1,43 +1,13 @@
 -- The generator x x - x, with the letter x = 0 in the canonical order: closed after one ambiguity, and x is outside.
-use Rattle.std.proofs.Common.{◌≡◌, ◌<◌, ◌+◌, ℕ, zero, suc, pos, negsuc, List, [], ◌∷◌, length, Ok, false, refl, sym, ap, ◌∙◌, subst, arith}
-use Rattle.std.proofs.lemmas.Int.{ints}
-use Rattle.std.specs.List.{All}
-use Rattle.std.proofs.lemmas.List.{length-append}
-use Rattle.std.proofs.lemmas.List.Elements.{All-nil}
-use Rattle.definitions.specs.Poly.{Term, coefficient_of}
-use Rattle.definitions.specs.Combination.{generator_at, InRationalIdeal}
-use Rattle.word_core.specs.Canonical.{word_cmp}
-use Rattle.word_core.specs.Letters.{IsOver}
-use Rattle.word_orders.specs.Admissible.{IsAdmissible}
-use Rattle.word_orders.specs.Rank.{rank_of}
-use Rattle.word_core.proofs.CanonicalLaws.{word_cmp-admissible}
-use Rattle.nc_polynomial.specs.Shape.{IsShaped, IsCanonical}
-use Rattle.traced_rows.specs.declared.Made.{Made}
+use Rattle.confluence.proofs.Prelude.{◌≡◌, ◌<◌, ◌+◌, ℕ, zero, suc, pos, negsuc, List, [], ◌∷◌, length, Ok, false, refl, sym, ap, ◌∙◌, subst, arith, ints, All, length-append, All-nil, Term, coefficient_of, generator_at, InRationalIdeal, word_cmp, IsOver, IsAdmissible, rank_of, word_cmp-admissible, IsShaped, IsCanonical, Made, Rule, State, IsRule, polynomials_of, start_of, words_with_coefficients, Kind, Overlap, Inclusion, Ambiguity, MeetsAs, IsAmbiguity, overlap_word_of, s_polynomial_of, IsResolved, Resolved, s_polynomials_balance, IsZero, IsReduced, generator_rows, IsAppended, rule_made, HaveLettersBelow, Kept, AreAllDone, NothingPending, all_one, all_two}
 use Rattle.traced_rows.specs.declared.Origin.TheVariants as origin
-use Rattle.rule_reduce.specs.declared.rule.Rule.{Rule}
-use Rattle.rule_reduce.specs.declared.state.State.{State}
-use Rattle.rule_reduce.specs.RuleLists.{IsRule, polynomials_of}
-use Rattle.rule_reduce.specs.NormalForms.{start_of}
-use Rattle.rule_reduce.proofs.WordsKept.{words_with_coefficients}
-use Rattle.ambiguities.specs.declared.ambiguity.Kind.{Kind}
-use Rattle.ambiguities.specs.declared.ambiguity.Kind.TheVariants.{Overlap, Inclusion}
-use Rattle.ambiguities.specs.declared.ambiguity.Ambiguity.{Ambiguity}
-use Rattle.ambiguities.specs.Ambiguities.{MeetsAs, IsAmbiguity, overlap_word_of}
-use Rattle.ambiguities.specs.SPolynomials.{s_polynomial_of}
-use Rattle.ambiguities.specs.Resolved.{IsResolved, Resolved}
-use Rattle.ambiguities.proofs.Balance.{s_polynomials_balance}
-use Rattle.confluence.specs.Reductions.{IsZero, IsReduced}
 use Rattle.confluence.proofs.Examples.{only_rule}
 use Rattle.confluence.proofs.Ideals.{ideals_stay_inside}
 use Rattle.confluence.proofs.RestLaws.{normal_forms_are_reduced, rests_of_ideal_are_zero, zero_rests_are_inside, zero_rests_are_resolved}
 use Rattle.confluence.proofs.WrittenTerms.{shaped_as_written, canonical_as_written}
-use Rattle.confluence.specs.Rests.{generator_rows, IsAppended, rule_made}
-use Rattle.confluence.specs.Kept.{HaveLettersBelow, Kept}
-use Rattle.confluence.specs.Conclusions.{AreAllDone, NothingPending}
 use Rattle.confluence.proofs.ShapeLaws.{zero_is_shaped}
 use Rattle.confluence.proofs.Steps.{start_is_kept, generators_are_kept, resolved_at_once_is_kept}
 use Rattle.confluence.proofs.OutsideIdeals.{nonzero_is_outside}
-use Rattle.traced_rows.proofs.Lists.{all_one, all_two}
 
 -- x x - x
 abbrev terms : List Term

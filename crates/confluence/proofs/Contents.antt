@@ -1,16 +1,6 @@
 -- Each polynomial has a content, and can be divided by it.
-use Rattle.std.proofs.Common.{◌≡◌, ◌≢◌, ◌<◌, ◌<ℤ◌, ℕ, zero, suc, ℤ, pos, negsuc, List, [], ◌∷◌, length, map, refl, ap, ap₂, arith}
-use Rattle.std.specs.List.{All}
-use Rattle.std.specs.Int.{◌∣◌}
-use Rattle.std.specs.Int.RustNames.{unsigned_abs, int_div}
-use Rattle.std.proofs.lemmas.Int.{ints}
-use Rattle.std.proofs.lemmas.Nat.Gcd.{dvd-zero, dvd_trans}
-use Rattle.std.proofs.lemmas.List.Elements.{All-nil, All-cons, All-head, All-tail, All-weaker}
-use Rattle.coef_int.specs.Divisor.{gcd_of}
-use Rattle.coef_int.proofs.Divisors.{gcd_of-IsGcd}
-use Rattle.definitions.specs.Poly.{Term, poly_multiple}
-use Rattle.nc_polynomial.specs.Content.{IsContent}
-use Rattle.nc_polynomial.proofs.Divisors.{quotient_times, content-zero}
+use Rattle.confluence.proofs.Prelude.{◌≡◌, ◌≢◌, ◌<◌, ◌<ℤ◌, ℕ, zero, suc, ℤ, pos, negsuc, List, [], ◌∷◌, length, map, refl, ap, ap₂, arith, All, ◌∣◌, unsigned_abs, ints, dvd-zero, dvd_trans, All-nil, All-cons, All-head, All-tail, All-weaker, gcd_of, gcd_of-IsGcd, Term, poly_multiple, IsContent, quotient_times, content-zero}
+use Rattle.std.specs.Int.RustNames.{int_div}
 
 pub record HasContent (p : List Term) : Type 0 where
   pub content : ℤ

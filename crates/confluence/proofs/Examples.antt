@@ -1,15 +1,5 @@
 -- The rule b a b - a b a, with the letters a = 0 and b = 1 in the canonical order, has one ambiguity.
-use Rattle.std.proofs.Common.{◌≡◌, ◌<◌, ℕ, zero, suc, pos, negsuc, List, [], ◌∷◌, ◌++◌, length, Some, Ok, refl, sym, ap, ◌∙◌, arith}
-use Rattle.std.proofs.lemmas.List.{length-append}
-use Rattle.definitions.specs.Poly.{Term}
-use Rattle.nc_polynomial.specs.Shape.{IsCanonical}
-use Rattle.rule_reduce.specs.declared.rule.Rule.{Rule}
-use Rattle.rule_reduce.specs.RuleLists.{rule_at}
-use Rattle.ambiguities.specs.declared.ambiguity.Kind.{Kind}
-use Rattle.ambiguities.specs.declared.ambiguity.Kind.TheVariants.{Overlap, Inclusion}
-use Rattle.ambiguities.specs.declared.ambiguity.Ambiguity.{Ambiguity}
-use Rattle.ambiguities.specs.Ambiguities.{MeetsAs, IsAmbiguity, overlap_word_of}
-use Rattle.ambiguities.specs.SPolynomials.{s_polynomial_of}
+use Rattle.confluence.proofs.Prelude.{◌≡◌, ◌<◌, ℕ, zero, suc, pos, negsuc, List, [], ◌∷◌, ◌++◌, length, Some, Ok, refl, sym, ap, ◌∙◌, arith, length-append, Term, IsCanonical, Rule, rule_at, Kind, Overlap, Inclusion, Ambiguity, MeetsAs, IsAmbiguity, overlap_word_of, s_polynomial_of}
 use Rattle.confluence.proofs.WrittenTerms.{shaped_as_written, canonical_as_written}
 
 abbrev terms : List Term

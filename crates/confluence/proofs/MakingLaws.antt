@@ -1,23 +1,5 @@
 -- What is pushed is a rule that is made of a rest.
-use Rattle.std.proofs.Common.{List, ◌≡◌, ◌<◌, ℕ, zero, suc, ℤ, pos, negsuc, ◌*ℤ◌, ◌<ℤ◌, neg_ℤ, Bool, true, false, length, Option, Some, None, IsSomeAnd, refl, sym, ap, ◌∙◌, subst, arith}
-use Rattle.std.specs.List.{All}
-use Rattle.std.specs.Int.{IsNonNegative}
-use Rattle.std.specs.Option.{option_map}
-use Rattle.std.proofs.lemmas.Int.{ints}
-use Rattle.std.proofs.Math.IntN.{zero-*ℤ}
-use Rattle.coef_int.specs.Range.{IsCoefficient}
-use Rattle.definitions.specs.Poly.{Term, coefficient_of, poly_multiple}
-use Rattle.definitions.proofs.Coefficients.{coefficient_of-multiple}
-use Rattle.word_core.specs.Letters.{IsOver}
-use Rattle.word_orders.specs.Admissible.{Compare}
-use Rattle.nc_polynomial.specs.Content.{IsContent}
-use Rattle.rule_reduce.specs.declared.rule.Rule.{Rule}
-use Rattle.rule_reduce.specs.Leading.{leading_term}
-use Rattle.rule_reduce.specs.RuleLists.{IsRule, rule_from}
-use Rattle.rule_reduce.proofs.AtMost.{leading-all}
-use Rattle.confluence.specs.Reductions.{IsNonzero}
-use Rattle.confluence.specs.Rests.{signed}
-use Rattle.confluence.specs.Making.{PushedRulesAreMade}
+use Rattle.confluence.proofs.Prelude.{List, ◌≡◌, ◌<◌, ℕ, zero, suc, ℤ, pos, negsuc, ◌*ℤ◌, ◌<ℤ◌, neg_ℤ, Bool, true, false, length, Option, Some, None, IsSomeAnd, refl, sym, ap, ◌∙◌, subst, arith, All, IsNonNegative, option_map, ints, zero-*ℤ, IsCoefficient, Term, coefficient_of, poly_multiple, coefficient_of-multiple, IsOver, Compare, IsContent, Rule, leading_term, IsRule, rule_from, leading-all, IsNonzero, signed, PushedRulesAreMade}
 
 pub rule_from_pushed : (letters : ℕ) (compare : Compare) (g : Rule) → rule_from compare g.poly ≡ Some g → IsSomeAnd (leading_term compare g.poly.terms) (λ t. pos 0 <ℤ t.0)
     → All (λ t. 0 < length t.1) g.poly.terms → All (λ t. IsOver letters t.1) g.poly.terms → IsRule letters compare g

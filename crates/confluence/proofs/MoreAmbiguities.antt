@@ -1,20 +1,6 @@
 -- Ambiguities of rules are ambiguities of more rules, with the same overlap words and S-polynomials.
-use Rattle.std.proofs.Common.{◌≡◌, ◌+◌, ℕ, ℤ, neg_ℤ, int_div, length, take, drop, List, [], ◌++◌, Some, sym, ap₂, ◌∙◌, subst}
-use Rattle.std.specs.List.{All}
-use Rattle.definitions.specs.Poly.{poly_multiple, poly_between}
-use Rattle.definitions.specs.Combination.{generator_at}
-use Rattle.word_orders.specs.Admissible.{Compare, IsAdmissible}
-use Rattle.coef_int.specs.Divisor.{gcd_of}
+use Rattle.confluence.proofs.Prelude.{◌≡◌, ◌+◌, ℕ, ℤ, neg_ℤ, int_div, length, take, drop, List, [], ◌++◌, Some, sym, ap₂, ◌∙◌, subst, All, poly_multiple, poly_between, generator_at, Compare, IsAdmissible, gcd_of, Row, Rule, IsRule, rule_at, polynomials_of, rule_at-polynomial, Ambiguity, IsAmbiguity, lead_at, joined_word, overlap_word_of, leading_at, first_row, second_row, ComesBelow, s_sum, IsResolved, lead_at-is, leading_at-is}
 use Rattle.traced_rows.specs.declared.Origin.TheVariants as origin
-use Rattle.traced_rows.specs.declared.Row.{Row}
-use Rattle.rule_reduce.specs.declared.rule.Rule.{Rule}
-use Rattle.rule_reduce.specs.RuleLists.{IsRule, rule_at, polynomials_of}
-use Rattle.rule_reduce.proofs.Numbers.{rule_at-polynomial}
-use Rattle.ambiguities.specs.declared.ambiguity.Ambiguity.{Ambiguity}
-use Rattle.ambiguities.specs.Ambiguities.{IsAmbiguity, lead_at, joined_word, overlap_word_of}
-use Rattle.ambiguities.specs.SPolynomials.{leading_at, first_row, second_row}
-use Rattle.ambiguities.specs.Resolved.{ComesBelow, s_sum, IsResolved}
-use Rattle.ambiguities.proofs.Joined.{lead_at-is, leading_at-is}
 use Rattle.confluence.proofs.MoreRules.{rule_at-more, below_more}
 
 module _ (rules more : List Rule) (a : Ambiguity) (is : IsAmbiguity rules a) where

@@ -1,15 +1,5 @@
 -- What comes from rules comes from more rules, and so does what was reduced, with a rule that is made of its rest.
-use Rattle.std.proofs.Common.{◌≡◌, ◌⊎◌, inl, inr, ℕ, zero, suc, ℤ, List, [], ◌∷◌, ◌++◌, slice_get, Some, sym, ap, ◌∙◌, get_or, ◌≢◌, pos, ◌*ℤ◌, refl, subst, append-nil}
-use Rattle.std.specs.List.{All}
-use Rattle.definitions.specs.Poly.{Word, Term, coefficient_of, SamePolynomial, poly_multiple, poly_between}
-use Rattle.word_orders.specs.Admissible.{Compare, IsAdmissible}
-use Rattle.word_orders.specs.Orders.{Order, IsBelow}
-use Rattle.word_orders.proofs.Orders.{order_from_laws, over_range, less_below}
-use Rattle.rule_reduce.specs.declared.rule.Rule.{Rule}
-use Rattle.rule_reduce.specs.RuleLists.{IsRule, rule_at, polynomials_of}
-use Rattle.rule_reduce.specs.KeptWords.{IsAtMostOf}
-use Rattle.ambiguities.specs.Resolved.{ComesBelow}
-use Rattle.confluence.specs.Reductions.{HasLettersBelow, IsReduced}
+use Rattle.confluence.proofs.Prelude.{◌≡◌, ◌⊎◌, inl, inr, ℕ, zero, suc, ℤ, List, [], ◌∷◌, ◌++◌, slice_get, Some, sym, ap, ◌∙◌, get_or, ◌≢◌, pos, ◌*ℤ◌, refl, subst, append-nil, All, Word, Term, coefficient_of, SamePolynomial, poly_multiple, poly_between, Compare, IsAdmissible, Order, IsBelow, order_from_laws, over_range, less_below, Rule, IsRule, rule_at, polynomials_of, IsAtMostOf, ComesBelow, HasLettersBelow, IsReduced, IsReached, +ℤ_idr, coefficient_of-multiple, product_nonzero, State}
 use Rattle.confluence.proofs.Led.{Comes, IsAtMostOf as IsAtMostIn, led_at-is, led_at}
 use Rattle.confluence.proofs.LedRules.{leds_are, ordered, parted, Extends, any_more, at_most_bounded, Bounded, row_at, coefficient_of-bare, leading_nonzero, from_rest}
 use Rattle.confluence.proofs.Meets.{Allowed}
@@ -19,11 +9,6 @@ use Rattle.confluence.proofs.ReducedSpans.{at_most_in, reduced_part, reduced_spa
 use Rattle.confluence.proofs.BelowSpans.{below_span, below_from_span}
 use Rattle.confluence.proofs.Spans.{Span, nothing, more}
 use Rattle.confluence.proofs.SumRows.{comes_from_span, span_from_comes}
-use Rattle.confluence.specs.Kept.{IsReached}
-use Rattle.std.proofs.Math.IntN.{+ℤ_idr}
-use Rattle.definitions.proofs.Coefficients.{coefficient_of-multiple}
-use Rattle.nc_polynomial.proofs.Kept.{product_nonzero}
-use Rattle.rule_reduce.specs.declared.state.State.{State}
 use Rattle.confluence.proofs.Integers.{nonzero_or}
 
 -- by number

@@ -1,19 +1,5 @@
 -- What is outside the rational ideal, and what does not come from the generators below a word.
-use Rattle.std.proofs.Common.{◌≡◌, ◌≢◌, ◌⊎◌, inl, inr, ℕ, zero, suc, pos, List, [], ◌∷◌, refl, sym, ap, ◌∙◌, subst, arith, Contains}
-use Rattle.std.specs.List.{All}
-use Rattle.std.proofs.lemmas.List.Elements.{All-contains}
-use Rattle.definitions.specs.Poly.{Word, Term, coefficient_of, poly_between}
-use Rattle.definitions.specs.Combination.{generator_at}
-use Rattle.word_orders.specs.Admissible.{Compare, IsAdmissible}
-use Rattle.word_orders.specs.Orders.{Order, IsBelow}
-use Rattle.word_orders.proofs.Orders.{order_from_laws}
-use Rattle.rule_reduce.specs.declared.rule.Rule.{Rule}
-use Rattle.rule_reduce.specs.RuleLists.{IsRule, polynomials_of}
-use Rattle.ambiguities.specs.declared.ambiguity.Kind.{Kind}
-use Rattle.ambiguities.specs.declared.ambiguity.Kind.TheVariants.{Overlap, Inclusion}
-use Rattle.ambiguities.specs.declared.ambiguity.Ambiguity.{Ambiguity}
-use Rattle.ambiguities.specs.Ambiguities.{IsAmbiguity, overlap_word_of}
-use Rattle.ambiguities.specs.Resolved.{ComesBelow, IsResolved}
+use Rattle.confluence.proofs.Prelude.{◌≡◌, ◌≢◌, ◌⊎◌, inl, inr, ℕ, zero, suc, pos, List, [], ◌∷◌, refl, sym, ap, ◌∙◌, subst, arith, Contains, All, All-contains, Word, Term, coefficient_of, poly_between, generator_at, Compare, IsAdmissible, Order, IsBelow, order_from_laws, Rule, IsRule, polynomials_of, Kind, Overlap, Inclusion, Ambiguity, IsAmbiguity, overlap_word_of, ComesBelow, IsResolved, IsReached, HaveLettersBelow, AreAllDone, ResolvedWhereClosed, ResolvedBelowPending, NonzeroIsOutside, NonzeroIsNotBelow}
 use Rattle.confluence.proofs.Shifts.{between_word, span_bind}
 use Rattle.confluence.proofs.Ideals.{generator_decided}
 use Rattle.confluence.proofs.Outside.{AnyRow, piece_span}
@@ -23,8 +9,6 @@ use Rattle.confluence.proofs.Resolve.{below}
 use Rattle.confluence.proofs.RestLaws.{rests_of_ideal_are_zero, rests_below_are_zero}
 use Rattle.confluence.proofs.Spans.{Coefs, Span, nothing}
 use Rattle.confluence.proofs.SumRows.{Numbered, combination_span}
-use Rattle.confluence.specs.Kept.{IsReached, HaveLettersBelow}
-use Rattle.confluence.specs.Conclusions.{AreAllDone, ResolvedWhereClosed, ResolvedBelowPending, NonzeroIsOutside, NonzeroIsNotBelow}
 use Rattle.confluence.proofs.MoreRules.{reached_span}
 use Rattle.confluence.proofs.Inside.{inside_rules}
 

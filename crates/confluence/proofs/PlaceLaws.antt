@@ -1,22 +1,5 @@
 -- Two leading words in one word are one, apart, or come from an ambiguity; rows apart differ by lower rows.
-use Rattle.std.proofs.Common.{◌≡◌, ◌≢◌, ◌⊎◌, inl, inr, ℕ, pos, negsuc, ◌+ℤ◌, ◌*ℤ◌, ◌<ℤ◌, neg_ℤ, List, [], ◌++◌, length, refl, sym, ap, ap₂, ◌∙◌, arith, append_assoc, append-nil}
-use Rattle.std.specs.List.{All}
-use Rattle.std.specs.Int.RustNames.{unsigned_abs}
-use Rattle.std.proofs.lemmas.Int.{ints}
-use Rattle.std.proofs.lemmas.List.{length-append, nil_from_length}
-use Rattle.definitions.specs.Poly.{Word, Term, coefficient_of, poly_multiple, poly_between}
-use Rattle.definitions.proofs.Coefficients.{coefficient_of-append, coefficient_of-multiple}
-use Rattle.word_core.specs.Letters.{IsOver}
-use Rattle.word_orders.specs.Admissible.{Compare, IsAdmissible}
-use Rattle.word_orders.specs.Orders.{Order}
-use Rattle.word_orders.proofs.Orders.{order_from_laws, over_range}
-use Rattle.rule_reduce.specs.declared.rule.Rule.{Rule}
-use Rattle.rule_reduce.specs.RuleLists.{IsRule, polynomials_of}
-use Rattle.rule_reduce.proofs.Numbers.{rule_at-all}
-use Rattle.ambiguities.specs.declared.ambiguity.Kind.TheVariants.{Overlap, Inclusion}
-use Rattle.ambiguities.specs.declared.ambiguity.Ambiguity.{Ambiguity}
-use Rattle.ambiguities.specs.Resolved.{ComesBelow}
-use Rattle.confluence.specs.Places.{Place, IsPlace, IsOnePlace, IsApart, IsFromAmbiguity, PlacesOfOneWord, place_poly, RowsApartDiffer}
+use Rattle.confluence.proofs.Prelude.{◌≡◌, ◌≢◌, ◌⊎◌, inl, inr, ℕ, pos, negsuc, ◌+ℤ◌, ◌*ℤ◌, ◌<ℤ◌, neg_ℤ, List, [], ◌++◌, length, refl, sym, ap, ap₂, ◌∙◌, arith, append_assoc, append-nil, All, unsigned_abs, ints, length-append, nil_from_length, Word, Term, coefficient_of, poly_multiple, poly_between, coefficient_of-append, coefficient_of-multiple, IsOver, Compare, IsAdmissible, Order, order_from_laws, over_range, Rule, IsRule, polynomials_of, rule_at-all, Overlap, Inclusion, Ambiguity, ComesBelow, Place, IsPlace, IsOnePlace, IsApart, IsFromAmbiguity, PlacesOfOneWord, place_poly, RowsApartDiffer}
 use Rattle.confluence.proofs.Integers.{neg_ℤ-*ℤ}
 use Rattle.confluence.proofs.Led.{led_at, Comes, led_at-is}
 use Rattle.confluence.proofs.LedRules.{leds_are, row_poly, same_nat, rules_of}

@@ -1,43 +1,10 @@
 -- What goes well keeps polynomials sorted and in range, and what does not go well is a fault that isn't want of memory.
-use Rattle.std.proofs.Common.{◌≡◌, ◌≢◌, ℕ, zero, suc, ℤ, pos, List, [], ◌∷◌, ◌++◌, Option, Some, None, Result, Ok, Err, refl, sym, ap, ◌∙◌, subst, ◌⊎◌, inl, inr, Bool, true, false, cond, length, nat_lt}
-use Rattle.std.specs.List.{All}
-use Rattle.coef_int.specs.declared.Overflow.{Overflow}
-use Rattle.coef_int.specs.Operations.{product_of, first_overflow}
-use Rattle.definitions.specs.Poly.{Term, poly_between}
-use Rattle.definitions.specs.Combination.{generator_at}
-use Rattle.word_core.specs.Letters.{IsOver}
-use Rattle.word_orders.specs.Admissible.{Compare}
-use Rattle.nc_polynomial.specs.declared.fault.PolyFault.{PolyFault}
+use Rattle.confluence.proofs.Prelude.{◌≡◌, ◌≢◌, ℕ, zero, suc, ℤ, pos, List, [], ◌∷◌, ◌++◌, Option, Some, None, Result, Ok, Err, refl, sym, ap, ◌∙◌, subst, ◌⊎◌, inl, inr, Bool, true, false, cond, length, nat_lt, All, Overflow, product_of, first_overflow, Term, poly_between, generator_at, IsOver, Compare, PolyFault, IsDescending, scaled, multiplied, multiplications, negated, shifted, products, added, sums, checked, unless_overflow, sized, size_fault, has_long_word, IsMemory, IsShaped, IsCanonical, combined, and_then, shaped-between, or_first, first-append, ranged_multiply, shaped_scale, shaped_add, sized-value, finished-value, distinct-descending, words_listed, shaped_shift, canonical_sized, IsDescending-from_recursion, recursion_from_IsDescending, descending-scaled, nonzero-scaled, shaped-negated, Rule, State, Choice, ReduceFault, rule_at, polynomials_of, entries_of, choice_of, Move, moved, move_of, move_result, move_operations, row_operations, state_operations, less_operations, if_sized, step_by, step_result, halt_of, then_next, at_limit, one_step, reduction, start_of, normal_form_of, multiplied-scaled, move_result-value, first_row, second_row, row_multiple, s_polynomial_of, passed, NormalFormsAreShaped, SPolynomialsAreShaped, RestsHaveLettersBelow, Ambiguity, term_limit}
 use Rattle.nc_polynomial.specs.declared.fault.PolyFault.TheVariants as fault
-use Rattle.nc_polynomial.specs.Terms.{IsDescending, scaled, multiplied, multiplications, negated, shifted, products, added, sums}
-use Rattle.nc_polynomial.specs.Faults.{checked, unless_overflow, sized, size_fault, has_long_word, IsMemory}
-use Rattle.nc_polynomial.specs.Shape.{IsShaped, IsCanonical}
-use Rattle.nc_polynomial.specs.Arithmetic.{combined}
-use Rattle.nc_polynomial.specs.Product.{and_then}
-use Rattle.nc_polynomial.proofs.Around.{shaped-between}
-use Rattle.nc_polynomial.proofs.Chains.{or_first, first-append, ranged_multiply, shaped_scale, shaped_add, sized-value, finished-value}
-use Rattle.nc_polynomial.proofs.Distinct.{distinct-descending, words_listed}
-use Rattle.nc_polynomial.proofs.Products.{shaped_shift, canonical_sized}
-use Rattle.nc_polynomial.proofs.Shapes.{IsDescending-from_recursion, recursion_from_IsDescending, descending-scaled, nonzero-scaled, shaped-negated}
-use Rattle.rule_reduce.specs.declared.rule.Rule.{Rule}
-use Rattle.rule_reduce.specs.declared.state.State.{State}
-use Rattle.rule_reduce.specs.declared.state.Choice.{Choice}
-use Rattle.rule_reduce.specs.declared.fault.ReduceFault.{ReduceFault}
-use Rattle.rule_reduce.specs.RuleLists.{rule_at, polynomials_of, entries_of}
-use Rattle.rule_reduce.specs.Choices.{choice_of}
-use Rattle.rule_reduce.specs.Steps.{Move, moved, move_of, move_result, move_operations, row_operations, state_operations, less_operations, if_sized, step_by, step_result}
-use Rattle.rule_reduce.specs.NormalForms.{halt_of, then_next, at_limit, one_step, reduction, start_of, normal_form_of}
-use Rattle.rule_reduce.proofs.Exits.{multiplied-scaled}
-use Rattle.rule_reduce.proofs.Runs.{move_result-value}
-use Rattle.ambiguities.specs.SPolynomials.{first_row, second_row, row_multiple, s_polynomial_of}
-use Rattle.ambiguities.proofs.Multiples.{passed}
 use Rattle.confluence.proofs.Led.{led_or, poly_at}
 use Rattle.confluence.proofs.RestLaws.{rest_over}
 use Rattle.confluence.proofs.WrittenTerms.{shaped_as_written}
-use Rattle.confluence.specs.Shapes.{NormalFormsAreShaped, SPolynomialsAreShaped, RestsHaveLettersBelow}
 use Rattle.rule_reduce.specs.NormalForms as reduce
-use Rattle.ambiguities.specs.declared.ambiguity.Ambiguity.{Ambiguity}
-use Rattle.nc_polynomial.specs.Limits.{term_limit}
 
 -- no overflow
 no_error : {A E : Type 0} (x : A) (e : E) → ◌≡◌ {A = Result A E} (Err e) (Ok x) → ⊥

@@ -1,50 +1,17 @@
 -- The invariant stays when a rule is appended with its record, and when one generator or one ambiguity is treated.
-use Rattle.std.proofs.Common.{◌≡◌, ◌≢◌, ◌⊎◌, inl, inr, ◌≤◌, ◌<◌, ◌+◌, ℕ, zero, suc, ℤ, pos, ◌*ℤ◌, ◌<ℤ◌, neg_ℤ, List, [], ◌∷◌, ◌++◌, length, slice_get, Some, Bool, true, false, refl, sym, ap, ◌∙◌, subst, arith, append-nil, append_assoc}
-use Rattle.std.specs.List.{All}
-use Rattle.std.proofs.lemmas.Int.{ints}
-use Rattle.std.proofs.lemmas.List.{length-append, take_at}
-use Rattle.std.proofs.lemmas.Option.{slice_get_within}
-use Rattle.std.proofs.lemmas.List.Elements.{All-weaker, All-push, All-nil, All-take}
-use Rattle.definitions.specs.Poly.{Word, Term, coefficient_of, poly_multiple, SamePolynomial}
-use Rattle.definitions.specs.Combination.{generator_at}
-use Rattle.definitions.proofs.Coefficients.{coefficient_of-multiple}
-use Rattle.word_core.specs.Occurrence.{OccursNowhere}
-use Rattle.word_orders.specs.Admissible.{Compare, IsAdmissible}
-use Rattle.traced_rows.specs.declared.Origin.{Origin}
+use Rattle.confluence.proofs.Prelude.{◌≡◌, ◌≢◌, ◌⊎◌, inl, inr, ◌≤◌, ◌<◌, ◌+◌, ℕ, zero, suc, ℤ, pos, ◌*ℤ◌, ◌<ℤ◌, neg_ℤ, List, [], ◌∷◌, ◌++◌, length, slice_get, Some, Bool, true, false, refl, sym, ap, ◌∙◌, subst, arith, append-nil, append_assoc, All, ints, length-append, take_at, slice_get_within, All-weaker, All-push, All-nil, All-take, Word, Term, coefficient_of, poly_multiple, SamePolynomial, generator_at, coefficient_of-multiple, OccursNowhere, Compare, IsAdmissible, Origin, Row, Made, traced_sum, Traces, AreTraces, Rule, IsRule, rule_at, polynomials_of, IsIrreducible, IsByRule, rule_at-all, rule_at-polynomial, words_with_coefficients, Ambiguity, IsResolved, s_sum, leading_coefficient, rule_at-last, rule_at-first, IsEarlier, AddsUpTo, signed, signed_rows, IsMadeOf, generator_rows, rows_less, IsAppended, nothing_left, rule_made, AreApart, IsRecorded, AreRecorded, IsReached, HaveLettersBelow, Kept, StartIsKept, GeneratorsAreKept, AmbiguitiesAreKept, ResolvedAtOnceIsKept, Order, order_from_laws, State, IsZero, IsReduced, IsAmbiguity, overlap_word_of, first_row, second_row, s_rows_of, all_two}
 use Rattle.traced_rows.specs.declared.Origin.TheVariants as origin
-use Rattle.traced_rows.specs.declared.Row.{Row}
-use Rattle.traced_rows.specs.declared.Made.{Made}
-use Rattle.traced_rows.specs.Traces.{traced_sum}
-use Rattle.cofactor_trace.specs.Laws.{Traces, AreTraces}
-use Rattle.rule_reduce.specs.declared.rule.Rule.{Rule}
-use Rattle.rule_reduce.specs.RuleLists.{IsRule, rule_at, polynomials_of}
-use Rattle.rule_reduce.specs.Laws.{IsIrreducible, IsByRule}
-use Rattle.rule_reduce.proofs.Numbers.{rule_at-all, rule_at-polynomial}
-use Rattle.rule_reduce.proofs.WordsKept.{words_with_coefficients}
-use Rattle.ambiguities.specs.declared.ambiguity.Ambiguity.{Ambiguity}
-use Rattle.ambiguities.specs.Resolved.{IsResolved, s_sum}
-use Rattle.ambiguities.proofs.Multiples.{leading_coefficient}
-use Rattle.ambiguities.proofs.Numbers.{rule_at-last, rule_at-first}
 use Rattle.confluence.proofs.Integers.{neg_ℤ-*ℤ}
-use Rattle.confluence.specs.Rests.{IsEarlier, AddsUpTo, signed, signed_rows, IsMadeOf, generator_rows, rows_less, IsAppended, nothing_left, rule_made}
-use Rattle.confluence.specs.Kept.{AreApart, IsRecorded, AreRecorded, IsReached, HaveLettersBelow, Kept, StartIsKept, GeneratorsAreKept, AmbiguitiesAreKept, ResolvedAtOnceIsKept}
 use Rattle.confluence.proofs.MoreRules.{reached_more, in_range, reached_from_span, span_more, cancel_nonzero, IsAccounted, rest_bounded, accounted_span, reduced_in}
 use Rattle.confluence.proofs.MoreAmbiguities.{resolved_more, ambiguity_more, overlap_word-more, s_sum-more}
 use Rattle.confluence.proofs.RowSums.{polynomial-more, traced_sum-more, traced-negated, all_negated, less_adds_up, generator_adds_up, traced_sum-by_rules, earlier_by_rule}
-use Rattle.word_orders.specs.Orders.{Order}
-use Rattle.word_orders.proofs.Orders.{order_from_laws}
-use Rattle.rule_reduce.specs.declared.state.State.{State}
-use Rattle.confluence.specs.Reductions.{IsZero, IsReduced}
 use Rattle.confluence.proofs.Meets.{Allowed}
 use Rattle.confluence.proofs.Outside.{AnyRow, at_most_of}
 use Rattle.confluence.proofs.ReducedSpans.{zero_rest_span, reduced_span}
 use Rattle.confluence.proofs.LedRules.{ordered, Bounded, from_rest}
 use Rattle.confluence.proofs.Resolve.{bounded_self, below}
 use Rattle.confluence.proofs.Spans.{Span}
-use Rattle.ambiguities.specs.Ambiguities.{IsAmbiguity, overlap_word_of}
-use Rattle.ambiguities.specs.SPolynomials.{first_row, second_row, s_rows_of}
 use Rattle.confluence.proofs.RestLaws.{s_bounded, resolved_by, zero_rests_are_resolved}
-use Rattle.traced_rows.proofs.Lists.{all_two}
 
 -- the last item of a list
 slice_get-which : {X : Type 0} (xs : List X) (y x : X) (n : ℕ) → slice_get (xs ++ (y ∷ [])) n ≡ Some x → (slice_get xs n ≡ Some x) ⊎ ((n ≡ length xs) × (x ≡ y))

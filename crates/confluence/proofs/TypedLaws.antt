@@ -1,34 +1,6 @@
 -- Typed rules in play make typed rules in play.
-use Rattle.std.proofs.Common.{◌≡◌, ◌≢◌, inl, inr, ◌<◌, ℕ, pos, Bool, List, [], ◌∷◌, ◌++◌, length, take, drop, Some, sym, ◌∙◌, subst, arith}
-use Rattle.std.specs.List.{All, list_all}
-use Rattle.std.proofs.lemmas.Bool.{and_parts, and_from}
-use Rattle.std.proofs.lemmas.Int.{ints}
-use Rattle.std.proofs.lemmas.List.{take-append-drop}
-use Rattle.std.proofs.lemmas.List.Elements.{All-weaker, All-push}
-use Rattle.std.proofs.lemmas.List.Folds.{list_all-append}
-use Rattle.definitions.specs.Poly.{Word, Term, coefficient_of, poly_between}
-use Rattle.definitions.specs.Quiver.{Quiver, IsPath}
-use Rattle.definitions.proofs.Coefficients.{coefficient_of-multiple}
-use Rattle.word_orders.specs.Admissible.{Compare}
-use Rattle.traced_rows.specs.declared.Row.{Row}
-use Rattle.traced_rows.specs.declared.Made.{Made}
-use Rattle.rule_reduce.specs.declared.rule.Rule.{Rule}
-use Rattle.rule_reduce.specs.RuleLists.{IsRule, rule_at}
-use Rattle.rule_reduce.specs.KeptWords.{IsTypedRule, IsInPlay, IsPolyInPlay}
-use Rattle.rule_reduce.proofs.KeptWordLaws.{types_are_kept, letters_are_kept}
-use Rattle.rule_reduce.proofs.Numbers.{rule_at-all}
-use Rattle.ambiguities.specs.declared.ambiguity.Kind.{Kind}
-use Rattle.ambiguities.specs.declared.ambiguity.Kind.TheVariants.{Overlap, Inclusion}
-use Rattle.ambiguities.specs.declared.ambiguity.Ambiguity.{Ambiguity}
-use Rattle.ambiguities.specs.Ambiguities.{IsAmbiguity, joined_word, overlap_word_of}
-use Rattle.ambiguities.specs.SPolynomials.{first_row, second_row}
-use Rattle.ambiguities.proofs.Bounds.{of_either, coefficient_of-s_polynomial}
-use Rattle.ambiguities.proofs.Joined.{overlap_word-is, first_splits, second_splits}
-use Rattle.ambiguities.proofs.Multiples.{leading_coefficient}
-use Rattle.ambiguities.proofs.Signatures.{s_polynomials_are_typed}
+use Rattle.confluence.proofs.Prelude.{◌≡◌, ◌≢◌, inl, inr, ◌<◌, ℕ, pos, Bool, List, [], ◌∷◌, ◌++◌, length, take, drop, Some, sym, ◌∙◌, subst, arith, All, list_all, and_parts, and_from, ints, take-append-drop, All-weaker, All-push, list_all-append, Word, Term, coefficient_of, poly_between, Quiver, IsPath, coefficient_of-multiple, Compare, Row, Made, Rule, IsRule, rule_at, IsTypedRule, IsInPlay, IsPolyInPlay, types_are_kept, letters_are_kept, rule_at-all, Kind, Overlap, Inclusion, Ambiguity, IsAmbiguity, joined_word, overlap_word_of, first_row, second_row, of_either, coefficient_of-s_polynomial, overlap_word-is, first_splits, second_splits, leading_coefficient, s_polynomials_are_typed, signed, IsMadeOf, nothing_left, rule_made, IsTypedInPlay, AreTypedInPlay, NormalFormsStayTyped, SPolynomialsStayTyped, RulesStayTyped, TypedHasNoEmptyWord}
 use Rattle.confluence.proofs.Shifts.{between_word}
-use Rattle.confluence.specs.Rests.{signed, IsMadeOf, nothing_left, rule_made}
-use Rattle.confluence.specs.Typed.{IsTypedInPlay, AreTypedInPlay, NormalFormsStayTyped, SPolynomialsStayTyped, RulesStayTyped, TypedHasNoEmptyWord}
 use Rattle.confluence.proofs.MoreRules.{cancel_nonzero}
 use Rattle.confluence.proofs.Steps.{signed_nonzero}
 

@@ -1,13 +1,6 @@
 -- A polynomial that is written out term by term is canonical, and the limits of its terms are shown one after another.
-use Rattle.std.proofs.Common.{◌≡◌, ◌≤◌, ◌≢◌, List, [], ◌∷◌, length, pos}
-use Rattle.std.specs.List.{AllByRecursion}
-use Rattle.std.proofs.lemmas.List.Elements.{All-from_recursion}
-use Rattle.coef_int.specs.Range.{IsCoefficient}
-use Rattle.definitions.specs.Poly.{Term}
-use Rattle.nc_polynomial.specs.Shape.{IsShaped, IsCanonical}
-use Rattle.word_core.specs.Canonical.{word_cmp}
-use Rattle.std.specs.declared.cmp.Ordering.TheVariants.{Greater}
-use Rattle.nc_polynomial.proofs.Shapes.{Descends, IsBelow, IsDescending-from_recursion}
+use Rattle.confluence.proofs.Prelude.{◌≡◌, ◌≤◌, ◌≢◌, List, [], ◌∷◌, length, pos, AllByRecursion, All-from_recursion, IsCoefficient, Term, IsShaped, IsCanonical, word_cmp, Greater, Descends, IsDescending-from_recursion}
+use Rattle.nc_polynomial.proofs.Shapes.{IsBelow}
 
 -- each word is above all later words, with one comparison after another
 abbrev pub AreWrittenDown : List Term → Type 0

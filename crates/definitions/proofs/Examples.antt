@@ -1,9 +1,5 @@
 -- The definitions at small examples that were worked out by hand.
-use Rattle.std.proofs.Common.{◌≡◌, ℕ, ℤ, pos, negsuc, true, false, List, [], ◌∷◌, Some, None, refl}
-use Rattle.definitions.specs.Poly.{coefficient_of, poly_eq, poly_product}
-use Rattle.definitions.specs.Quiver.{Quiver, is_path, signature_of}
-use Rattle.definitions.specs.Combination.{Row, row_sum}
-use Rattle.definitions.specs.Generators.{adjoint_word, generators_of}
+use Rattle.definitions.proofs.Prelude.{◌≡◌, ℕ, ℤ, pos, negsuc, true, false, List, [], ◌∷◌, Some, None, refl, coefficient_of, poly_eq, poly_product, Quiver, is_path, signature_of, Row, row_sum, adjoint_word, generators_of}
 
 -- the objects U and V, and maps l : V -> U, a : U -> V, r : V -> U with their adjoints: the letters are
 -- [U] = 0, [V] = 1, l = 2, l' = 3, a = 4, a' = 5, r = 6, r' = 7

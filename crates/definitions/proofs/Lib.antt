@@ -1,3 +1,4 @@
+mod Prelude
 pub mod Integers
 pub mod Group
 pub mod Multiples

@@ -1,10 +1,5 @@
 -- The value of l g r, where g has the value zero.
-use Rattle.std.proofs.Common.{◌≡◌, ℕ, ◌<◌, ℤ, true, cond, List, [], ◌∷◌, ◌++◌, sym, refl, ap, subst, ◌∙◌, eqb-true, append-nil}
-use Rattle.std.proofs.lemmas.Bool.{false_from_ne_true}
-use Rattle.definitions.specs.Category.{Structure, IsArrow, PreadditiveLaws}
-use Rattle.definitions.specs.Poly.{poly_between}
-use Rattle.definitions.specs.Quiver.{Quiver, source, leads, is_path, IsTyped}
-use Rattle.definitions.specs.Representation.{Representation, Represents, path_value, word_value, value_at}
+use Rattle.definitions.proofs.Prelude.{◌≡◌, ℕ, ◌<◌, ℤ, true, cond, List, [], ◌∷◌, ◌++◌, sym, refl, ap, subst, ◌∙◌, eqb-true, append-nil, false_from_ne_true, Structure, IsArrow, PreadditiveLaws, poly_between, Quiver, source, leads, is_path, IsTyped, Representation, Represents, path_value, word_value, value_at}
 use Rattle.definitions.proofs.Group.{IsGroup}
 use Rattle.definitions.proofs.Multiples.{additive-none}
 use Rattle.definitions.proofs.Linear.{linear, linear_agree, linear-none, linear-between, additive-linear}

@@ -1,12 +1,5 @@
 -- A certificate proves its claim in each preadditive category.
-use Rattle.std.proofs.Common.{◌≡◌, ℕ, zero, suc, ◌<◌, ℤ, List, [], ◌∷◌, get_or, sym, refl, ap, ap₂, ◌∙◌}
-use Rattle.std.specs.List.{AllByRecursion}
-use Rattle.definitions.specs.Category.{Structure, IsArrow, PreadditiveLaws}
-use Rattle.definitions.specs.Poly.{poly_multiple, poly_between}
-use Rattle.definitions.specs.Quiver.{Quiver}
-use Rattle.definitions.specs.Representation.{Representation, Represents, Cancels, value_at, multiple}
-use Rattle.definitions.specs.Combination.{Row, generator_at, row_poly, row_sum, IsCombination}
-use Rattle.definitions.specs.Soundness.{HasSignature, HasValueZero, IsSound}
+use Rattle.definitions.proofs.Prelude.{◌≡◌, ℕ, zero, suc, ◌<◌, ℤ, List, [], ◌∷◌, get_or, sym, refl, ap, ap₂, ◌∙◌, AllByRecursion, Structure, IsArrow, PreadditiveLaws, poly_multiple, poly_between, Quiver, Representation, Represents, Cancels, value_at, multiple, Row, generator_at, row_poly, row_sum, IsCombination, HasSignature, HasValueZero, IsSound}
 use Rattle.definitions.proofs.Group.{IsGroup}
 use Rattle.definitions.proofs.Multiples.{times, times-none}
 use Rattle.definitions.proofs.Linear.{linear, linear_in, linear-append, linear-scale, linear_same}

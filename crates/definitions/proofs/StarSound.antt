@@ -1,13 +1,5 @@
 -- In each star representation the assumptions make all generators zero.
-use Rattle.std.proofs.Common.{◌≡◌, ℕ, ◌<◌, ◌≤◌, ℤ, negsuc, Bool, true, false, cond, ◌||◌, List, [], ◌∷◌, ◌++◌, ◌⊎◌, inl, inr, sym, refl, ap, ap₂, ◌∙◌, arith, true≢false}
-use Rattle.std.proofs.lemmas.Bool.{cases_lt, false_from_ne_true}
-use Rattle.std.specs.List.{AllByRecursion, flat_map}
-use Rattle.definitions.specs.Category.{Structure, IsArrow, PreadditiveLaws, InvolutionLaws}
-use Rattle.definitions.specs.Poly.{poly_eq, poly_multiple}
-use Rattle.definitions.specs.Quiver.{Quiver, IsQuiver, letters, source, star, leads, is_path}
-use Rattle.definitions.specs.Representation.{Representation, Represents, StarRepresents, path_value, word_value, value_at}
-use Rattle.definitions.specs.Generators.{adjoint_word, adjoint_poly, new_adjoint, units, generators_of}
-use Rattle.definitions.specs.Soundness.{HasValueZero, IsStarSound}
+use Rattle.definitions.proofs.Prelude.{◌≡◌, ℕ, ◌<◌, ◌≤◌, ℤ, negsuc, Bool, true, false, cond, ◌||◌, List, [], ◌∷◌, ◌++◌, ◌⊎◌, inl, inr, sym, refl, ap, ap₂, ◌∙◌, arith, true≢false, cases_lt, false_from_ne_true, AllByRecursion, flat_map, Structure, IsArrow, PreadditiveLaws, InvolutionLaws, poly_eq, poly_multiple, Quiver, IsQuiver, letters, source, star, leads, is_path, Representation, Represents, StarRepresents, path_value, word_value, value_at, adjoint_word, adjoint_poly, new_adjoint, units, generators_of, HasValueZero, IsStarSound}
 use Rattle.definitions.proofs.Multiples.{additive-none}
 use Rattle.definitions.proofs.Linear.{linear, additive-linear}
 use Rattle.definitions.proofs.Paths.{step}

@@ -1,14 +1,6 @@
 -- Chains are put a step at a time.
-use Rattle.std.proofs.Common.{◌≡◌, ◌<◌, ◌+◌, ℕ, List, ◌++◌, Result, Ok, Err, OnOk, arith, sym, ap, ap₂, ◌∙◌, length, take, get_or}
-use Rattle.std.specs.List.{flat_map, zip}
-use Rattle.std.proofs.lemmas.List.{append_assoc, get_or-map}
-use Rattle.std.proofs.lemmas.Slice.Zip.{length-zip, get_or-zip}
+use Rattle.equation_chain.proofs.Prelude.{◌≡◌, ◌<◌, ◌+◌, ℕ, List, ◌++◌, Result, Ok, Err, OnOk, arith, sym, ap, ap₂, ◌∙◌, length, take, get_or, flat_map, zip, append_assoc, get_or-map, length-zip, get_or-zip, Polynomial, CertRow, polynomials, each_put, use_by, line_by}
 use Rattle.definitions.specs.Poly.{Poly}
-use Rattle.nc_polynomial.specs.declared.poly.Poly.{Poly as Polynomial}
-use Rattle.traced_rows.specs.declared.certificate.CertRow.{CertRow}
-use Rattle.adjoint_rules.specs.Problem.{polynomials}
-use Rattle.block_text.proofs.Puts.{each_put}
-use Rattle.equation_chain.specs.Spelled.{use_by, line_by}
 
 -- a polynomial of a list by its terms
 pub poly_at : (ps : List Polynomial) (place : ℕ) (p : Polynomial) → place < length ps → p ≡ get_or ps place p → p.terms ≡ get_or (polynomials ps) place p.terms

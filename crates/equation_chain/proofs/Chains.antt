@@ -1,22 +1,5 @@
 -- The lines of an explained certificate are a chain.
-use Rattle.std.proofs.Common.{◌≡◌, suc, ◌+◌, ◌<◌, ℤ, pos, negsuc, ◌+ℤ◌, ◌*ℤ◌, Bool, true, false, cond, List, [], ◌∷◌, ◌++◌, map, take, length, slice_get, Some, sym, refl, ap, ap₂, subst, ◌∙◌, arith}
-use Rattle.std.specs.List.{range_with_len}
-use Rattle.std.proofs.lemmas.Int.{ints}
-use Rattle.std.proofs.lemmas.List.{append-nil, append_assoc}
-use Rattle.std.proofs.lemmas.List.Elements.{All-nil, filter-append}
-use Rattle.std.proofs.Math.Seq.{take-append_seam, take-append-add}
-use Rattle.definitions.specs.Poly.{Term, coefficient_of}
-use Rattle.definitions.proofs.Coefficients.{coefficient_of-multiple}
-use Rattle.nc_polynomial.proofs.Shapes.{Descends, recursion_from_IsDescending}
-use Rattle.traced_rows.specs.declared.certificate.CertRow.{CertRow}
-use Rattle.traced_rows.specs.declared.certificate.Certificate.{Certificate}
-use Rattle.adjoint_rules.specs.declared.problem.Problem.{Problem}
-use Rattle.adjoint_rules.specs.Problem.{polynomials}
-use Rattle.equation_chain.specs.Steps.{is_step, steps_in, steps_of}
-use Rattle.equation_chain.specs.Lines.{claim_in, line_less, lines_by}
-use Rattle.equation_chain.specs.Chains.{IsLess, LeadsToZero, IsChain}
-use Rattle.equation_chain.specs.Faults.{IsAccepted, steps_before, StepsPass}
-use Rattle.equation_chain.specs.Laws.{LinesAreAChain}
+use Rattle.equation_chain.proofs.Prelude.{◌≡◌, suc, ◌+◌, ◌<◌, ℤ, pos, negsuc, ◌+ℤ◌, ◌*ℤ◌, Bool, true, false, cond, List, [], ◌∷◌, ◌++◌, map, take, length, slice_get, Some, sym, refl, ap, ap₂, subst, ◌∙◌, arith, range_with_len, ints, append-nil, append_assoc, All-nil, filter-append, take-append_seam, take-append-add, Term, coefficient_of, coefficient_of-multiple, Descends, recursion_from_IsDescending, CertRow, Certificate, Problem, polynomials, is_step, steps_in, steps_of, claim_in, line_less, lines_by, IsLess, LeadsToZero, IsChain, IsAccepted, steps_before, StepsPass, LinesAreAChain}
 use Rattle.equation_chain.proofs.Generators.{generator_shaped}
 use Rattle.equation_chain.proofs.Sums.{steps_add_up}
 use Rattle.equation_chain.proofs.Lines.{less_at, line_is, is_less, first_is}

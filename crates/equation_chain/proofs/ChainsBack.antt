@@ -1,36 +1,6 @@
 -- Chains that are written are blocks of chain text.
-use Rattle.std.proofs.Common.{◌≡◌, ◌<◌, ◌+◌, ◌^◌, ℕ, List, [], ◌∷◌, ◌++◌, Some, Ok, arith, refl, sym, ap, ◌∙◌, subst, length, map, codes, IsTrue}
-use Rattle.std.specs.Prelude.{decimal}
-use Rattle.std.specs.Fmt.{signed_decimal}
-use Rattle.std.specs.List.{All, AllZip, list_all, flat_map}
-use Rattle.std.proofs.lemmas.List.{append_assoc}
-use Rattle.std.proofs.lemmas.List.Elements.{All-nil, All-cons, All-head, All-tail}
+use Rattle.equation_chain.proofs.Prelude.{◌≡◌, ◌<◌, ◌+◌, ◌^◌, ℕ, List, [], ◌∷◌, ◌++◌, Some, Ok, arith, refl, sym, ap, ◌∙◌, subst, length, map, codes, IsTrue, decimal, signed_decimal, All, AllZip, list_all, flat_map, append_assoc, All-nil, All-cons, All-head, All-tail, Declaration, IsDeclared, CertRow, is_named, IsLineText, number_within, number_limit, end_line, IsPolynomialLine, tokens_of, letter_text, word_text, poly_text, IsTextOf, no_text, text-append, text_of_tokens, end_is_text, IsInteger, integer_read, decimal_text, decimal_number, decimal_within, IsWritten, is_written_line, poly_is_line, are_read_back, IsWrittenWord, word_written, letters_written, line_text-append, literal, plain_name, IsToken, token_read, tokens_read, name_token, RowTokens, row_values, IsPlainRow, opening_text, row_tree, over_generator, IsSize, size_written, headed_is_text, ChainTerms, StepTokens, ChainTokens, said_line, use_line, step_lines, chain_lines, lines_in, chain_kind, text_of, IsReadableStep, IsReadableLine, IsReadable, ChainsAreReadBack, line_text, use_text, steps_text, lines_text, chain_text}
 use Rattle.definitions.specs.Poly.{Poly}
-use Rattle.quiver.specs.Declarations.{Declaration, IsDeclared}
-use Rattle.traced_rows.specs.declared.certificate.CertRow.{CertRow}
-use Rattle.block_text.specs.Back.{is_named, IsLineText}
-use Rattle.block_text.specs.Letters.{number_within}
-use Rattle.block_text.specs.Lines.{number_limit, end_line}
-use Rattle.block_text.specs.PolynomialBack.{IsPolynomialLine}
-use Rattle.block_text.specs.Tokens.{tokens_of}
-use Rattle.block_text.specs.Written.{letter_text, word_text, poly_text}
-use Rattle.block_text.proofs.ContentBack.{IsTextOf, no_text, text-append, text_of_tokens}
-use Rattle.block_text.proofs.NumberLines.{end_is_text}
-use Rattle.block_text.proofs.NumbersBack.{IsInteger, integer_read, decimal_text, decimal_number, decimal_within}
-use Rattle.block_text.proofs.PartsBack.{IsWritten}
-use Rattle.block_text.proofs.PolynomialsBack.{is_written_line}
-use Rattle.block_text.proofs.PolysBack.{poly_is_line}
-use Rattle.block_text.proofs.TextLaws.{are_read_back}
-use Rattle.block_text.proofs.TextsBack.{IsWrittenWord, word_written, letters_written, line_text-append, literal, plain_name}
-use Rattle.block_text.proofs.TokensBack.{IsToken, token_read, tokens_read, name_token}
-use Rattle.certificate_text.specs.Lines.{RowTokens, row_values}
-use Rattle.certificate_text.specs.Blocks.{IsPlainRow}
-use Rattle.certificate_text.specs.Written.{opening_text}
-use Rattle.certificate_text.proofs.RowsBack.{row_tree, over_generator}
-use Rattle.certificate_text.proofs.SizesBack.{IsSize, size_written, headed_is_text}
-use Rattle.equation_chain.specs.Blocks.{ChainTerms, StepTokens, ChainTokens, said_line, use_line, step_lines, chain_lines, lines_in, chain_kind}
-use Rattle.equation_chain.specs.Back.{text_of, IsReadableStep, IsReadableLine, IsReadable, ChainsAreReadBack}
-use Rattle.equation_chain.specs.Written.{line_text, use_text, steps_text, lines_text, chain_text}
 
 -- the text of a step without its LF
 abbrev step_text : List Declaration → CertRow → List ℕ

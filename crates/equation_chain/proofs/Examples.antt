@@ -1,12 +1,5 @@
 -- Worked texts, over the objects U and V and a map a : U -> V.
-use Rattle.std.proofs.Common.{◌≡◌, ℕ, pos, negsuc, false, List, [], ◌∷◌, ◌++◌, arith, refl, codes}
-use Rattle.std.proofs.lemmas.Fmt.{decimal_digit}
-use Rattle.std.specs.Str.Lines.{lines}
-use Rattle.quiver.specs.Declarations.{Declaration, object, arrow}
-use Rattle.block_text.specs.Lines.{content, end_line}
-use Rattle.block_text.specs.Written.{word_text}
-use Rattle.equation_chain.specs.Blocks.{ChainTerms, chain_lines}
-use Rattle.equation_chain.specs.Back.{text_of}
+use Rattle.equation_chain.proofs.Prelude.{◌≡◌, ℕ, pos, negsuc, false, List, [], ◌∷◌, ◌++◌, arith, refl, codes, decimal_digit, lines, Declaration, object, arrow, content, end_line, word_text, ChainTerms, chain_lines, text_of}
 
 abbrev declared : List Declaration
 declared = object (codes "U") ∷ object (codes "V") ∷ arrow (codes "a") 0 1 false ∷ []

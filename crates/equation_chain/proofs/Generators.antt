@@ -1,16 +1,5 @@
 -- What is known of each generator, by its number.
-use Rattle.std.proofs.Common.{◌≡◌, ◌≢◌, ◌⊎◌, inl, inr, ℕ, zero, suc, pos, List, [], ◌∷◌, get_or, refl}
-use Rattle.std.specs.List.{AllByRecursion}
-use Rattle.std.proofs.lemmas.List.Elements.{All-nil}
-use Rattle.coef_int.specs.Range.{IsCoefficient}
-use Rattle.definitions.specs.Poly.{Term}
-use Rattle.definitions.specs.Quiver.{Quiver}
-use Rattle.definitions.specs.Combination.{generator_at}
-use Rattle.definitions.specs.Soundness.{HasSignature}
-use Rattle.nc_polynomial.specs.declared.poly.Poly.{Poly}
-use Rattle.nc_polynomial.specs.Shape.{IsShaped}
-use Rattle.nc_polynomial.proofs.Shapes.{IsDescending-from_recursion}
-use Rattle.adjoint_rules.specs.Problem.{polynomials}
+use Rattle.equation_chain.proofs.Prelude.{◌≡◌, ◌≢◌, ◌⊎◌, inl, inr, ℕ, zero, suc, pos, List, [], ◌∷◌, get_or, refl, AllByRecursion, All-nil, IsCoefficient, Term, Quiver, generator_at, HasSignature, Poly, IsShaped, IsDescending-from_recursion, polynomials}
 
 -- one with a signature, or zero
 signed_at : (q : Quiver) (gs : List (List Term)) (n : ℕ) → AllByRecursion (HasSignature q) gs → HasSignature q (get_or gs n []) ⊎ (get_or gs n [] ≡ [])

@@ -1,29 +1,7 @@
 -- From the line before a row to the line after it.
-use Rattle.std.proofs.Common.{◌≡◌, ℕ, zero, suc, ◌+◌, ◌<◌, ◌≤◌, ℤ, pos, neg_ℤ, Bool, true, false, cond, List, [], ◌∷◌, ◌++◌, take, length, get_or, slice_get, Some, Result, Ok, MatchResult, sym, refl, ap, ap₂, subst, ◌∙◌, arith}
-use Rattle.std.specs.List.{All}
-use Rattle.std.proofs.lemmas.List.{append-nil, take_more, take_all, length-append}
-use Rattle.std.proofs.lemmas.List.Elements.{filter-append}
-use Rattle.std.proofs.lemmas.Option.{get_or_from_slice_get, slice_get_within}
-use Rattle.std.proofs.lemmas.List.Sums.{sum_by-cons, sum_by-append}
-use Rattle.definitions.specs.Poly.{Term}
-use Rattle.nc_polynomial.specs.declared.poly.Poly.{Poly}
-use Rattle.nc_polynomial.specs.declared.fault.PolyFault.{PolyFault}
+use Rattle.equation_chain.proofs.Prelude.{◌≡◌, ℕ, zero, suc, ◌+◌, ◌<◌, ◌≤◌, ℤ, pos, neg_ℤ, Bool, true, false, cond, List, [], ◌∷◌, ◌++◌, take, length, get_or, slice_get, Some, Result, Ok, MatchResult, sym, refl, ap, ap₂, subst, ◌∙◌, arith, All, append-nil, take_more, take_all, length-append, filter-append, get_or_from_slice_get, slice_get_within, sum_by-cons, sum_by-append, Term, Poly, PolyFault, Explains, combined, moved_result, and_then, CertRow, Certificate, Problem, ChainFault, Line, letter_limit, generator_of, is_step, steps_in, line_less, lines_by, letters_in, letters_of, less_step, IsAccepted, steps_before, line_before, letters_before, result_at, StepPasses, StepsPass, IsFirstFault, IsLineBefore, IsLineBehind, StopsLine, Tells}
 use Rattle.nc_polynomial.specs.declared.fault.PolyFault.TheVariants as poly
-use Rattle.nc_polynomial.specs.Faults.{Explains}
-use Rattle.nc_polynomial.specs.Arithmetic.{combined}
-use Rattle.nc_polynomial.specs.Product.{moved_result, and_then}
-use Rattle.traced_rows.specs.declared.certificate.CertRow.{CertRow}
-use Rattle.traced_rows.specs.declared.certificate.Certificate.{Certificate}
-use Rattle.adjoint_rules.specs.declared.problem.Problem.{Problem}
-use Rattle.equation_chain.specs.declared.fault.ChainFault.{ChainFault}
 use Rattle.equation_chain.specs.declared.fault.ChainFault.TheVariants as fault
-use Rattle.equation_chain.specs.declared.line.Line.{Line}
-use Rattle.equation_chain.specs.Limits.{letter_limit}
-use Rattle.equation_chain.specs.Steps.{generator_of, is_step, steps_in}
-use Rattle.equation_chain.specs.Lines.{line_less, lines_by, letters_in, letters_of}
-use Rattle.equation_chain.specs.Chains.{less_step}
-use Rattle.equation_chain.specs.Faults.{IsAccepted, steps_before, line_before, letters_before, result_at, StepPasses, StepsPass, IsFirstFault}
-use Rattle.equation_chain.specs.Made.{IsLineBefore, IsLineBehind, StopsLine, Tells}
 use Rattle.equation_chain.proofs.Lines.{next_is, letters_more}
 use Rattle.equation_chain.proofs.Outcomes.{one_more}
 

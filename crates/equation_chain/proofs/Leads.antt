@@ -1,11 +1,5 @@
 -- Letters that lead one after the other.
-use Rattle.std.proofs.Common.{◌≡◌, ◌≢◌, ℕ, suc, ◌+◌, ◌<◌, ◌≤◌, Bool, true, false, ◌&&◌, List, [], ◌∷◌, ◌++◌, drop, length, get_or, refl, sym, ap, ◌∙◌, arith, ltb, ltb-true, lt-ltb, eqb, eqb-true, eq-eqb}
-use Rattle.std.specs.Prelude.{Option, Some, None, IfSome, IfNone, nat_eq}
-use Rattle.std.proofs.Math.Seq.{drop-cons}
-use Rattle.std.proofs.lemmas.List.{append-nil}
-use Rattle.std.proofs.lemmas.Bool.{false_from_ne_true}
-use Rattle.word_core.specs.declared.letter.Object.{Object}
-use Rattle.definitions.specs.Quiver.{Quiver, letters, source, target, leads}
+use Rattle.equation_chain.proofs.Prelude.{◌≡◌, ◌≢◌, ℕ, suc, ◌+◌, ◌<◌, ◌≤◌, Bool, true, false, ◌&&◌, List, [], ◌∷◌, ◌++◌, drop, length, get_or, refl, sym, ap, ◌∙◌, arith, ltb, ltb-true, lt-ltb, eqb, eqb-true, eq-eqb, Option, Some, None, IfSome, IfNone, nat_eq, drop-cons, append-nil, false_from_ne_true, Object, Quiver, letters, source, target, leads}
 
 stops : (b : Bool) → (b && false) ≡ false
 stops true = refl

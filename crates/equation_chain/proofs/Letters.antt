@@ -1,34 +1,5 @@
 -- Steps and lines have letters of the quiver alone, and each line has a signature.
-use Rattle.std.proofs.Common.{◌≡◌, ℕ, zero, suc, ◌+◌, ◌<◌, negsuc, true, List, [], ◌∷◌, take, length, get_or, Result, Ok, Err, IfOk, sym, subst, arith}
-use Rattle.std.specs.List.{All, AllByRecursion, range_with_len}
-use Rattle.std.proofs.lemmas.List.{get_or-map, length-map}
-use Rattle.std.proofs.lemmas.List.Elements.{All-nil, All-cons, All-map, All-take, All-filter}
-use Rattle.std.proofs.lemmas.Slice.Zip.{AllZip-long}
-use Rattle.definitions.specs.Poly.{Term, poly_sum, poly_multiple}
-use Rattle.definitions.specs.Combination.{row_sum}
-use Rattle.definitions.specs.Quiver.{Quiver, letters, source, leads, is_path, IsTyped}
-use Rattle.definitions.specs.Soundness.{HasSignature}
-use Rattle.definitions.proofs.Paths.{step}
-use Rattle.word_core.specs.Letters.{IsOver}
-use Rattle.nc_polynomial.proofs.CollectedTerms.{descending-collected, nonzero-collected}
-use Rattle.nc_polynomial.proofs.Distinct.{distinct-descending, words_listed}
-use Rattle.quiver.specs.Declarations.{Declaration, object_count, letter_count, quiver_of}
-use Rattle.quiver.specs.Signatures.{ends_of}
-use Rattle.quiver.proofs.Counts.{letters-quiver_of}
-use Rattle.traced_rows.specs.declared.certificate.CertRow.{CertRow}
-use Rattle.traced_rows.specs.declared.certificate.Certificate.{Certificate}
-use Rattle.traced_rows.specs.Rows.{rows_of}
-use Rattle.adjoint_rules.specs.declared.problem.Problem.{Problem}
-use Rattle.adjoint_rules.specs.Problem.{polynomials}
-use Rattle.certificate_text.specs.Evidence.{IsRowOver}
-use Rattle.cofactor_checker.specs.Rows.{IsNumberUpTo}
-use Rattle.cofactor_checker.proofs.RowSums.{length-polynomials}
-use Rattle.equation_chain.specs.declared.chain.Chain.{Chain}
-use Rattle.equation_chain.specs.declared.fault.ChainFault.{ChainFault}
-use Rattle.equation_chain.specs.Steps.{claim_ends, is_typed, is_step, steps_of}
-use Rattle.equation_chain.specs.Lines.{claim_in, line_less, lines_of}
-use Rattle.equation_chain.specs.Faults.{IsAccepted, line_before, steps_before}
-use Rattle.equation_chain.specs.Made.{IsChainOf, IsWritable}
+use Rattle.equation_chain.proofs.Prelude.{◌≡◌, ℕ, zero, suc, ◌+◌, ◌<◌, negsuc, true, List, [], ◌∷◌, take, length, get_or, Result, Ok, Err, IfOk, sym, subst, arith, All, AllByRecursion, range_with_len, get_or-map, length-map, All-nil, All-cons, All-map, All-take, All-filter, AllZip-long, Term, poly_sum, poly_multiple, row_sum, Quiver, letters, source, leads, is_path, IsTyped, HasSignature, step, IsOver, descending-collected, nonzero-collected, distinct-descending, words_listed, Declaration, object_count, letter_count, quiver_of, ends_of, letters-quiver_of, CertRow, Certificate, rows_of, Problem, polynomials, IsRowOver, IsNumberUpTo, length-polynomials, Chain, ChainFault, claim_ends, is_typed, is_step, steps_of, claim_in, line_less, lines_of, IsAccepted, line_before, steps_before, IsChainOf, IsWritable}
 use Rattle.equation_chain.proofs.Vanishing.{all_in_range, typed_in, line_typed, typed_line}
 
 -- paths

@@ -1,3 +1,4 @@
+mod Prelude
 pub mod Generators
 pub mod Numbered
 pub mod Leads

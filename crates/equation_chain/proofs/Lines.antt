@@ -1,34 +1,5 @@
 -- A line less a step is the next line.
-use Rattle.std.proofs.Common.{◌≡◌, ◌≢◌, ℕ, zero, suc, ◌+◌, ◌≤◌, ℤ, pos, negsuc, ◌+ℤ◌, ◌*ℤ◌, neg_ℤ, List, [], ◌∷◌, ◌++◌, map, take, length, Result, Ok, Err, sym, refl, ap, ap₂, subst, ◌∙◌, arith}
-use Rattle.std.specs.List.{All, range_with_len}
-use Rattle.std.proofs.lemmas.Int.{ints}
-use Rattle.std.proofs.Math.IntN.{*ℤ_comm}
-use Rattle.definitions.proofs.Integers.{*ℤ-neg_ℤ}
-use Rattle.std.proofs.lemmas.List.{length-append, take-append-le}
-use Rattle.std.proofs.lemmas.List.Sums.{sum_by-cons, sum_by-append}
-use Rattle.std.proofs.lemmas.List.FromFn.{map-range_with_len_more, length-map-range_with_len}
-use Rattle.definitions.specs.Poly.{Term, coefficient_of, SamePolynomial, poly_sum, poly_multiple, poly_between}
-use Rattle.definitions.specs.Combination.{row_poly, row_sum}
-use Rattle.definitions.proofs.Coefficients.{coefficient_of-append, coefficient_of-multiple}
-use Rattle.nc_polynomial.specs.declared.fault.PolyFault.{PolyFault}
-use Rattle.nc_polynomial.specs.Terms.{scaled, products, added, sums}
-use Rattle.nc_polynomial.specs.Faults.{sized}
-use Rattle.nc_polynomial.specs.Arithmetic.{combined}
-use Rattle.nc_polynomial.specs.Product.{moved_result, and_then}
-use Rattle.nc_polynomial.proofs.Shapes.{Descends, recursion_from_IsDescending, descending-scaled, descending-added, nonzero-scaled, nonzero-added}
-use Rattle.nc_polynomial.proofs.Unique.{descending_unique}
-use Rattle.nc_polynomial.proofs.CollectedTerms.{coefficient_of-collected, descending-collected, nonzero-collected}
-use Rattle.nc_polynomial.proofs.Values.{SamePolynomial-added, SamePolynomial-scaled}
-use Rattle.nc_polynomial.proofs.Chains.{sized-value, finished-value}
-use Rattle.nc_polynomial.proofs.Around.{shaped-between}
-use Rattle.traced_rows.specs.declared.certificate.CertRow.{CertRow}
-use Rattle.traced_rows.specs.declared.certificate.Certificate.{Certificate}
-use Rattle.traced_rows.specs.Rows.{row_of, rows_of}
-use Rattle.adjoint_rules.specs.declared.problem.Problem.{Problem}
-use Rattle.adjoint_rules.specs.Problem.{polynomials}
-use Rattle.equation_chain.specs.Steps.{generator_of}
-use Rattle.equation_chain.specs.Lines.{claim_in, line_less, lines_by, letters_in, letters_of}
-use Rattle.equation_chain.specs.Chains.{less_step, next_line, IsLess}
+use Rattle.equation_chain.proofs.Prelude.{◌≡◌, ◌≢◌, ℕ, zero, suc, ◌+◌, ◌≤◌, ℤ, pos, negsuc, ◌+ℤ◌, ◌*ℤ◌, neg_ℤ, List, [], ◌∷◌, ◌++◌, map, take, length, Result, Ok, Err, sym, refl, ap, ap₂, subst, ◌∙◌, arith, All, range_with_len, ints, *ℤ_comm, *ℤ-neg_ℤ, length-append, take-append-le, sum_by-cons, sum_by-append, map-range_with_len_more, length-map-range_with_len, Term, coefficient_of, SamePolynomial, poly_sum, poly_multiple, poly_between, row_poly, row_sum, coefficient_of-append, coefficient_of-multiple, PolyFault, scaled, products, added, sums, sized, combined, moved_result, and_then, Descends, recursion_from_IsDescending, descending-scaled, descending-added, nonzero-scaled, nonzero-added, descending_unique, coefficient_of-collected, descending-collected, nonzero-collected, SamePolynomial-added, SamePolynomial-scaled, sized-value, finished-value, shaped-between, CertRow, Certificate, row_of, rows_of, Problem, polynomials, generator_of, claim_in, line_less, lines_by, letters_in, letters_of, less_step, next_line, IsLess}
 use Rattle.equation_chain.proofs.Generators.{generator_shaped}
 
 -- where the generator could be moved, it was

@@ -1,21 +1,5 @@
 -- A chain is made a row at a time.
-use Rattle.std.proofs.Common.{◌≡◌, ℕ, ◌+◌, ◌≤◌, List, [], ◌∷◌, ◌++◌, length, slice_get, Some, Result, Ok, Err, OnOk, IfErr, sym, refl, ap, ap₂, ◌∙◌, arith}
-use Rattle.std.specs.Prelude.{true, false}
-use Rattle.std.proofs.lemmas.List.{take_all}
-use Rattle.definitions.specs.Poly.{Term}
-use Rattle.nc_polynomial.specs.declared.poly.Poly.{Poly}
-use Rattle.traced_rows.specs.declared.certificate.CertRow.{CertRow}
-use Rattle.traced_rows.specs.declared.certificate.Certificate.{Certificate}
-use Rattle.adjoint_rules.specs.declared.problem.Problem.{Problem}
-use Rattle.adjoint_rules.specs.Problem.{polynomials}
-use Rattle.equation_chain.specs.declared.fault.ChainFault.{ChainFault}
-use Rattle.equation_chain.specs.declared.chain.Chain.{Chain}
-use Rattle.equation_chain.specs.declared.chain.Making.{Making}
-use Rattle.equation_chain.specs.declared.line.Line.{Line}
-use Rattle.equation_chain.specs.Steps.{is_step, steps_of}
-use Rattle.equation_chain.specs.Lines.{line_less, lines_by, lines_of, letters_of}
-use Rattle.equation_chain.specs.Faults.{steps_before, StepsPass, IsAccepted, IsExplained, IsFirstFault, IsMemory}
-use Rattle.equation_chain.specs.Made.{IsLineBefore, IsMaking}
+use Rattle.equation_chain.proofs.Prelude.{◌≡◌, ℕ, ◌+◌, ◌≤◌, List, [], ◌∷◌, ◌++◌, length, slice_get, Some, Result, Ok, Err, OnOk, IfErr, sym, refl, ap, ap₂, ◌∙◌, arith, true, false, take_all, Term, Poly, CertRow, Certificate, Problem, polynomials, ChainFault, Chain, Making, Line, is_step, steps_of, line_less, lines_by, lines_of, letters_of, steps_before, StepsPass, IsAccepted, IsExplained, IsFirstFault, IsMemory, IsLineBefore, IsMaking}
 use Rattle.equation_chain.proofs.Lines.{lines_more}
 use Rattle.equation_chain.proofs.Outcomes.{explained_has_no_fault}
 use Rattle.equation_chain.proofs.Going.{none_before, some_before}

@@ -1,21 +1,6 @@
 -- The first line is within the limits, since the claim is.
-use Rattle.std.proofs.Common.{◌≡◌, ℕ, zero, suc, ◌≤◌, ℤ, pos, negsuc, ◌*ℤ◌, true, false, List, [], ◌∷◌, length, None, Ok, Err, sym, ap, subst, ◌∙◌, arith, ltb, ltb-true}
-use Rattle.std.specs.Prelude.{if◌then◌else◌, nat_lt}
-use Rattle.std.proofs.lemmas.Bool.{false_from_ne_true}
-use Rattle.coef_int.specs.Operations.{first_overflow}
-use Rattle.definitions.specs.Poly.{Term}
-use Rattle.nc_polynomial.specs.declared.fault.PolyFault.{PolyFault}
+use Rattle.equation_chain.proofs.Prelude.{◌≡◌, ℕ, zero, suc, ◌≤◌, ℤ, pos, negsuc, ◌*ℤ◌, true, false, List, [], ◌∷◌, length, None, Ok, Err, sym, ap, subst, ◌∙◌, arith, ltb, ltb-true, if◌then◌else◌, nat_lt, false_from_ne_true, first_overflow, Term, PolyFault, IsCanonical, keep, scaled, products, size_fault, sized, unless_overflow, Explains, multiple_result, no_error, finished-value, not_long, all-scaled, ChainFault, IsMemory, Tells}
 use Rattle.nc_polynomial.specs.declared.fault.PolyFault.TheVariants as poly
-use Rattle.nc_polynomial.specs.Shape.{IsCanonical}
-use Rattle.nc_polynomial.specs.Terms.{keep, scaled, products}
-use Rattle.nc_polynomial.specs.Faults.{size_fault, sized, unless_overflow, Explains}
-use Rattle.nc_polynomial.specs.Arithmetic.{multiple_result}
-use Rattle.nc_polynomial.proofs.Chains.{no_error, finished-value}
-use Rattle.nc_polynomial.proofs.RunningSums.{not_long}
-use Rattle.nc_polynomial.proofs.Shapes.{all-scaled}
-use Rattle.equation_chain.specs.declared.fault.ChainFault.{ChainFault}
-use Rattle.equation_chain.specs.Faults.{IsMemory}
-use Rattle.equation_chain.specs.Made.{Tells}
 
 length-keep : (z : ℤ) (w : List ℕ) (p : List Term) → length (keep z w p) ≤ suc (length p)
 length-keep (pos zero) w p = omega arith

@@ -1,14 +1,5 @@
 -- The item with a number, counted from 1.
-use Rattle.std.proofs.Common.{◌≡◌, ◌⊎◌, inl, inr, ℕ, zero, suc, ◌-◌, ◌≤◌, ◌<◌, List, [], ◌∷◌, Some, map, length, get_or, slice_get, refl, sym, ap, ◌∙◌, arith}
-use Rattle.std.proofs.lemmas.Bool.{cases_lt}
-use Rattle.definitions.specs.Combination.{generator_at}
-use Rattle.nc_polynomial.specs.declared.poly.Poly.{Poly}
-use Rattle.quiver.specs.declared.named.Sig.{Sig}
-use Rattle.quiver.specs.Signatures.{ends_of}
-use Rattle.adjoint_rules.specs.declared.problem.Problem.{Problem}
-use Rattle.adjoint_rules.specs.Problem.{polynomials}
-use Rattle.cofactor_checker.specs.Rows.{IsNumberUpTo}
-use Rattle.equation_chain.specs.Steps.{claim_ends}
+use Rattle.equation_chain.proofs.Prelude.{◌≡◌, ◌⊎◌, inl, inr, ℕ, zero, suc, ◌-◌, ◌≤◌, ◌<◌, List, [], ◌∷◌, Some, map, length, get_or, slice_get, refl, sym, ap, ◌∙◌, arith, cases_lt, generator_at, Poly, Sig, ends_of, Problem, polynomials, IsNumberUpTo, claim_ends}
 
 less_one : (n : ℕ) → suc n - 1 ≡ n
 less_one n = omega arith

@@ -1,23 +1,8 @@
 -- A text has at most one list of chains, and so chains that are written differ if their values do.
-use Rattle.std.proofs.Common.{◌≡◌, true, false, List, [], ◌∷◌, ◌++◌, Some, Ok, refl, sym, ap, ap₂, ◌∙◌, subst, map}
-use Rattle.std.specs.List.{All, AllByRecursion, AllZip, flat_map}
-use Rattle.std.proofs.lemmas.List.{append_assoc}
-use Rattle.std.proofs.lemmas.List.Elements.{All-head, All-tail}
+use Rattle.equation_chain.proofs.Prelude.{◌≡◌, true, false, List, [], ◌∷◌, ◌++◌, Some, Ok, refl, sym, ap, ap₂, ◌∙◌, subst, map, All, AllByRecursion, AllZip, flat_map, append_assoc, All-head, All-tail, Declaration, CertRow, Block, own, other_block, own_in, block_lines, IsBlock, number_within, is_end, end_line, number_limit, integer_of, IsPolynomialLine, text_of_block, polynomial_there, AllZip-unique, RowTokens, row_values, row_line, IsPlainRow, row_line_read, ChainTerms, StepTokens, ChainTokens, said_line, use_line, step_lines, chain_lines, IsChainBlock, lines_in, SaysChain, HasChains, ChainsAreUnique, TextsTellChains}
 use Rattle.definitions.specs.Poly.{Poly}
-use Rattle.quiver.specs.Declarations.{Declaration}
-use Rattle.traced_rows.specs.declared.certificate.CertRow.{CertRow}
-use Rattle.block_text.specs.Blocks.{Block, own, other as other_block, own_in, block_lines, IsBlock}
-use Rattle.block_text.specs.Letters.{number_within}
-use Rattle.block_text.specs.Lines.{Line, is_end, end_line, number_limit, integer_of}
-use Rattle.block_text.specs.PolynomialBack.{IsPolynomialLine}
-use Rattle.block_text.proofs.PartsBack.{text_of_block}
-use Rattle.block_text.proofs.PolynomialLaws.{polynomial_there}
-use Rattle.lists.proofs.Zips.{AllZip-unique}
-use Rattle.certificate_text.specs.Lines.{RowTokens, row_of, row_values}
-use Rattle.certificate_text.specs.Blocks.{row_line, IsPlainRow}
-use Rattle.certificate_text.proofs.RowLines.{row_line_read}
-use Rattle.equation_chain.specs.Blocks.{ChainTerms, StepTokens, ChainTokens, said_line, use_line, step_lines, chain_lines, IsChainBlock, lines_in, SaysChain, HasChains}
-use Rattle.equation_chain.specs.Back.{ChainsAreUnique, TextsTellChains}
+use Rattle.block_text.specs.Lines.{Line}
+use Rattle.certificate_text.specs.Lines.{row_of}
 use Rattle.equation_chain.proofs.ChainsBack.{chain_written}
 
 -- Lines up to the first `end` are determined by the text, and so are those after it.

@@ -1,32 +1,7 @@
 -- Each certificate has a chain, or one thing is the first that is wrong.
-use Rattle.std.proofs.Common.{◌≡◌, ◌⊎◌, inl, inr, ℕ, zero, suc, ◌+◌, ◌<◌, ◌≤◌, pos, neg_ℤ, ◌++◌, Bool, true, false, List, length, Option, Some, None, Result, Ok, Err, slice_get, sym, refl, ap, subst, ◌∙◌, arith}
-use Rattle.std.proofs.lemmas.Bool.{cases_lt, cases_order}
-use Rattle.std.proofs.lemmas.Option.{slice_get_within}
-use Rattle.coef_int.specs.declared.Overflow.{Overflow}
-use Rattle.coef_int.specs.Operations.{first_overflow}
-use Rattle.definitions.specs.Poly.{Term, poly_between}
-use Rattle.nc_polynomial.specs.Terms.{scaled, products, added, sums}
-use Rattle.nc_polynomial.specs.Arithmetic.{combined}
-use Rattle.nc_polynomial.specs.declared.fault.PolyFault.{PolyFault}
+use Rattle.equation_chain.proofs.Prelude.{◌≡◌, ◌⊎◌, inl, inr, ℕ, zero, suc, ◌+◌, ◌<◌, ◌≤◌, pos, neg_ℤ, ◌++◌, Bool, true, false, List, length, Option, Some, None, Result, Ok, Err, slice_get, sym, refl, ap, subst, ◌∙◌, arith, cases_lt, cases_order, slice_get_within, Overflow, first_overflow, Term, poly_between, scaled, products, added, sums, combined, PolyFault, sized, has_long_word, unless_overflow, finished, IsMemoryFault, term_limit, moved_result, and_then, nat_lt, if◌then◌else◌, CertRow, Certificate, Problem, polynomials, Refusal, Refuses, IsMemoryRefusal, each_certificate_is_judged, refusal_is_unique, accepted_is_not_refused, ChainFault, letter_limit, generator_of, is_step, less_step, IsAccepted, line_before, letters_before, result_at, StepPasses, StepsPass, IsExplained, Reaches, IsFirstFault, IsMemory, EachCertificateIsExplained, FirstFaultIsUnique, ExplainedHasNoFault}
 use Rattle.nc_polynomial.specs.declared.fault.PolyFault.TheVariants as poly
-use Rattle.nc_polynomial.specs.Faults.{sized, has_long_word, unless_overflow, finished, IsMemory as IsMemoryFault}
-use Rattle.nc_polynomial.specs.Limits.{term_limit}
-use Rattle.nc_polynomial.specs.Product.{moved_result, and_then}
-use Rattle.std.specs.Prelude.{nat_lt, if◌then◌else◌}
-use Rattle.traced_rows.specs.declared.certificate.CertRow.{CertRow}
-use Rattle.traced_rows.specs.declared.certificate.Certificate.{Certificate}
-use Rattle.adjoint_rules.specs.declared.problem.Problem.{Problem}
-use Rattle.adjoint_rules.specs.Problem.{polynomials}
-use Rattle.cofactor_checker.specs.declared.refusal.Refusal.{Refusal}
-use Rattle.cofactor_checker.specs.Acceptance.{Refuses, IsMemory as IsMemoryRefusal}
-use Rattle.cofactor_checker.proofs.Judged.{each_certificate_is_judged, refusal_is_unique, accepted_is_not_refused}
-use Rattle.equation_chain.specs.declared.fault.ChainFault.{ChainFault}
 use Rattle.equation_chain.specs.declared.fault.ChainFault.TheVariants as fault
-use Rattle.equation_chain.specs.Limits.{letter_limit}
-use Rattle.equation_chain.specs.Steps.{generator_of, is_step}
-use Rattle.equation_chain.specs.Chains.{less_step}
-use Rattle.equation_chain.specs.Faults.{IsAccepted, line_before, letters_before, result_at, StepPasses, StepsPass, IsExplained, Reaches, IsFirstFault, IsMemory}
-use Rattle.equation_chain.specs.Laws.{EachCertificateIsExplained, FirstFaultIsUnique, ExplainedHasNoFault}
 
 -- no exact result is want of memory
 abbrev IsNoMemory : Result (List Term) PolyFault → Type 0

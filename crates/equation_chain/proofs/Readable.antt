@@ -1,37 +1,5 @@
 -- The chain of an explained certificate is one whose text is read back.
-use Rattle.std.proofs.Common.{◌≡◌, ◌≢◌, ◌<◌, ◌≤◌, ◌+◌, ℕ, zero, suc, ℤ, pos, negsuc, ◌≤ℤ◌, neg_ℤ, true, List, [], ◌∷◌, ◌++◌, Option, Some, None, Ok, arith, refl, sym, subst, ◌∙◌, length, take, get_or}
-use Rattle.std.specs.List.{All, range_with_len}
-use Rattle.std.proofs.lemmas.Int.{ints}
-use Rattle.std.proofs.lemmas.List.Elements.{All-nil, All-cons, All-map, All-filter}
-use Rattle.coef_int.specs.declared.Overflow.{Overflow}
-use Rattle.coef_int.specs.Operations.{first_overflow}
-use Rattle.coef_int.specs.Range.{IsCoefficient}
-use Rattle.definitions.specs.Poly.{Term, poly_between}
-use Rattle.definitions.specs.Quiver.{Quiver, is_path, IsTyped}
-use Rattle.definitions.specs.Combination.{generator_at}
-use Rattle.word_core.specs.Letters.{IsOver}
-use Rattle.nc_polynomial.specs.declared.poly.Poly.{Poly}
-use Rattle.nc_polynomial.specs.Faults.{unless_overflow, sized, finished}
-use Rattle.nc_polynomial.specs.Shape.{IsShaped, IsCanonical}
-use Rattle.nc_polynomial.specs.Terms.{scaled, products, added, sums}
-use Rattle.nc_polynomial.proofs.Around.{shaped-between}
-use Rattle.nc_polynomial.proofs.Chains.{or_first, first-append, sized-value}
-use Rattle.nc_polynomial.proofs.Distinct.{distinct-descending, words_listed}
-use Rattle.nc_polynomial.proofs.Products.{canonical_sized}
-use Rattle.nc_polynomial.proofs.Shapes.{IsDescending-from_recursion, recursion_from_IsDescending, descending-scaled, descending-added, nonzero-added, in_range-added, shaped-scaled, all-scaled}
-use Rattle.quiver.specs.Declarations.{Declaration, letter_count, quiver_of}
-use Rattle.traced_rows.specs.declared.certificate.CertRow.{CertRow}
-use Rattle.traced_rows.specs.declared.certificate.Certificate.{Certificate}
-use Rattle.adjoint_rules.specs.declared.problem.Problem.{Problem}
-use Rattle.adjoint_rules.specs.Problem.{polynomials}
-use Rattle.cofactor_checker.proofs.RowSums.{length-polynomials}
-use Rattle.certificate_text.specs.Back.{IsWritableInteger}
-use Rattle.certificate_text.specs.Evidence.{IsCheckable, IsRowOver}
-use Rattle.equation_chain.specs.Back.{IsReadableStep, IsReadableLine, ExplainedIsReadable}
-use Rattle.equation_chain.specs.Chains.{less_step, LeadsToZero, IsChain}
-use Rattle.equation_chain.specs.Faults.{IsExplained}
-use Rattle.equation_chain.specs.Lines.{claim_in, line_less, lines_of}
-use Rattle.equation_chain.specs.Steps.{claim_ends, generator_of, is_step, steps_of, IsTypedStep}
+use Rattle.equation_chain.proofs.Prelude.{◌≡◌, ◌≢◌, ◌<◌, ◌≤◌, ◌+◌, ℕ, zero, suc, ℤ, pos, negsuc, ◌≤ℤ◌, neg_ℤ, true, List, [], ◌∷◌, ◌++◌, Option, Some, None, Ok, arith, refl, sym, subst, ◌∙◌, length, take, get_or, All, range_with_len, ints, All-nil, All-cons, All-map, All-filter, Overflow, first_overflow, IsCoefficient, Term, poly_between, Quiver, is_path, IsTyped, generator_at, IsOver, Poly, unless_overflow, sized, finished, IsShaped, IsCanonical, scaled, products, added, sums, shaped-between, or_first, first-append, sized-value, distinct-descending, words_listed, canonical_sized, IsDescending-from_recursion, recursion_from_IsDescending, descending-scaled, descending-added, nonzero-added, in_range-added, shaped-scaled, all-scaled, Declaration, letter_count, quiver_of, CertRow, Certificate, Problem, polynomials, length-polynomials, IsWritableInteger, IsCheckable, IsRowOver, IsReadableStep, IsReadableLine, ExplainedIsReadable, less_step, LeadsToZero, IsChain, IsExplained, claim_in, line_less, lines_of, claim_ends, generator_of, is_step, steps_of, IsTypedStep}
 use Rattle.equation_chain.proofs.Chains.{lines_are_a_chain}
 use Rattle.equation_chain.proofs.Generators.{generator_shaped}
 use Rattle.equation_chain.proofs.Letters.{lines_over}

@@ -1,21 +1,6 @@
 -- Chains are written a step and a line at a time.
-use Rattle.std.proofs.Common.{◌≡◌, ◌<◌, ◌+◌, ℕ, List, [], ◌∷◌, ◌++◌, arith, refl, sym, ap, ap₂, subst, ◌∙◌, length, map, get_or, codes}
-use Rattle.std.proofs.lemmas.List.{append_assoc, append-nil}
-use Rattle.std.proofs.lemmas.List.Elements.{All-head, All-tail}
-use Rattle.std.proofs.lemmas.List.FromFn.{get_or-map-range_with_len, length-map-range_with_len, map-range_with_len_more}
-use Rattle.std.specs.Fmt.{signed_decimal}
-use Rattle.std.specs.Prelude.{decimal}
-use Rattle.std.specs.List.{All, flat_map, zip, range_with_len}
-use Rattle.std.proofs.lemmas.Grind.{flat_map-append}
-use Rattle.definitions.specs.Poly.{Term, Poly}
-use Rattle.word_core.specs.Letters.{IsOver}
-use Rattle.quiver.specs.Declarations.{Declaration, letter_count}
-use Rattle.traced_rows.specs.declared.certificate.CertRow.{CertRow}
-use Rattle.certificate_text.specs.Evidence.{IsRowOver}
-use Rattle.block_text.specs.Written.{letter_text}
-use Rattle.block_text.proofs.Joins.{words_agree, polys_agree}
-use Rattle.equation_chain.specs.Written.{line_text, use_text, steps_text, lines_text}
-use Rattle.equation_chain.specs.Spelled.{AreTexts, text_in, line_by, use_by, steps_by, lines_spelled, IsStepSpelled, IsLineSpelled}
+use Rattle.equation_chain.proofs.Prelude.{◌≡◌, ◌<◌, ◌+◌, ℕ, List, [], ◌∷◌, ◌++◌, arith, refl, sym, ap, ap₂, subst, ◌∙◌, length, map, get_or, codes, append_assoc, append-nil, All-head, All-tail, get_or-map-range_with_len, length-map-range_with_len, map-range_with_len_more, signed_decimal, decimal, All, flat_map, zip, range_with_len, flat_map-append, Term, IsOver, Declaration, letter_count, CertRow, IsRowOver, letter_text, words_agree, polys_agree, line_text, use_text, steps_text, lines_text, AreTexts, text_in, line_by, use_by, steps_by, lines_spelled, IsStepSpelled, IsLineSpelled}
+use Rattle.definitions.specs.Poly.{Poly}
 
 -- the table is that of the quiver
 pub table_more : (ds : List Declaration) (n : ℕ) (texts more : List (List ℕ)) (text : List ℕ) → texts ≡ map (letter_text ds) (range_with_len 0 n) → text ≡ letter_text ds n → more ≡ texts ++ text ∷ []

@@ -1,27 +1,5 @@
 -- The steps alone add up to what all rows add up to.
-use Rattle.std.proofs.Common.{◌≡◌, ℕ, zero, suc, pos, ◌+ℤ◌, ◌*ℤ◌, Bool, true, false, cond, ◌&&◌, List, [], ◌∷◌, filter, map, get_or, sym, refl, ap, ◌∙◌}
-use Rattle.std.specs.Prelude.{not}
-use Rattle.std.specs.List.{AllZip}
-use Rattle.std.specs.Ordering.{int_eq}
-use Rattle.std.proofs.lemmas.Bool.Decides.{Decides-int_eq}
-use Rattle.std.proofs.Math.IntN.{+ℤ_idl, zero-*ℤ}
-use Rattle.definitions.specs.Poly.{Term, coefficient_of, poly_multiple, poly_between}
-use Rattle.definitions.specs.Quiver.{IsTyped}
-use Rattle.definitions.specs.Combination.{Row, generator_at, row_poly, row_sum, is_typed_row}
-use Rattle.definitions.proofs.Coefficients.{coefficient_of-append, coefficient_of-multiple}
-use Rattle.definitions.proofs.Projection.{typed_rows_suffice}
-use Rattle.nc_polynomial.specs.declared.poly.Poly.{Poly}
-use Rattle.quiver.specs.declared.named.Sig.{Sig}
-use Rattle.quiver.specs.Declarations.{Declaration, quiver_of}
-use Rattle.quiver.specs.Signatures.{ends_of}
-use Rattle.traced_rows.specs.Rows.{row_of, rows_of}
-use Rattle.adjoint_rules.specs.declared.problem.Problem.{Problem}
-use Rattle.adjoint_rules.specs.Problem.{polynomials, IsTypedOf}
-use Rattle.adjoint_rules.proofs.Generators.{generators_have_signatures}
-use Rattle.cofactor_checker.proofs.Outcomes.{combination_from_accepts}
-use Rattle.equation_chain.specs.Steps.{claim_ends, is_empty, counts, is_step, steps_of}
-use Rattle.equation_chain.specs.Lines.{claim_in}
-use Rattle.equation_chain.specs.Laws.{StepsAddUp}
+use Rattle.equation_chain.proofs.Prelude.{◌≡◌, ℕ, zero, suc, pos, ◌+ℤ◌, ◌*ℤ◌, Bool, true, false, cond, ◌&&◌, List, [], ◌∷◌, filter, map, get_or, sym, refl, ap, ◌∙◌, not, AllZip, int_eq, Decides-int_eq, +ℤ_idl, zero-*ℤ, Term, coefficient_of, poly_multiple, poly_between, IsTyped, Row, generator_at, row_poly, row_sum, is_typed_row, coefficient_of-append, coefficient_of-multiple, typed_rows_suffice, Poly, Sig, Declaration, quiver_of, ends_of, row_of, rows_of, Problem, polynomials, IsTypedOf, generators_have_signatures, combination_from_accepts, claim_ends, is_empty, counts, is_step, steps_of, claim_in, StepsAddUp}
 
 -- a row that is zero adds nothing
 empty_adds_nothing : (r : Row) (g : List Term) (x : List ℕ) → is_empty g ≡ true → coefficient_of (poly_multiple r.coefficient (poly_between r.left g r.right)) x ≡ pos 0

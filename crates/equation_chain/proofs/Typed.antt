@@ -1,30 +1,5 @@
 -- One word decides whether a row is typed: either all its words are paths of a signature, or none is.
-use Rattle.std.proofs.Common.{◌≡◌, ◌≢◌, ◌⊎◌, inl, inr, ℕ, pos, Bool, true, false, ◌&&◌, ◌||◌, List, [], ◌∷◌, ◌++◌, filter, length, slice_get, Some, refl, sym, ap, subst, ◌∙◌, arith}
-use Rattle.std.specs.Prelude.{not}
-use Rattle.std.specs.List.{All, list_all}
-use Rattle.std.specs.Ordering.{int_eq}
-use Rattle.std.proofs.lemmas.Bool.{and_parts, and_from, or_cases, or_left, or_right}
-use Rattle.std.proofs.lemmas.Bool.Decides.{Decides-int_eq}
-use Rattle.std.proofs.lemmas.List.Elements.{All-head, All-weaker, filter_passes, recursion_from_All}
-use Rattle.std.proofs.Math.IntN.{ℤ_discrete}
-use Rattle.definitions.specs.Poly.{Term, coefficient_of}
-use Rattle.definitions.specs.Quiver.{Quiver, leads, is_path, IsPath}
-use Rattle.definitions.specs.Combination.{Row, generator_at, is_typed_row}
-use Rattle.definitions.specs.Soundness.{HasSignature}
-use Rattle.definitions.proofs.Coefficients.{at_word}
-use Rattle.definitions.proofs.Paths.{Fits, fits_from_path, path_from_fits}
-use Rattle.nc_polynomial.specs.Shape.{IsShaped}
-use Rattle.nc_polynomial.proofs.Shapes.{IsNonzero, recursion_from_IsDescending}
-use Rattle.nc_polynomial.proofs.Distinct.{AreDistinct, distinct-descending, first_coefficient, words_listed}
-use Rattle.quiver.specs.Declarations.{quiver_of}
-use Rattle.traced_rows.specs.declared.certificate.CertRow.{CertRow}
-use Rattle.traced_rows.specs.declared.certificate.Certificate.{Certificate}
-use Rattle.traced_rows.specs.Rows.{row_of}
-use Rattle.adjoint_rules.specs.declared.problem.Problem.{Problem}
-use Rattle.adjoint_rules.specs.Problem.{polynomials}
-use Rattle.adjoint_rules.proofs.Generators.{generators_have_signatures}
-use Rattle.equation_chain.specs.Steps.{claim_ends, generator_of, is_empty, counts, is_typed, is_step, steps_of, IsTypedStep}
-use Rattle.equation_chain.specs.Laws.{StepsAreTyped}
+use Rattle.equation_chain.proofs.Prelude.{◌≡◌, ◌≢◌, ◌⊎◌, inl, inr, ℕ, pos, Bool, true, false, ◌&&◌, ◌||◌, List, [], ◌∷◌, ◌++◌, filter, length, slice_get, Some, refl, sym, ap, subst, ◌∙◌, arith, not, All, list_all, int_eq, and_parts, and_from, or_cases, or_left, or_right, Decides-int_eq, All-head, All-weaker, filter_passes, recursion_from_All, ℤ_discrete, Term, coefficient_of, Quiver, leads, is_path, IsPath, Row, generator_at, is_typed_row, HasSignature, at_word, Fits, fits_from_path, path_from_fits, IsShaped, IsNonzero, recursion_from_IsDescending, AreDistinct, distinct-descending, first_coefficient, words_listed, quiver_of, CertRow, Certificate, row_of, Problem, polynomials, generators_have_signatures, claim_ends, generator_of, is_empty, counts, is_typed, is_step, steps_of, IsTypedStep, StepsAreTyped}
 use Rattle.equation_chain.proofs.Generators.{signed_or_zero, generator_shaped}
 
 pub same_test : (a b : Bool) → (a ≡ true → b ≡ true) → (b ≡ true → a ≡ true) → a ≡ b

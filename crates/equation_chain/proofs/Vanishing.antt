@@ -1,35 +1,8 @@
 -- Each line has the claim's signature, and is zero wherever the generators are.
-use Rattle.std.proofs.Common.{◌≡◌, ◌≢◌, ℕ, zero, suc, ◌+◌, ℤ, pos, negsuc, ◌+ℤ◌, ◌*ℤ◌, Bool, true, false, List, [], ◌∷◌, ◌++◌, map, take, drop, length, sym, refl, ap, ap₂, ◌∙◌, arith, true≢false}
-use Rattle.std.specs.List.{All, AllByRecursion, range_with_len}
-use Rattle.std.proofs.lemmas.Bool.{false_from_ne_true}
-use Rattle.std.proofs.lemmas.Int.{ints}
-use Rattle.std.proofs.lemmas.List.{take-append-drop}
-use Rattle.std.proofs.lemmas.List.Elements.{All-head, All-tail, All-take}
-use Rattle.std.proofs.Math.IntN.{*ℤ-zero, ℤ_discrete}
-use Rattle.definitions.specs.Category.{Structure, PreadditiveLaws}
-use Rattle.definitions.specs.Poly.{Term, word_eq, coefficient_of, poly_between}
-use Rattle.definitions.specs.Quiver.{Quiver, is_path, IsTyped}
-use Rattle.definitions.specs.Combination.{row_poly, row_sum, IsCombination}
-use Rattle.definitions.specs.Soundness.{MakesZero}
-use Rattle.definitions.proofs.Coefficients.{coefficient_of-append, coefficient_of-multiple}
-use Rattle.definitions.proofs.Linear.{word_eq-true}
-use Rattle.definitions.proofs.Projection.{coefficient_of-between_zero}
-use Rattle.definitions.proofs.Sound.{sound}
-use Rattle.quiver.specs.Declarations.{quiver_of}
-use Rattle.traced_rows.specs.declared.certificate.CertRow.{CertRow}
-use Rattle.traced_rows.specs.declared.certificate.Certificate.{Certificate}
-use Rattle.traced_rows.specs.Rows.{row_of, rows_of}
-use Rattle.adjoint_rules.specs.declared.problem.Problem.{Problem}
-use Rattle.adjoint_rules.specs.Problem.{polynomials}
-use Rattle.adjoint_rules.proofs.Generators.{posed_quiver, generators_have_signatures}
-use Rattle.equation_chain.specs.Steps.{claim_ends, generator_of, is_typed, is_step, counts, steps_in, steps_of}
-use Rattle.equation_chain.specs.Lines.{claim_in, line_less}
-use Rattle.equation_chain.specs.Faults.{IsAccepted}
-use Rattle.equation_chain.specs.Laws.{LinesAreTyped, LinesVanish}
+use Rattle.equation_chain.proofs.Prelude.{◌≡◌, ◌≢◌, ℕ, zero, suc, ◌+◌, ℤ, pos, negsuc, ◌+ℤ◌, ◌*ℤ◌, Bool, true, false, List, [], ◌∷◌, ◌++◌, map, take, drop, length, sym, refl, ap, ap₂, ◌∙◌, arith, true≢false, All, AllByRecursion, range_with_len, false_from_ne_true, ints, take-append-drop, All-head, All-tail, All-take, *ℤ-zero, ℤ_discrete, Structure, PreadditiveLaws, Term, word_eq, coefficient_of, poly_between, Quiver, is_path, IsTyped, row_poly, row_sum, IsCombination, MakesZero, coefficient_of-append, coefficient_of-multiple, word_eq-true, coefficient_of-between_zero, sound, quiver_of, CertRow, Certificate, row_of, rows_of, Problem, polynomials, posed_quiver, generators_have_signatures, claim_ends, generator_of, is_typed, is_step, counts, steps_in, steps_of, claim_in, line_less, IsAccepted, LinesAreTyped, LinesVanish, and_parts}
 use Rattle.equation_chain.proofs.Typed.{words_are_paths, all_kept}
 use Rattle.equation_chain.proofs.Sums.{claim_typed, steps_add_up}
 use Rattle.equation_chain.proofs.Lines.{less_at}
-use Rattle.std.proofs.lemmas.Bool.{and_parts}
 
 -- what holds at each place of a range
 pub all_in_range : {X : Type 0} (P : X → Type 0) (f : ℕ → X) → ((k : ℕ) → P (f k)) → (a n : ℕ) → AllByRecursion P (map f (range_with_len a n))

@@ -1,41 +1,12 @@
 -- Bases are judged, and what a closed one means, by its rules.
-use Rattle.std.proofs.Common.{◌≡◌, ℕ, List, ◌++◌, Bool, true, false, Some, Result, Ok, Err, MatchResult, IfOk, get_or, codes, refl, sym, ap, subst, arith, IsTrue}
-use Rattle.std.specs.Option.{IfSome}
-use Rattle.std.specs.List.{All, list_all}
-use Rattle.definitions.specs.Poly.{Term}
-use Rattle.definitions.specs.Combination.{InRationalIdeal}
-use Rattle.rule_reduce.specs.RuleLists.{polynomials_of}
-use Rattle.block_text.specs.declared.fault.CertFault.{CertFault}
-use Rattle.block_text.specs.Fault.{ExplainsBy}
-use Rattle.block_text.specs.Back.{is_named}
-use Rattle.nc_polynomial.specs.declared.poly.Poly.{Poly}
+use Rattle.evidence_commands.proofs.Prelude.{◌≡◌, ℕ, List, ◌++◌, Bool, true, false, Some, Result, Ok, Err, MatchResult, IfOk, get_or, codes, refl, sym, ap, subst, arith, IsTrue, IfSome, All, list_all, Term, InRationalIdeal, polynomials_of, CertFault, ExplainsBy, is_named, Poly, Overlap, Inclusion, Ambiguity, Part, Problem, polynomials, Declaration, Basis, IsBases, IsFirstFault, are_over, bases_are_unique, bases_have_no_fault, ClosedRefusal, rules_of, claim_of, IsReadableBasis, IsClosedBasis, ClosedMeans, closed_bases_mean_outside, each_basis_is_judged, basis_refusal_is_unique, closed_basis_is_not_refused, SharpMeans, star_sharp_means, AreSharp, is_sharp, problem_is_sharp, sharp_rules_are_told, kind_text, ambiguity_text, part_text, left_text, closed_text, BasisMeans, bases}
 use Rattle.ambiguities.specs.declared.ambiguity.Kind as ambiguity
-use Rattle.ambiguities.specs.declared.ambiguity.Kind.TheVariants.{Overlap, Inclusion}
-use Rattle.ambiguities.specs.declared.ambiguity.Ambiguity.{Ambiguity}
-use Rattle.closed_checker.specs.declared.part.Part.{Part}
 use Rattle.closed_checker.specs.declared.part.Part.TheVariants as part
-use Rattle.adjoint_rules.specs.declared.problem.Problem.{Problem}
-use Rattle.adjoint_rules.specs.Problem.{polynomials}
-use Rattle.quiver.specs.Declarations.{Declaration}
-use Rattle.adjoint_rules.specs.declared.basis.Basis.{Basis}
-use Rattle.block_lines.specs.Bases.{IsBases, IsFirstFault}
-use Rattle.block_lines.proofs.BasisValues.{are_over}
-use Rattle.block_lines.proofs.EachText.{each_text_is_read, bases_are_unique, first_fault_is_unique, bases_have_no_fault}
-use Rattle.closed_checker.specs.declared.refusal.ClosedRefusal.{ClosedRefusal}
+use Rattle.block_lines.proofs.EachText.{each_text_is_read, first_fault_is_unique}
 use Rattle.closed_checker.specs.declared.refusal.ClosedRefusal.TheVariants as refusal
-use Rattle.closed_checker.specs.Rests.{rules_of, claim_of}
-use Rattle.closed_checker.specs.Closed.{IsReadableBasis, IsClosedBasis, IsMemory}
-use Rattle.closed_checker.specs.Laws.{ClosedMeans}
-use Rattle.closed_checker.proofs.ClosedMeaning.{closed_bases_mean_outside}
+use Rattle.closed_checker.specs.Closed.{IsMemory}
 use Rattle.evidence_commands.proofs.ReadBases.{read_bases_are_readable}
-use Rattle.closed_checker.proofs.Judged.{each_basis_is_judged, basis_refusal_is_unique, closed_basis_is_not_refused}
-use Rattle.normal_forms.specs.SharpMeans.{SharpMeans}
-use Rattle.normal_forms.proofs.StarSharp.{star_sharp_means}
-use Rattle.normal_category.specs.Faults.{AreSharp}
-use Rattle.normal_category.specs.Tests.{is_sharp}
-use Rattle.normal_category.proofs.Problems.{problem_is_sharp}
-use Rattle.normal_category.proofs.Tested.{sharp_rules_are_told}
-use Rattle.evidence_commands.specs.Confirm.{kind_text, ambiguity_text, part_text, left_text, refusal_text, closed_text, BasisMeans, bases}
+use Rattle.evidence_commands.specs.Confirm.{refusal_text}
 use Rattle.evidence_commands.proofs.Owed.{IsJudged}
 use Rattle.evidence_commands.proofs.QuietBlocks.{cause_is_part}
 use Rattle.evidence_commands.proofs.Parts.{IsPart, lit, then, num, poly}

@@ -1,33 +1,8 @@
 -- Refusals of bases name letters of the quiver alone.
-use Rattle.std.proofs.Common.{◌≡◌, ℕ, List, Result, Ok, Err, refl, subst}
-use Rattle.std.specs.List.{All}
-use Rattle.definitions.specs.Poly.{Term}
-use Rattle.definitions.specs.Combination.{generator_at}
-use Rattle.word_core.specs.Letters.{IsOver}
-use Rattle.nc_polynomial.specs.declared.fault.PolyFault.{PolyFault}
-use Rattle.quiver.specs.Declarations.{letter_count}
-use Rattle.rule_reduce.specs.declared.state.State.{State}
-use Rattle.rule_reduce.specs.declared.fault.ReduceFault.{ReduceFault}
-use Rattle.rule_reduce.specs.RuleLists.{IsRule}
-use Rattle.rule_reduce.specs.NormalForms.{normal_form_of, halt_of}
-use Rattle.ambiguities.specs.declared.ambiguity.Ambiguity.{Ambiguity}
-use Rattle.ambiguities.specs.Ambiguities.{IsAmbiguity}
-use Rattle.ambiguities.specs.SPolynomials.{s_polynomial_of}
-use Rattle.ambiguities.proofs.Words.{words_over, s_words}
-use Rattle.ambiguities.proofs.OverLetters.{reduced_over}
-use Rattle.adjoint_rules.specs.declared.problem.Problem.{Problem}
-use Rattle.adjoint_rules.specs.Problem.{polynomials}
-use Rattle.adjoint_rules.specs.declared.basis.Basis.{Basis}
+use Rattle.evidence_commands.proofs.Prelude.{◌≡◌, ℕ, List, Result, Ok, Err, refl, subst, All, Term, generator_at, IsOver, PolyFault, letter_count, State, ReduceFault, IsRule, normal_form_of, halt_of, Ambiguity, IsAmbiguity, s_polynomial_of, words_over, s_words, reduced_over, Problem, polynomials, Basis, ClosedRefusal, step_limit, order_of, rules_of, rest_in, rest_by, rest_of, claim_of, IsReadableBasis, HasRules, rules_from-are, generator_over, claim_over, no_rest, HasRefusalLetters}
 use Rattle.closed_checker.specs.declared.part.Part.TheVariants as part
-use Rattle.closed_checker.specs.declared.refusal.ClosedRefusal.{ClosedRefusal}
 use Rattle.closed_checker.specs.declared.refusal.ClosedRefusal.TheVariants as refusal
-use Rattle.closed_checker.specs.Limits.{step_limit}
-use Rattle.closed_checker.specs.Rests.{order_of, rules_of, rest_in, rest_by, rest_of, claim_of}
-use Rattle.closed_checker.specs.Closed.{IsReadableBasis, HasRules, Refuses}
-use Rattle.closed_checker.proofs.BasisRules.{rules_from-are}
-use Rattle.closed_checker.proofs.ByNumber.{generator_over, claim_over}
-use Rattle.closed_checker.proofs.ClosedMeaning.{no_rest}
-use Rattle.evidence_commands.specs.Confirm.{HasRefusalLetters}
+use Rattle.closed_checker.specs.Closed.{Refuses}
 
 same_rest : (p q : List Term) → ◌≡◌ {A = Result (List Term) ReduceFault} (Ok p) (Ok q) → p ≡ q
 same_rest p q is = cc

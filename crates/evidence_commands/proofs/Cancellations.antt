@@ -1,34 +1,11 @@
 -- Proofs that cancel letters are judged, and what an accepted one means, by the main theorem of cancelling.
-use Rattle.std.proofs.Common.{◌≡◌, ◌<◌, ℕ, false, List, ◌++◌, Some, get_or, codes, refl, ap, sym, subst, arith, IsTrue}
-use Rattle.std.specs.Option.{IfSome}
-use Rattle.std.specs.List.{All, list_all}
-use Rattle.definitions.specs.Category.{Structure, PreadditiveLaws}
-use Rattle.definitions.specs.Poly.{Term}
-use Rattle.definitions.specs.Quiver.{Quiver, letters}
-use Rattle.quiver.specs.Declarations.{Declaration, quiver_of}
-use Rattle.quiver.proofs.Counts.{letters-quiver_of}
-use Rattle.adjoint_rules.specs.declared.problem.Problem.{Problem}
-use Rattle.adjoint_rules.specs.Problem.{polynomials, generators_in}
-use Rattle.adjoint_rules.proofs.Generators.{posed_quiver, generators_have_signatures, generators_are_zero, zero_along}
-use Rattle.adjoint_rules.specs.Claims.{claim_at}
-use Rattle.definitions.proofs.StarSound.{star_sound}
-use Rattle.block_text.specs.Back.{is_named}
+use Rattle.evidence_commands.proofs.Prelude.{◌≡◌, ◌<◌, ℕ, false, List, ◌++◌, Some, get_or, codes, refl, ap, sym, subst, arith, IsTrue, IfSome, All, list_all, Structure, PreadditiveLaws, Term, Quiver, letters, Declaration, quiver_of, letters-quiver_of, Problem, polynomials, generators_in, posed_quiver, generators_have_signatures, generators_are_zero, zero_along, claim_at, star_sound, is_named, claim_typed, plain_generators, Side, Cancellation, declared_for, IsCancellationOf, CancelRefusal, all_items, IsLetterOf, IsReadableCancellation, MakesZeroByCancelling, IsCancellationSound, cancellation_is_judged, cancellation_refusal_is_unique, accepted_cancellation_is_not_refused, difference_over, indivisible_over, accepted_cancellation_leads, proofs_are_readable, accepted_text, MakesZeroByStar, CancelledMeans, cancellations}
 use Rattle.cofactor_checker.specs.declared.refusal.Refusal.TheVariants as common
-use Rattle.cofactor_checker.proofs.ProvedMeans.{claim_typed, plain_generators}
-use Rattle.cancel_rules.specs.declared.cancellation.Side.{Side}
 use Rattle.cancel_rules.specs.declared.cancellation.Side.TheVariants as side
-use Rattle.cancel_rules.specs.declared.cancellation.Cancellation.{Cancellation}
-use Rattle.cancel_rules.specs.Cancellations.{declared_for, IsCancellationOf}
-use Rattle.cancel_rules.specs.declared.refusal.CancelRefusal.{CancelRefusal}
 use Rattle.cancel_rules.specs.declared.refusal.CancelRefusal.TheVariants as refusal
-use Rattle.cancel_rules.specs.Acceptance.{all_items, IsLetterOf, IsReadableCancellation, IsAccepted, IsRefused, IsMemory}
-use Rattle.cancel_rules.specs.Meaning.{MakesZeroByCancelling, IsCancellationSound}
-use Rattle.cancel_rules.proofs.Judged.{cancellation_is_judged, cancellation_refusal_is_unique, accepted_cancellation_is_not_refused}
-use Rattle.cancel_rules.proofs.Letters.{difference_over, indivisible_over}
-use Rattle.cancel_rules.proofs.Shown.{accepted_cancellation_leads}
+use Rattle.cancel_rules.specs.Acceptance.{IsAccepted, IsRefused, IsMemory}
 use Rattle.cancellation_text.proofs.Reader as texts
-use Rattle.cancellation_text.proofs.Readable.{proofs_are_readable}
-use Rattle.evidence_commands.specs.Cancel.{accepted_text, refusal_text, HasRefusalLetters, MakesZeroByStar, CancelledMeans, cancellations}
+use Rattle.evidence_commands.specs.Cancel.{refusal_text, HasRefusalLetters}
 use Rattle.evidence_commands.proofs.Causes as causes
 use Rattle.evidence_commands.proofs.Owed.{IsJudged}
 use Rattle.evidence_commands.proofs.Parts.{IsPart, lit, then, num}

@@ -1,14 +1,6 @@
 -- Which refusals of certificates have a text, and that it is a line.
-use Rattle.std.proofs.Common.{◌≡◌, ℕ, List, Some, refl, codes, IsTrue}
-use Rattle.std.specs.Option.{IfSome}
-use Rattle.std.specs.List.{list_all}
-use Rattle.quiver.specs.Declarations.{Declaration}
-use Rattle.cofactor_checker.specs.declared.refusal.Refusal.{Refusal}
+use Rattle.evidence_commands.proofs.Prelude.{◌≡◌, ℕ, List, Some, refl, codes, IsTrue, IfSome, list_all, Declaration, Refusal, IsMemory, sum_limit, kept_limit, is_named}
 use Rattle.cofactor_checker.specs.declared.refusal.Refusal.TheVariants as refusal
-use Rattle.cofactor_checker.specs.Acceptance.{IsMemory}
-use Rattle.cofactor_checker.specs.Rows.{sum_limit}
-use Rattle.cofactor_checker.specs.Lemmas.{kept_limit}
-use Rattle.block_text.specs.Back.{is_named}
 use Rattle.evidence_commands.specs.Causes.{cause_text}
 use Rattle.evidence_commands.proofs.Parts.{IsPart, lit, then, num, int, overflow, word}
 

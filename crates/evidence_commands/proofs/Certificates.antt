@@ -1,32 +1,7 @@
 -- Certificates are judged, and what an accepted one means.
-use Rattle.std.proofs.Common.{◌≡◌, ◌<ℤ◌, ℕ, pos, List, [], ◌∷◌, ◌++◌, length, get_or, codes, refl, sym, ap, arith, IsTrue}
-use Rattle.std.specs.List.{flat_map, list_all}
-use Rattle.std.proofs.lemmas.List.{length-append, append-nil}
-use Rattle.definitions.specs.Category.{Structure, PreadditiveLaws}
-use Rattle.definitions.specs.Soundness.{IsSound}
-use Rattle.representations.specs.Evidence.{IsEvidenceSound}
-use Rattle.quiver.specs.Declarations.{Declaration}
-use Rattle.traced_rows.specs.declared.evidence.Lemma.{Lemma}
-use Rattle.traced_rows.specs.declared.evidence.LemmaRow.{LemmaRow}
-use Rattle.traced_rows.specs.declared.evidence.Evidence.{Evidence}
-use Rattle.traced_rows.specs.declared.evidence.Evidence.TheVariants.{Plain, Lemmas}
+use Rattle.evidence_commands.proofs.Prelude.{◌≡◌, ◌<ℤ◌, ℕ, pos, List, [], ◌∷◌, ◌++◌, length, get_or, codes, refl, sym, ap, arith, IsTrue, list_all, length-append, append-nil, Structure, PreadditiveLaws, IsSound, IsEvidenceSound, Declaration, Lemma, LemmaRow, Evidence, Plain, Lemmas, denominator_of, is_named, IsMemory, IsNumberUpTo, row_count, IsRanged, all_polynomials, IsReadableEvidence, ShowsClaim, EvidenceAddsUp, accepted_evidence_adds_up, evidence_is_judged, evidence_refusal_is_unique, accepted_evidence_is_not_refused, proved_means, Problem, polynomials, IsCheckableLemma, IsCheckableEvidence, each_text_is_read, evidence_is_unique, first_fault_is_unique, evidence_has_no_fault, claim_number, IsAccepted, named_text, AcceptedMeans, certificates}
+use Rattle.std.specs.List.{flat_map}
 use Rattle.traced_rows.specs.declared.evidence.Format.TheVariants as format
-use Rattle.traced_rows.specs.LemmaRows.{denominator_of}
-use Rattle.block_text.specs.Back.{is_named}
-use Rattle.cofactor_checker.specs.Acceptance.{IsMemory}
-use Rattle.cofactor_checker.specs.Rows.{IsNumberUpTo}
-use Rattle.cofactor_checker.specs.Lemmas.{row_count}
-use Rattle.cofactor_checker.specs.LemmaAcceptance.{IsRanged, all_polynomials}
-use Rattle.cofactor_checker.specs.Evidence.{IsReadableEvidence, ShowsClaim}
-use Rattle.cofactor_checker.specs.ProvedMeans.{EvidenceAddsUp}
-use Rattle.cofactor_checker.proofs.Shown.{accepted_evidence_adds_up}
-use Rattle.cofactor_checker.proofs.Judged.{evidence_is_judged, evidence_refusal_is_unique, accepted_evidence_is_not_refused}
-use Rattle.cofactor_checker.proofs.ProvedMeans.{proved_means}
-use Rattle.adjoint_rules.specs.declared.problem.Problem.{Problem}
-use Rattle.adjoint_rules.specs.Problem.{polynomials}
-use Rattle.certificate_text.specs.Evidence.{IsCheckableLemma, IsCheckableEvidence}
-use Rattle.certificate_text.proofs.EachText.{each_text_is_read, evidence_is_unique, first_fault_is_unique, evidence_has_no_fault}
-use Rattle.evidence_commands.specs.Check.{claim_number, IsAccepted, named_text, AcceptedMeans, certificates}
 use Rattle.evidence_commands.proofs.Causes.{told, refusal_text, caused}
 use Rattle.evidence_commands.proofs.QuietBlocks.{nothing_is_quiet}
 use Rattle.evidence_commands.proofs.Said.{Said, says_accepted, said_text, AcceptedSaid, IsTold, accepted_is_part}

@@ -1,18 +1,7 @@
 -- The text of a chain, a row at a time.
-use Rattle.std.proofs.Common.{◌≡◌, ℕ, ◌+◌, ◌≤◌, true, false, List, [], ◌∷◌, ◌++◌, length, slice_get, Some, sym, ap, ◌∙◌}
-use Rattle.std.proofs.lemmas.List.{append-nil, append_assoc, take_all}
+use Rattle.evidence_commands.proofs.Prelude.{◌≡◌, ℕ, ◌+◌, ◌≤◌, true, false, List, [], ◌∷◌, ◌++◌, length, slice_get, Some, sym, ap, ◌∙◌, append-nil, take_all, CertRow, Certificate, Problem, is_step, steps_in, steps_of, line_less, lines_by, lines_of, line_before, steps_before, line_text, use_text, lines_text, none_before, some_before, lines_long, lines_more, lines_text_more, text_before}
+use Rattle.std.proofs.lemmas.List.{append_assoc}
 use Rattle.definitions.specs.Poly.{Poly}
-use Rattle.traced_rows.specs.declared.certificate.CertRow.{CertRow}
-use Rattle.traced_rows.specs.declared.certificate.Certificate.{Certificate}
-use Rattle.adjoint_rules.specs.declared.problem.Problem.{Problem}
-use Rattle.equation_chain.specs.Steps.{is_step, steps_in, steps_of}
-use Rattle.equation_chain.specs.Lines.{line_less, lines_by, lines_of}
-use Rattle.equation_chain.specs.Faults.{line_before, steps_before}
-use Rattle.equation_chain.specs.Written.{line_text, use_text, lines_text}
-use Rattle.equation_chain.proofs.Going.{none_before, some_before}
-use Rattle.equation_chain.proofs.Lines.{lines_long, lines_more}
-use Rattle.equation_chain.proofs.Spelled.{lines_text_more}
-use Rattle.evidence_commands.specs.Explain.{text_before}
 
 module _ (problem : Problem) (c : Certificate) where
   -- the first line alone

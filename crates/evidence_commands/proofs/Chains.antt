@@ -1,41 +1,11 @@
 -- Certificates are explained or refused, and what an explained one means.
-use Rattle.std.proofs.Common.{◌≡◌, ◌⊎◌, inl, inr, ℕ, pos, List, [], ◌∷◌, ◌++◌, Option, None, Some, length, get_or, codes, refl, ap, arith, IsTrue}
-use Rattle.std.specs.Prelude.{decimal}
-use Rattle.std.specs.Option.{IfSome}
-use Rattle.std.specs.Fmt.{signed_decimal}
-use Rattle.std.specs.List.{AllByRecursion, list_all}
+use Rattle.evidence_commands.proofs.Prelude.{◌≡◌, ◌⊎◌, inl, inr, ℕ, pos, List, [], ◌∷◌, ◌++◌, Option, None, Some, length, get_or, codes, refl, ap, arith, IsTrue, decimal, IfSome, signed_decimal, AllByRecursion, list_all, Structure, PreadditiveLaws, Term, HasSignature, IsSound, MakesZero, IsEvidenceSound, Declaration, quiver_of, Certificate, Evidence, Plain, Lemmas, Problem, polynomials, IsCheckable, each_text_is_read, evidence_is_unique, first_fault_is_unique, evidence_has_no_fault, MeansZero, means_zero, ChainFault, is_named, letter_limit, steps_of, lines_of, chain_text, lines_are_a_chain, lines_have_signatures, steps_add_up, steps_typed, lines_vanish, IsExplained, IsRefused, fault_text, refusal_text, HasFaultLetters, explained_text, ExplainedMeans, IsChained, BlockMeans, chains}
 use Rattle.std.proofs.lemmas.List.{append_assoc}
-use Rattle.definitions.specs.Category.{Structure, PreadditiveLaws}
-use Rattle.definitions.specs.Poly.{Term}
-use Rattle.definitions.specs.Soundness.{HasSignature, IsSound, MakesZero}
-use Rattle.representations.specs.Evidence.{IsEvidenceSound}
-use Rattle.quiver.specs.Declarations.{Declaration, quiver_of}
-use Rattle.traced_rows.specs.declared.certificate.Certificate.{Certificate}
-use Rattle.traced_rows.specs.declared.evidence.Evidence.{Evidence}
-use Rattle.traced_rows.specs.declared.evidence.Evidence.TheVariants.{Plain, Lemmas}
 use Rattle.traced_rows.specs.declared.evidence.Format.TheVariants as format
-use Rattle.adjoint_rules.specs.declared.problem.Problem.{Problem}
-use Rattle.adjoint_rules.specs.Problem.{polynomials}
-use Rattle.certificate_text.specs.Evidence.{IsCheckable}
-use Rattle.certificate_text.proofs.EachText.{each_text_is_read, evidence_is_unique, first_fault_is_unique, evidence_has_no_fault}
-use Rattle.cofactor_checker.specs.ProvedMeans.{MeansZero}
-use Rattle.cofactor_checker.proofs.ProvedMeans.{means_zero}
-use Rattle.equation_chain.specs.declared.fault.ChainFault.{ChainFault}
 use Rattle.equation_chain.specs.declared.fault.ChainFault.TheVariants as fault
-use Rattle.block_text.specs.Back.{is_named}
-use Rattle.equation_chain.specs.Limits.{letter_limit}
-use Rattle.equation_chain.specs.Steps.{steps_of}
-use Rattle.equation_chain.specs.Lines.{lines_of}
-use Rattle.equation_chain.specs.Written.{chain_text}
 use Rattle.equation_chain.specs.Faults as chain
-use Rattle.equation_chain.proofs.Chains.{lines_are_a_chain}
-use Rattle.equation_chain.proofs.Letters.{lines_have_signatures}
 use Rattle.equation_chain.proofs.Outcomes as outcomes
-use Rattle.equation_chain.proofs.Sums.{steps_add_up}
-use Rattle.equation_chain.proofs.Typed.{steps_typed}
-use Rattle.equation_chain.proofs.Vanishing.{lines_vanish}
-use Rattle.evidence_commands.specs.Explain.{IsExplained, IsRefused, IsMemory, fault_text, refusal_text, HasFaultLetters}
-use Rattle.evidence_commands.specs.Explain.{explained_text, ExplainedMeans, IsChained, BlockMeans, chains}
+use Rattle.evidence_commands.specs.Explain.{IsMemory}
 use Rattle.evidence_commands.proofs.Causes as causes
 use Rattle.evidence_commands.proofs.Letters.{refused_letters}
 use Rattle.evidence_commands.proofs.Certificates.{names, accepted_means}

@@ -1,18 +1,6 @@
 -- What each command of evidence owes, one line a command.
-use Rattle.std.proofs.Common.{ℕ, List}
-use Rattle.command_shape.specs.declared.evidence.EvidenceCommand.{EvidenceCommand}
-use Rattle.command_shape.specs.declared.evidence.EvidenceCommand.TheVariants.{Check, Model, Confirm, Explain, Cancel}
-use Rattle.adjoint_rules.specs.declared.problem.Problem.{Problem}
-use Rattle.command_shape.specs.Ending.{Ending}
-use Rattle.stated_problem.specs.Statement.{OverStatement}
-use Rattle.stated_problem.proofs.Owed.{OwesEnding}
-use Rattle.evidence_commands.specs.Commands.{judged_by, AnswersEvidence, SaysEvidence}
-use Rattle.evidence_commands.specs.Kind.{AnswersText}
-use Rattle.evidence_commands.specs.Check.{certificates}
-use Rattle.evidence_commands.specs.Model.{models}
-use Rattle.evidence_commands.specs.Confirm.{bases}
-use Rattle.evidence_commands.specs.Explain.{chains}
-use Rattle.evidence_commands.specs.Cancel.{cancellations}
+use Rattle.evidence_commands.proofs.Prelude.{ℕ, List, EvidenceCommand, Check, Confirm, Explain, Cancel, Problem, Ending, OverStatement, OwesEnding, judged_by, AnswersEvidence, SaysEvidence, AnswersText, certificates, models, bases, chains, cancellations}
+use Rattle.command_shape.specs.declared.evidence.EvidenceCommand.TheVariants.{Model}
 use Rattle.evidence_commands.proofs.Owed.{IsJudged, owes}
 use Rattle.evidence_commands.proofs.Certificates.{certificates_are_judged}
 use Rattle.evidence_commands.proofs.Models.{models_are_judged}

@@ -1,28 +1,7 @@
 -- A word at which sums of rows and multiples of claims differ, or that a scale doesn't divide, has letters of the quiver alone.
-use Rattle.std.proofs.Common.{◌≡◌, ℕ, ℤ, true, List, [], inl, inr, Result, Err, IfErr, sym, subst}
-use Rattle.std.specs.List.{All}
-use Rattle.std.proofs.lemmas.List.Elements.{All-map, All-weaker}
-use Rattle.definitions.specs.Combination.{Row, generator_at, row_sum}
-use Rattle.word_core.specs.Letters.{IsOver}
-use Rattle.quiver.specs.Declarations.{letter_count}
-use Rattle.traced_rows.specs.declared.certificate.CertRow.{CertRow}
-use Rattle.traced_rows.specs.declared.certificate.Certificate.{Certificate}
-use Rattle.traced_rows.specs.declared.evidence.Lemma.{Lemma}
-use Rattle.traced_rows.specs.declared.evidence.LemmaCertificate.{LemmaCertificate}
-use Rattle.traced_rows.specs.declared.evidence.Evidence.{Evidence}
-use Rattle.traced_rows.specs.declared.evidence.Evidence.TheVariants.{Plain, Lemmas}
-use Rattle.traced_rows.specs.Rows.{row_of, rows_of}
-use Rattle.cofactor_checker.specs.declared.refusal.Refusal.{Refusal}
+use Rattle.evidence_commands.proofs.Prelude.{◌≡◌, ℕ, ℤ, true, List, [], inl, inr, Result, Err, IfErr, sym, subst, All, All-map, All-weaker, Row, generator_at, row_sum, IsOver, letter_count, CertRow, Certificate, Lemma, LemmaCertificate, Evidence, Plain, Lemmas, row_of, rows_of, Refusal, plain_sum, all_polynomials, RefusesBlock, RefusesLemmaCertificate, RefusesEvidence, is_over, AreOver, IsLemmaOver, Stays, sum_stays, difference_is_over, plain_stays, lemmas_stay, indivisible_is_over, drawn, word_over, over_word, generators_stay, claim_stays, Problem, polynomials, IsRowOver, IsCheckable, IsCheckableLemma, IsCheckableByLemmas, IsCheckableEvidence, HasLetters}
 use Rattle.cofactor_checker.specs.Acceptance.{Refuses}
 use Rattle.cofactor_checker.specs.declared.refusal.Refusal.TheVariants as refusal
-use Rattle.cofactor_checker.specs.PlainRows.{plain_sum}
-use Rattle.cofactor_checker.specs.LemmaAcceptance.{all_polynomials, RefusesBlock, RefusesLemmaCertificate}
-use Rattle.cofactor_checker.specs.Evidence.{RefusesEvidence}
-use Rattle.cofactor_checker.proofs.LetterSums.{is_over, AreOver, IsLemmaOver, Stays, sum_stays, difference_is_over, plain_stays, lemmas_stay, indivisible_is_over, drawn, word_over, over_word, generators_stay, claim_stays}
-use Rattle.adjoint_rules.specs.declared.problem.Problem.{Problem}
-use Rattle.adjoint_rules.specs.Problem.{polynomials}
-use Rattle.certificate_text.specs.Evidence.{IsRowOver, IsCheckable, IsCheckableLemma, IsCheckableByLemmas, IsCheckableEvidence}
-use Rattle.evidence_commands.specs.Causes.{HasLetters}
 
 -- a refusal that `?` returns
 pub handed_on : {A E : Type 0} (P : E → Type 0) (result : Result A E) (e : E) → result ≡ Err e → P e → IfErr result P

@@ -1,3 +1,4 @@
+mod Prelude
 pub mod QuietTexts
 pub mod QuietBlocks
 pub mod Parts

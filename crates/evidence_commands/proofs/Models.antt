@@ -1,23 +1,9 @@
 -- Models are judged, and what a confirmed one means.
-use Rattle.std.proofs.Common.{◌≡◌, ◌<◌, ℕ, List, ◌++◌, Some, get_or, codes, refl, ap, subst, sym, ◌∙◌, arith, IsTrue}
-use Rattle.std.specs.Option.{IfSome}
-use Rattle.std.specs.List.{list_all}
-use Rattle.quiver.specs.Declarations.{Declaration, quiver_of}
-use Rattle.quiver.proofs.Counts.{letters-quiver_of}
-use Rattle.matrix_models.specs.declared.model.Model.{Model}
-use Rattle.adjoint_rules.specs.declared.problem.Problem.{Problem}
-use Rattle.model_checker.specs.declared.refusal.ModelRefusal.{ModelRefusal}
+use Rattle.evidence_commands.proofs.Prelude.{◌≡◌, ◌<◌, ℕ, List, ◌++◌, Some, get_or, codes, refl, ap, subst, sym, ◌∙◌, arith, IsTrue, IfSome, list_all, Declaration, quiver_of, letters-quiver_of, Model, Problem, ModelRefusal, Refutes, RefusesModel, each_model_is_judged, refuting_model_is_not_refused, model_refusal_is_unique, refuted_means, IsModel, models_are_unique, models_have_no_fault, models_are_models, is_named, map_cause, model_cause, HasModelLetter, claim_confirmed, ConfirmedMeans, models}
 use Rattle.model_checker.specs.declared.refusal.ModelRefusal.TheVariants as refusal
-use Rattle.model_checker.specs.Models.{Refutes}
 use Rattle.model_checker.specs.Models as search
-use Rattle.model_checker.specs.Refusals.{RefusesModel, IsMemory}
-use Rattle.model_checker.proofs.Judged.{each_model_is_judged, refuting_model_is_not_refused, model_refusal_is_unique}
-use Rattle.model_checker.proofs.RefutedMeans.{refuted_means}
-use Rattle.model_text.specs.Models.{IsModel}
-use Rattle.model_text.proofs.EachText.{each_text_is_read, models_are_unique, first_fault_is_unique, models_have_no_fault}
-use Rattle.model_text.proofs.ModelValues.{models_are_models}
-use Rattle.block_text.specs.Back.{is_named}
-use Rattle.evidence_commands.specs.Model.{map_cause, model_cause, HasModelLetter, claim_confirmed, ConfirmedMeans, models}
+use Rattle.model_checker.specs.Refusals.{IsMemory}
+use Rattle.model_text.proofs.EachText.{each_text_is_read, first_fault_is_unique}
 use Rattle.evidence_commands.proofs.Owed.{IsJudged}
 use Rattle.evidence_commands.proofs.QuietBlocks.{name_is_part}
 use Rattle.evidence_commands.proofs.Parts.{IsPart, lit, then, num}

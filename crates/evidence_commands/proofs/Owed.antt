@@ -1,23 +1,5 @@
 -- What a kind of evidence owes, and what follows for its command.
-use Rattle.std.proofs.Common.{◌≡◌, ◌⊎◌, inl, inr, ℕ, List, [], ◌∷◌, ◌++◌, refl, sym, subst, ◌∙◌, arith, IsTrue}
-use Rattle.std.specs.Option.{IfSome}
-use Rattle.std.specs.List.{All, AllByRecursion, list_all}
-use Rattle.std.proofs.lemmas.List.{append-nil}
-use Rattle.std.proofs.lemmas.List.Elements.{All-head, All-tail}
-use Rattle.definitions.specs.Category.{Structure, PreadditiveLaws}
-use Rattle.definitions.specs.Soundness.{IsSound}
-use Rattle.representations.specs.Evidence.{IsEvidenceSound}
-use Rattle.cancel_rules.specs.Meaning.{IsCancellationSound}
-use Rattle.quiver.specs.Declarations.{Declaration}
-use Rattle.adjoint_rules.specs.declared.problem.Problem.{Problem}
-use Rattle.block_text.specs.Back.{is_named}
-use Rattle.command_shape.specs.Ending.{Ending}
-use Rattle.command_shape.proofs.BlockTexts.{IsKind, text_answered, text_answered_once, text_status, passing_answered, zero_answered, first_answered, all_first}
-use Rattle.stated_problem.specs.Statement.{faulty, stated}
-use Rattle.stated_problem.proofs.Statements.{stated_leads, over_problem}
-use Rattle.stated_problem.proofs.Owed.{OwesEnding, owed_over, zero_or_past}
-use Rattle.evidence_commands.specs.Kind.{Kind, AnswersText, AnswersBoth, Says}
-use Rattle.evidence_commands.specs.Laws.{PassingAreAnswered, ZeroIsPassing, ZeroMeans, FaultsAreAnswered, ThreeIsFaulty}
+use Rattle.evidence_commands.proofs.Prelude.{◌≡◌, ◌⊎◌, inl, inr, ℕ, List, [], ◌∷◌, ◌++◌, refl, sym, subst, ◌∙◌, arith, IsTrue, IfSome, All, AllByRecursion, list_all, append-nil, All-head, All-tail, Structure, PreadditiveLaws, IsSound, IsEvidenceSound, IsCancellationSound, Declaration, Problem, is_named, Ending, IsKind, text_answered, text_answered_once, text_status, passing_answered, zero_answered, first_answered, all_first, faulty, stated, stated_leads, over_problem, OwesEnding, owed_over, zero_or_past, Kind, AnswersText, AnswersBoth, Says, PassingAreAnswered, ZeroIsPassing, ZeroMeans, FaultsAreAnswered, ThreeIsFaulty}
 use Rattle.evidence_commands.proofs.Parts.{IsPart}
 use Rattle.evidence_commands.proofs.Said.{Said, said_text, SaidMeans, IsBlockAt, IsTold}
 

@@ -1,15 +1,5 @@
 -- Texts without line ends, of which lines are put together.
-use Rattle.std.proofs.Common.{◌≡◌, ℕ, ℤ, Bool, true, false, List, ◌++◌, Option, Some, refl, subst, codes, IsTrue}
-use Rattle.std.specs.Prelude.{decimal}
-use Rattle.std.specs.Option.{IfSome}
-use Rattle.std.specs.Fmt.{signed_decimal}
-use Rattle.std.specs.List.{list_all}
-use Rattle.coef_int.specs.declared.Overflow.{Overflow}
-use Rattle.nc_polynomial.specs.declared.poly.Poly.{Poly}
-use Rattle.quiver.specs.Declarations.{Declaration}
-use Rattle.block_text.specs.Written.{word_text, poly_text}
-use Rattle.block_text.specs.Back.{is_named}
-use Rattle.evidence_commands.specs.Causes.{operation_text}
+use Rattle.evidence_commands.proofs.Prelude.{◌≡◌, ℕ, ℤ, Bool, true, false, List, ◌++◌, Option, Some, refl, subst, codes, IsTrue, decimal, IfSome, signed_decimal, list_all, Overflow, Poly, Declaration, word_text, poly_text, is_named, operation_text}
 use Rattle.evidence_commands.proofs.QuietTexts.{lacks}
 use Rattle.evidence_commands.proofs.QuietBlocks.{lacks-append, number_is_part, integer_is_part, word_is_part, poly_is_part}
 

@@ -1,43 +1,12 @@
 -- No line of a block of evidence begins with #.
-use Rattle.std.proofs.Common.{◌≡◌, ◌<◌, ◌+◌, ◌/◌, ◌%◌, ◌==◌, ℕ, zero, suc, ℤ, pos, negsuc, Bool, true, false, not, cond, List, [], ◌∷◌, ◌++◌, Option, Some, None, arith, refl, map, get_or, flat_map, codes, nat_eq, IsTrue}
-use Rattle.std.specs.Prelude.{decimal, zip}
-use Rattle.std.specs.Fmt.{signed_decimal, digits, digits_onto, digit_glyph}
-use Rattle.std.specs.Int.{is_negative}
-use Rattle.std.specs.Int.RustNames.{unsigned_abs}
-use Rattle.std.specs.List.{list_all, range_with_len}
-use Rattle.std.proofs.lemmas.Bool.{and_parts, lt-ltb, ne_eqb}
-use Rattle.std.proofs.lemmas.List.Folds.{list_all-append}
-use Rattle.definitions.specs.Poly.{Poly, Term}
+use Rattle.evidence_commands.proofs.Prelude.{◌≡◌, ◌<◌, ◌+◌, ◌/◌, ◌%◌, ◌==◌, ℕ, zero, suc, ℤ, pos, negsuc, Bool, true, false, not, cond, List, [], ◌∷◌, ◌++◌, Option, Some, None, arith, refl, map, get_or, flat_map, codes, nat_eq, IsTrue, decimal, zip, signed_decimal, digits, digits_onto, digit_glyph, is_negative, unsigned_abs, list_all, range_with_len, and_parts, lt-ltb, ne_eqb, list_all-append, Term, Overflow, word_limit, term_limit, row_limit, Cause, CertRow, CertFrom, LemmaRow, Lemma, Evidence, Plain, Lemmas, Matrix, entry_at, Model, Named, Object, Map, Declaration, name_of, named_in, name_at, object_name, letter_name, spelled_as, letter_text, word_text, factor_text, term_text, first_text, later_text, poly_text, is_named, name_text, bytes_inside, inside_is_before_end, opening_text, evidence_text, lemmas_text, rule_line, basis_text, model_text, numbered_text, sides_text, maps_text, overflow_text, cause_text, line_text, use_text, steps_text, lines_text, chain_text}
+use Rattle.definitions.specs.Poly.{Poly}
 use Rattle.nc_polynomial.specs.declared.poly.Poly as made
-use Rattle.coef_int.specs.declared.Overflow.{Overflow}
-use Rattle.nc_polynomial.specs.Limits.{word_limit, term_limit}
-use Rattle.cofactor_trace.specs.Limits.{row_limit, letter_limit}
-use Rattle.cofactor_trace.specs.declared.halt.Cause.{Cause}
+use Rattle.cofactor_trace.specs.Limits.{letter_limit}
 use Rattle.cofactor_trace.specs.declared.halt.Cause.TheVariants as cause
-use Rattle.traced_rows.specs.declared.certificate.CertRow.{CertRow}
-use Rattle.traced_rows.specs.declared.evidence.CertFrom.{CertFrom}
 use Rattle.traced_rows.specs.declared.evidence.CertFrom.TheVariants as over
-use Rattle.traced_rows.specs.declared.evidence.LemmaRow.{LemmaRow}
-use Rattle.traced_rows.specs.declared.evidence.Lemma.{Lemma}
-use Rattle.traced_rows.specs.declared.evidence.Evidence.{Evidence}
-use Rattle.traced_rows.specs.declared.evidence.Evidence.TheVariants.{Plain, Lemmas}
-use Rattle.matrix_models.specs.Matrix.{Matrix, entry_at}
-use Rattle.matrix_models.specs.declared.model.Model.{Model}
-use Rattle.quiver.specs.declared.named.Named.{Named}
-use Rattle.quiver.specs.declared.named.Named.TheVariants.{Object, Map}
-use Rattle.quiver.specs.Declarations.{Declaration, name_of, named_in, name_at, object_name, letter_name}
-use Rattle.block_text.specs.Written.{spelled_as, letter_text, word_text, factor_text, term_text, first_text, later_text, poly_text}
-use Rattle.block_text.specs.Back.{is_named}
-use Rattle.block_text.proofs.NameBytes.{name_text}
-use Rattle.block_text.proofs.NumbersBack.{bytes_inside}
-use Rattle.block_text.proofs.PartsBack.{inside_is_before_end}
 use Rattle.certificate_text.specs.Written as certificate
-use Rattle.certificate_text.specs.Written.{opening_text, evidence_text, lemmas_text}
-use Rattle.block_lines.specs.Written.{rule_line, basis_text}
 use Rattle.model_text.specs.Written as model
-use Rattle.model_text.specs.Written.{model_text, numbered_text, sides_text, maps_text}
-use Rattle.report_text.specs.Heads.{overflow_text, cause_text}
-use Rattle.equation_chain.specs.Written.{line_text, use_text, steps_text, lines_text, chain_text}
 use Rattle.evidence_commands.proofs.QuietTexts.{lacks, is_quiet, ends_line, IsQuiet, quiet-append, inside_is_quiet, quiet-flat_map}
 
 -- texts without line ends

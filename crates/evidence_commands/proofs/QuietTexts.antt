@@ -1,7 +1,5 @@
 -- Texts none of whose lines begins with #, and the lines that begin with # of texts that begin so.
-use Rattle.std.proofs.Common.{◌≡◌, ◌⊎◌, inl, inr, ℕ, Bool, true, false, not, ◌&&◌, ◌==◌, List, [], ◌∷◌, ◌++◌, refl, sym, subst, flat_map}
-use Rattle.std.specs.List.{list_all}
-use Rattle.std.proofs.lemmas.Bool.{and_parts, eq-eqb}
+use Rattle.evidence_commands.proofs.Prelude.{◌≡◌, ◌⊎◌, inl, inr, ℕ, Bool, true, false, not, ◌&&◌, ◌==◌, List, [], ◌∷◌, ◌++◌, refl, sym, subst, flat_map, list_all, and_parts, eq-eqb}
 
 -- whether the text lacks the byte
 abbrev pub lacks : ℕ → List ℕ → Bool

@@ -1,31 +1,5 @@
 -- What the line on an accepted block says, whatever the command, and what that means over the problem of a statement and a text of evidence.
-use Rattle.std.proofs.Common.{◌≡◌, ◌<ℤ◌, ℕ, pos, ℤ, Bool, true, false, List, [], ◌∷◌, ◌++◌, Some, refl, length, slice_get, codes, IsTrue}
-use Rattle.std.specs.Prelude.{decimal}
-use Rattle.std.specs.Fmt.{signed_decimal}
-use Rattle.std.specs.List.{AllByRecursion, list_all}
-use Rattle.definitions.specs.Category.{Structure, InvolutionLaws}
-use Rattle.definitions.specs.Combination.{InRationalIdeal}
-use Rattle.definitions.specs.Representation.{Representation, Represents, StarRepresents, Cancels}
-use Rattle.definitions.specs.Soundness.{HasValueZero}
-use Rattle.word_core.specs.declared.letter.Letter.{Letter}
-use Rattle.quiver.specs.Declarations.{Declaration, quiver_of}
-use Rattle.rule_reduce.specs.declared.rule.Rule.{Rule}
-use Rattle.adjoint_rules.specs.declared.problem.Problem.{Problem}
-use Rattle.adjoint_rules.specs.Problem.{polynomials}
-use Rattle.adjoint_rules.specs.Claims.{claim_at}
-use Rattle.cofactor_checker.specs.Rows.{IsNumberUpTo}
-use Rattle.cofactor_checker.specs.ProvedMeans.{MeansZero}
-use Rattle.cancel_rules.specs.Meaning.{AreMonic, AreEpic}
-use Rattle.matrix_models.specs.declared.model.Model.{Model}
-use Rattle.model_checker.specs.Models.{IsClaimNumber}
-use Rattle.model_checker.specs.RefutedMeans.{RefutedMeans}
-use Rattle.model_text.specs.Models.{IsModels}
-use Rattle.normal_forms.specs.SharpMeans.{SharpMeans, StarSharpMeans}
-use Rattle.block_text.specs.Back.{is_named}
-use Rattle.evidence_commands.specs.Causes.{claim_text}
-use Rattle.evidence_commands.specs.CalledLetters.{names_text, called_text, letters_text}
-use Rattle.evidence_commands.specs.Model.{claim_confirmed}
-use Rattle.evidence_commands.specs.Confirm.{sharp_ending, claim_closed}
+use Rattle.evidence_commands.proofs.Prelude.{◌≡◌, ◌<ℤ◌, ℕ, pos, ℤ, Bool, true, false, List, [], ◌∷◌, ◌++◌, Some, refl, length, slice_get, codes, IsTrue, decimal, signed_decimal, AllByRecursion, list_all, Structure, InvolutionLaws, InRationalIdeal, Representation, Represents, StarRepresents, Cancels, HasValueZero, Letter, Declaration, quiver_of, Rule, Problem, polynomials, claim_at, IsNumberUpTo, MeansZero, AreMonic, AreEpic, Model, IsClaimNumber, RefutedMeans, IsModels, SharpMeans, StarSharpMeans, is_named, claim_text, names_text, called_text, letters_text, claim_confirmed, sharp_ending, claim_closed}
 use Rattle.evidence_commands.proofs.QuietTexts.{lacks}
 use Rattle.evidence_commands.proofs.QuietBlocks.{AreQuiet, nothing_is_quiet, letter_is_part}
 use Rattle.evidence_commands.proofs.Parts.{IsPart, lit, then, num, int}

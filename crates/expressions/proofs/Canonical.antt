@@ -1,15 +1,5 @@
 -- The polynomials that the code makes itself are within the limits.
-use Rattle.std.proofs.Common.{◌≡◌, ◌≤◌, length, arith}
-use Rattle.std.proofs.lemmas.List.{length-map}
-use Rattle.std.proofs.lemmas.List.Elements.{All-map}
-use Rattle.std.specs.List.{All}
-use Rattle.coef_int.specs.Range.{IsCoefficient}
-use Rattle.definitions.specs.Poly.{Poly, Term}
-use Rattle.definitions.specs.Quiver.{Quiver}
-use Rattle.definitions.specs.Generators.{adjoint_poly}
-use Rattle.nc_polynomial.specs.Terms.{negated}
-use Rattle.nc_polynomial.specs.Shape.{IsCanonical}
-use Rattle.nc_polynomial.proofs.Shapes.{shaped-negated}
+use Rattle.expressions.proofs.Prelude.{◌≡◌, ◌≤◌, length, arith, length-map, All-map, All, IsCoefficient, Poly, Term, Quiver, adjoint_poly, negated, IsCanonical, shaped-negated}
 use Rattle.expressions.proofs.Words.{words-negated}
 
 pub canonical-negated : (p : Poly) → IsCanonical p → IsCanonical (negated p)

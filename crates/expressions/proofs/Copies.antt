@@ -1,11 +1,5 @@
 -- Powers, product by product.
-use Rattle.std.proofs.Common.{◌≡◌, ℕ, suc, ◌+◌, ◌-◌, ◌<◌, ◌∷◌, replicate, Ok, sym, ap, ◌∙◌, arith}
-use Rattle.definitions.specs.Poly.{Poly}
-use Rattle.nc_polynomial.specs.declared.fault.PolyFault.{PolyFault}
-use Rattle.nc_polynomial.specs.Faults.{Explains}
-use Rattle.nc_polynomial.specs.Product.{product_result}
-use Rattle.expressions.specs.Polynomials.{product_from}
-use Rattle.expressions.specs.Results.{◌>>=◌}
+use Rattle.expressions.proofs.Prelude.{◌≡◌, ℕ, suc, ◌+◌, ◌-◌, ◌<◌, ◌∷◌, replicate, Ok, sym, ap, ◌∙◌, arith, Poly, PolyFault, Explains, product_result, product_from, ◌>>=◌}
 use Rattle.expressions.proofs.PolynomialLoops.{explains-on}
 
 -- the first of the copies that are left

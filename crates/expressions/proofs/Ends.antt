@@ -1,13 +1,6 @@
 -- The ends of signatures are objects of the quiver.
-use Rattle.std.proofs.Common.{ℕ, nat_eq, List, [], ◌∷◌, Option, Some, None, Result, Ok, Err, IfOk}
-use Rattle.std.proofs.lemmas.Bool.{cond_both}
-use Rattle.quiver.specs.declared.named.Sig.{Sig}
-use Rattle.statement_tokens.specs.declared.place.Spot.{Spot}
-use Rattle.statement_syntax.specs.declared.tree.Mark.{Mark}
-use Rattle.statement_syntax.specs.declared.tree.Mark.TheVariants.{Adjoint, Power}
-use Rattle.expressions.specs.declared.fault.SignatureFault.{SignatureFault}
-use Rattle.expressions.specs.Results.{◌>>=◌}
-use Rattle.expressions.specs.Signatures.{HasObjects, same_ends, is_repeated, repeated, mark_signature, marked_signature, product_step, sum_step}
+use Rattle.expressions.proofs.Prelude.{ℕ, nat_eq, List, [], ◌∷◌, Option, Some, None, Result, Ok, Err, IfOk, cond_both, Sig, Spot, Mark, Adjoint, Power, SignatureFault, ◌>>=◌, HasObjects, same_ends, is_repeated, repeated, mark_signature, marked_signature, sum_step}
+use Rattle.expressions.specs.Signatures.{product_step}
 
 module _ (n : ℕ) where
   objects-repeated : (first caret : Spot) (s : Option Sig) → HasObjects n s → IfOk (repeated first caret s) (HasObjects n)

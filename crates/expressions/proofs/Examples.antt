@@ -1,18 +1,7 @@
 -- The definitions at small expressions that were worked out by hand.
-use Rattle.std.proofs.Common.{◌≡◌, ℕ, pos, negsuc, true, false, List, [], ◌∷◌, Option, Some, None, Ok, Err, refl, ap, ◌∙◌}
-use Rattle.quiver.specs.Declarations.{Declaration, object, arrow, quiver_of}
-use Rattle.statement_tokens.specs.declared.place.Spot.{Spot}
-use Rattle.statement_syntax.specs.declared.tree.Mark.{Mark}
-use Rattle.statement_syntax.specs.declared.tree.Mark.TheVariants.{Adjoint, Power}
-use Rattle.statement_syntax.specs.declared.tree.Name.{Name}
-use Rattle.statement_syntax.specs.declared.tree.Number.{Number}
+use Rattle.expressions.proofs.Prelude.{◌≡◌, ℕ, pos, negsuc, true, false, List, [], ◌∷◌, Option, Some, None, Ok, Err, refl, ap, ◌∙◌, Declaration, object, arrow, quiver_of, Spot, Mark, Adjoint, Power, Name, Number, Factor, roll-Term, out-roll-Term, ◌>>=◌, letter_of, object_of, not_composable, sum_mismatch, open_zero, from_to, Part, marked_signature, product_signature, sum_from, sides_signature, term_signature, letter_poly, marked_poly, product_poly, scaled_by, total, term_poly, factor_poly}
 use Rattle.statement_syntax.specs.declared.tree.Primary.{Letter}
-use Rattle.statement_syntax.specs.declared.tree.Factor.{Factor}
-use Rattle.statement_syntax.specs.declared.tree.Term.{Term, roll-Term, out-roll-Term}
-use Rattle.expressions.specs.Results.{◌>>=◌}
-use Rattle.abbreviations.specs.Names.{letter_of, object_of}
-use Rattle.expressions.specs.Signatures.{not_composable, sum_mismatch, open_zero, from_to, Part, marked_signature, product_signature, sum_from, sides_signature, term_signature}
-use Rattle.expressions.specs.Polynomials.{letter_poly, marked_poly, product_poly, scaled_by, total, term_poly, factor_poly}
+use Rattle.statement_syntax.specs.declared.tree.Term.{Term}
 use Rattle.expressions.proofs.Trees.{each, factor_part, poly-term, signature-term}
 
 -- the objects U and V and the maps a : U -> V and x : V -> U: the letters are [U] = 0, [V] = 1, a = 2, a' = 3, x = 4, x' = 5.

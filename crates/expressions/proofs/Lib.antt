@@ -1,3 +1,4 @@
+mod Prelude
 mod Examples
 pub mod Trees
 pub mod Sequences

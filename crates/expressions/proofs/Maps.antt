@@ -1,18 +1,6 @@
 -- The letters of the declared maps come after the identities, and each before its adjoint.
-use Rattle.std.proofs.Common.{◌≡◌, ◌⊎◌, inl, inr, ℕ, ◌+◌, ◌≤◌, Bool, true, false, cond, List, [], ◌∷◌, ◌++◌, length, Option, Some, sym, refl, ap, subst, ◌∙◌, arith}
+use Rattle.expressions.proofs.Prelude.{◌≡◌, ◌⊎◌, inl, inr, ℕ, ◌+◌, ◌≤◌, Bool, true, false, cond, List, [], ◌∷◌, ◌++◌, length, Option, Some, sym, refl, ap, subst, ◌∙◌, arith, list_all, lookup, bytes_eq, star, Letter, Named, Map, Declaration, object, arrow, letters_of, object_count, LetterEntry, letter_table, named_in, quiver_of, is_arrow, objects_first, ObjectsFirst, letter_in, is_named, letters_from, names_from, letter_in_seam, longer, star-quiver_of}
 use Rattle.std.proofs.lemmas.List.{append_assoc}
-use Rattle.std.specs.List.{list_all}
-use Rattle.std.specs.Map.{lookup}
-use Rattle.std.specs.Str.{bytes_eq}
-use Rattle.definitions.specs.Quiver.{star}
-use Rattle.word_core.specs.declared.letter.Letter.{Letter}
-use Rattle.quiver.specs.declared.named.Named.{Named}
-use Rattle.quiver.specs.declared.named.Named.TheVariants.{Map}
-use Rattle.quiver.specs.Declarations.{Declaration, object, arrow, letters_of, object_count, LetterEntry, letter_table, named_in, quiver_of, is_arrow, objects_first, ObjectsFirst}
-use Rattle.quiver.specs.Tables.{letter_in}
-use Rattle.quiver.proofs.Found.{is_named}
-use Rattle.quiver.proofs.Growth.{letters_from, names_from, letter_in_seam, longer}
-use Rattle.quiver.proofs.Letters.{star-quiver_of}
 
 map_number : (x y : Letter) → ◌≡◌ {A = Named} (Map x) (Map y) → x.0 ≡ y.0
 map_number x y e = let same : x ≡ y = cc in ap (λ l. l.0) same

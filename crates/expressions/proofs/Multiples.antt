@@ -1,16 +1,6 @@
 -- Multiples by the number below all coefficients.
-use Rattle.std.proofs.Common.{◌≡◌, ◌≢◌, ◌≤◌, ◌*◌, ℕ, zero, suc, ℤ, pos, negsuc, neg_ℤ, ◌*ℤ◌, false, cond, nat_lt, List, [], ◌∷◌, slice_get, Some, Err, refl, ap, ◌∙◌, arith}
-use Rattle.std.proofs.lemmas.Bool.{le-ltb}
-use Rattle.std.proofs.Math.IntN.{negsuc-*ℤ-pos, negsuc-*ℤ-negsuc}
-use Rattle.std.specs.Int.RustNames.{unsigned_abs}
-use Rattle.std.specs.List.{All}
-use Rattle.coef_int.specs.Range.{is_coefficient}
-use Rattle.coef_int.specs.Operations.{product_of, first_overflow}
-use Rattle.definitions.specs.Poly.{Poly, Term}
+use Rattle.expressions.proofs.Prelude.{◌≡◌, ◌≢◌, ◌≤◌, ◌*◌, ℕ, zero, suc, ℤ, pos, negsuc, neg_ℤ, ◌*ℤ◌, false, cond, nat_lt, List, [], ◌∷◌, slice_get, Some, Err, refl, ap, ◌∙◌, arith, le-ltb, negsuc-*ℤ-pos, negsuc-*ℤ-negsuc, unsigned_abs, All, is_coefficient, product_of, first_overflow, Poly, Term, scaled, products, unless_overflow, sized, multiple_result}
 use Rattle.nc_polynomial.specs.declared.fault.PolyFault.TheVariants as fault
-use Rattle.nc_polynomial.specs.Terms.{scaled, products}
-use Rattle.nc_polynomial.specs.Faults.{unless_overflow, sized}
-use Rattle.nc_polynomial.specs.Arithmetic.{multiple_result}
 
 at_least : (a n : ℕ) → a ≤ a * suc n
 at_least a n = omega arith

@@ -1,17 +1,8 @@
 -- The loops over the terms of a sum, the factors of a term and the marks of a factor compute their polynomial.
-use Rattle.std.proofs.Common.{◌≡◌, ◌<◌, ◌≤◌, ◌+◌, ℕ, List, [], ◌∷◌, ◌++◌, length, map, drop, get_or, Bool, Result, Ok, Err, MatchResult, refl, sym, ap, subst, ◌∙◌, arith}
-use Rattle.std.proofs.lemmas.List.{map-append}
-use Rattle.definitions.specs.Poly.{Poly}
-use Rattle.nc_polynomial.specs.declared.fault.PolyFault.{PolyFault}
+use Rattle.expressions.proofs.Prelude.{◌≡◌, ◌<◌, ◌≤◌, ◌+◌, ℕ, List, [], ◌∷◌, ◌++◌, length, map, drop, get_or, Bool, Result, Ok, Err, MatchResult, refl, sym, ap, subst, ◌∙◌, arith, map-append, Poly, PolyFault, Explains, Declaration, Factor, out-Term, Sum, out-Sum, ◌>>=◌, product_poly, scaled_by, Summand, total, is_negative, sum_poly, term_poly, factor_poly}
 use Rattle.nc_polynomial.specs.declared.fault.PolyFault.TheVariants as fault
 use Rattle.nc_polynomial.specs.declared.poly.Poly as code
-use Rattle.nc_polynomial.specs.Faults.{Explains}
-use Rattle.quiver.specs.Declarations.{Declaration}
-use Rattle.statement_syntax.specs.declared.tree.Factor.{Factor}
-use Rattle.statement_syntax.specs.declared.tree.Term.{Term, out-Term}
-use Rattle.statement_syntax.specs.declared.tree.Sum.{Sum, out-Sum}
-use Rattle.expressions.specs.Results.{◌>>=◌}
-use Rattle.expressions.specs.Polynomials.{product_poly, scaled_by, Summand, total, is_negative, sum_poly, term_poly, factor_poly}
+use Rattle.statement_syntax.specs.declared.tree.Term.{Term}
 use Rattle.expressions.proofs.Trees.{each, summand, poly-sum, poly-term, sign-term}
 use Rattle.expressions.proofs.Sequences.{made-none, made-next, made-fault, made-end}
 

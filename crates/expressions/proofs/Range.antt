@@ -1,22 +1,5 @@
 -- The letters of a polynomial are letters of the quiver.
-use Rattle.std.proofs.Common.{◌≡◌, ◌<◌, ℕ, Bool, true, false, cond, List, Ok, Some, sym, subst}
-use Rattle.std.specs.List.{All}
-use Rattle.definitions.specs.Poly.{Poly}
-use Rattle.definitions.specs.Quiver.{star}
-use Rattle.word_core.specs.declared.letter.Letter.{Letter}
-use Rattle.word_core.specs.Letters.{IsOver}
-use Rattle.quiver.specs.declared.named.Named.TheVariants.{Map}
-use Rattle.quiver.specs.Declarations.{Declaration, named_in, letter_count, letter_at, quiver_of, IsDeclared}
-use Rattle.quiver.proofs.Found.{is_named}
-use Rattle.quiver.proofs.Identities.{identity_in_range}
-use Rattle.quiver.proofs.Letters.{letter_is, in_range_from_table, star-quiver_of}
-use Rattle.statement_syntax.specs.declared.tree.Mark.{Mark}
-use Rattle.statement_syntax.specs.declared.tree.Mark.TheVariants.{Adjoint}
-use Rattle.statement_syntax.specs.declared.tree.Primary.{Primary}
-use Rattle.abbreviations.specs.Names.{are_names_of_primary}
-use Rattle.expressions.specs.Polynomials.{mark_poly, primary_poly}
-use Rattle.expressions.specs.declared.powers.Marked.{Marked}
-use Rattle.expressions.specs.Due.{due_poly}
+use Rattle.expressions.proofs.Prelude.{◌≡◌, ◌<◌, ℕ, Bool, true, false, cond, List, Ok, Some, sym, subst, All, Poly, star, Letter, IsOver, Map, Declaration, named_in, letter_count, letter_at, quiver_of, IsDeclared, is_named, identity_in_range, letter_is, in_range_from_table, star-quiver_of, Mark, Adjoint, Primary, are_names_of_primary, mark_poly, primary_poly, Marked, due_poly}
 use Rattle.expressions.proofs.Sequences.{same_value}
 use Rattle.expressions.proofs.Letters.{over-primary, over-mark_poly}
 

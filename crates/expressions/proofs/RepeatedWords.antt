@@ -1,7 +1,6 @@
 -- Words that are repeated.
-use Rattle.std.proofs.Common.{◌≡◌, ◌≢◌, ℕ, zero, suc, ◌+◌, ◌*◌, ◌/◌, ◌%◌, List, ◌++◌, length, sym, ap, ◌∙◌, arith, append-nil, append_assoc}
-use Rattle.std.proofs.lemmas.List.{length-append}
-use Rattle.expressions.specs.Repeated.{repeated_word}
+use Rattle.expressions.proofs.Prelude.{◌≡◌, ◌≢◌, ℕ, zero, suc, ◌+◌, ◌*◌, ◌/◌, ◌%◌, List, ◌++◌, length, sym, ap, ◌∙◌, arith, append_assoc, length-append, repeated_word}
+use Rattle.std.proofs.Common.{append-nil}
 
 repeated-sum : (m n : ℕ) (w : List ℕ) → repeated_word (m + n) w ≡ repeated_word m w ++ repeated_word n w
 repeated-sum m zero w = let none : m + 0 ≡ m = omega arith in ap (λ k. repeated_word k w) none ∙ sym (append-nil (repeated_word m w))

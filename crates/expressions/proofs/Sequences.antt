@@ -1,8 +1,5 @@
 -- One result after another, and the results for all items of a list.
-use Rattle.std.proofs.Common.{◌≡◌, ◌<◌, ◌≤◌, ◌+◌, ℕ, List, [], ◌∷◌, ◌++◌, length, drop, get_or, Result, Ok, Err, refl, sym, ap, subst, ◌∙◌, append_assoc}
-use Rattle.nc_polynomial.proofs.Steps.{drop_next}
-use Rattle.std.proofs.lemmas.List.{append-nil, drop_all}
-use Rattle.expressions.specs.Results.{◌>>=◌}
+use Rattle.expressions.proofs.Prelude.{◌≡◌, ◌<◌, ◌≤◌, ◌+◌, ℕ, List, [], ◌∷◌, ◌++◌, length, drop, get_or, Result, Ok, Err, refl, sym, ap, subst, ◌∙◌, append_assoc, drop_next, append-nil, drop_all, ◌>>=◌}
 use Rattle.expressions.proofs.Trees.{each}
 
 module _ {A B C E : Type 0} (f : A → Result B E) (k : List B → Result C E) where

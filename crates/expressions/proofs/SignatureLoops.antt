@@ -1,14 +1,7 @@
 -- The loops over the terms of a sum and the factors of a term compute their signature.
-use Rattle.std.proofs.Common.{◌≡◌, ◌≢◌, ◌<◌, ◌≤◌, ◌+◌, ℕ, List, [], ◌∷◌, length, drop, get_or, Option, None, Result, Ok, Err, refl, sym, ap, ◌∙◌, arith}
-use Rattle.quiver.specs.declared.named.Sig.{Sig}
-use Rattle.quiver.specs.Declarations.{Declaration}
-use Rattle.statement_tokens.specs.declared.place.Spot.{Spot}
-use Rattle.statement_syntax.specs.declared.tree.Factor.{Factor}
-use Rattle.statement_syntax.specs.declared.tree.Term.{Term, out-Term}
-use Rattle.statement_syntax.specs.declared.tree.Sum.{Sum, out-Sum}
-use Rattle.expressions.specs.declared.fault.SignatureFault.{SignatureFault}
-use Rattle.expressions.specs.Results.{◌>>=◌}
-use Rattle.expressions.specs.Signatures.{Part, product_from, product_signature, product_step, sum_from, sum_step, sum_signature, term_signature, term_at, factor_signature}
+use Rattle.expressions.proofs.Prelude.{◌≡◌, ◌≢◌, ◌<◌, ◌≤◌, ◌+◌, ℕ, List, [], ◌∷◌, length, drop, get_or, Option, None, Result, Ok, Err, refl, sym, ap, ◌∙◌, arith, Sig, Declaration, Spot, Factor, out-Term, Sum, out-Sum, SignatureFault, ◌>>=◌, Part, product_signature, sum_from, sum_step, sum_signature, term_signature, term_at, factor_signature}
+use Rattle.statement_syntax.specs.declared.tree.Term.{Term}
+use Rattle.expressions.specs.Signatures.{product_from, product_step}
 use Rattle.expressions.proofs.Trees.{each, factor_part, term_part, signature-sum, signature-term, place-term}
 use Rattle.expressions.proofs.Sequences.{loop-next, loop-fault, loop-end}
 

@@ -1,29 +1,6 @@
 -- Descending terms and one more, which is inserted after all that are above it.
-use Rattle.std.proofs.Common.{◌≡◌, ◌≢◌, ℕ, zero, suc, ◌+◌, ◌<◌, ◌≤◌, ℤ, pos, ◌+ℤ◌, List, [], ◌∷◌, ◌++◌, length, take, drop, get_or, Option, Some, None, Result, Ok, Err, sym, refl, ap, subst, ◌∙◌, arith}
-use Rattle.std.proofs.Math.IntN.{+ℤ_idl, +ℤ_idr}
-use Rattle.std.proofs.Math.Seq.{drop-cons}
-use Rattle.std.proofs.lemmas.Cmp.{back_total}
-use Rattle.std.proofs.lemmas.List.{get_or-drop, length-drop}
-use Rattle.std.proofs.lemmas.List.Elements.{All-head, All-tail, All-drop}
-use Rattle.std.proofs.lemmas.List.Sorted.{searchable_from_sorted}
-use Rattle.std.specs.List.{All, AllWithin, HoldsAt, insert}
-use Rattle.std.specs.List.Sorted.{IsNonDecreasingBy, IsBinarySearchResult}
-use Rattle.std.specs.Ordering.{is_lt, ordering_index}
-use Rattle.std.specs.declared.cmp.Ordering.{Ordering}
-use Rattle.std.specs.declared.cmp.Ordering.TheVariants.{Less, Equal, Greater}
-use Rattle.coef_int.specs.declared.Overflow.{Overflow}
-use Rattle.coef_int.specs.Range.{IsCoefficient}
-use Rattle.coef_int.specs.Operations.{sum_of, first_overflow}
-use Rattle.word_core.specs.Canonical.{word_cmp, word_cmp_total}
-use Rattle.word_core.proofs.Order.{word_cmp-same, word_cmp-itself, word_cmp-turned, word_cmp-turned_back}
-use Rattle.definitions.specs.Poly.{Term}
-use Rattle.nc_polynomial.specs.declared.fault.PolyFault.{PolyFault}
+use Rattle.expressions.proofs.Prelude.{◌≡◌, ◌≢◌, ℕ, zero, suc, ◌+◌, ◌<◌, ◌≤◌, ℤ, pos, ◌+ℤ◌, List, [], ◌∷◌, ◌++◌, length, take, drop, get_or, Option, Some, None, Result, Ok, Err, sym, refl, ap, subst, ◌∙◌, arith, +ℤ_idl, +ℤ_idr, drop-cons, back_total, get_or-drop, length-drop, All-head, All-tail, All-drop, searchable_from_sorted, All, AllWithin, HoldsAt, insert, IsNonDecreasingBy, IsBinarySearchResult, is_lt, ordering_index, Ordering, Less, Equal, Greater, Overflow, IsCoefficient, sum_of, first_overflow, word_cmp, word_cmp_total, word_cmp-same, word_cmp-itself, word_cmp-turned, word_cmp-turned_back, Term, PolyFault, Pair, keep, by_order, aligned, totals, total_operations, unless_overflow, IsShaped, first-fails, join, total_from, checked-fits, keep-append, keep-nonzero}
 use Rattle.nc_polynomial.specs.declared.fault.PolyFault.TheVariants as fault
-use Rattle.nc_polynomial.specs.Terms.{Pair, keep, by_order, aligned, totals, total_operations}
-use Rattle.nc_polynomial.specs.Faults.{unless_overflow}
-use Rattle.nc_polynomial.specs.Shape.{IsShaped}
-use Rattle.nc_polynomial.proofs.Chains.{first-fails}
-use Rattle.nc_polynomial.proofs.Checked.{join, total_from, checked-fits, keep-append, keep-nonzero}
 
 -- terms put before a sum
 join-none : (r : Result (List Term) PolyFault) → r ≡ join [] r

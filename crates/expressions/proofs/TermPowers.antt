@@ -1,19 +1,6 @@
 -- The power of one term, by its coefficient and its word factor by factor, and the power of zero.
-use Rattle.std.proofs.Common.{◌≡◌, ◌≢◌, ℕ, zero, suc, ◌+◌, ◌-◌, ◌<◌, ◌≤◌, ℤ, pos, negsuc, ◌*ℤ◌, true, List, [], ◌∷◌, ◌++◌, length, replicate, Ok, sym, ap, subst, ◌∙◌, arith, refl}
-use Rattle.std.proofs.lemmas.List.{length-append}
-use Rattle.coef_int.specs.declared.Overflow.{Overflow}
-use Rattle.coef_int.specs.Operations.{product_of}
-use Rattle.coef_int.specs.Range.{IsCoefficient}
-use Rattle.definitions.specs.Poly.{Poly, Term}
-use Rattle.nc_polynomial.specs.declared.fault.PolyFault.{PolyFault}
+use Rattle.expressions.proofs.Prelude.{◌≡◌, ◌≢◌, ℕ, zero, suc, ◌+◌, ◌-◌, ◌<◌, ◌≤◌, ℤ, pos, negsuc, ◌*ℤ◌, true, List, [], ◌∷◌, ◌++◌, length, replicate, Ok, sym, ap, subst, ◌∙◌, arith, refl, length-append, Overflow, product_of, IsCoefficient, Poly, Term, PolyFault, Explains, size_fault, product_step, product_result, IsCanonical, canonical_none, one-left_fault, long_word, overflows-one, from-step, canonical-step, step_refuses, product_from, product_poly, power_poly, repeated_word}
 use Rattle.nc_polynomial.specs.declared.fault.PolyFault.TheVariants as fault
-use Rattle.nc_polynomial.specs.Faults.{Explains, size_fault}
-use Rattle.nc_polynomial.specs.Product.{product_step, product_result}
-use Rattle.nc_polynomial.specs.Shape.{IsCanonical}
-use Rattle.nc_polynomial.proofs.OneTerm.{canonical_none, one-left_fault, long_word, overflows-one, from-step, canonical-step}
-use Rattle.nc_polynomial.proofs.Products.{step_refuses}
-use Rattle.expressions.specs.Polynomials.{product_from, product_poly, power_poly}
-use Rattle.expressions.specs.Repeated.{repeated_word}
 use Rattle.expressions.proofs.Copies.{power-next, power-fault}
 
 module _ (t : Term) (canonical : IsCanonical (t ∷ [])) where

@@ -1,18 +1,8 @@
 -- The sum of the terms so far, in a loop that adds them up one by one.
-use Rattle.std.proofs.Common.{◌≡◌, ◌<◌, ◌+◌, ℕ, true, false, Bool, List, [], ◌∷◌, ◌++◌, length, drop, get_or, Result, Ok, Err, IfOk, IfErr, MatchResult, refl, sym, ap, subst, ◌∙◌}
-use Rattle.std.proofs.lemmas.List.{map-append}
-use Rattle.definitions.specs.Poly.{Poly}
-use Rattle.nc_polynomial.specs.declared.fault.PolyFault.{PolyFault}
+use Rattle.expressions.proofs.Prelude.{◌≡◌, ◌<◌, ◌+◌, ℕ, true, false, Bool, List, [], ◌∷◌, ◌++◌, length, drop, get_or, Result, Ok, Err, IfOk, IfErr, MatchResult, refl, sym, ap, subst, ◌∙◌, map-append, Poly, PolyFault, sum_result, Explains, IsCanonical, sum_with_none, Declaration, out-Term, Sum, out-Sum, ◌>>=◌, Summand, signed, total, term_poly}
 use Rattle.nc_polynomial.specs.declared.poly.Poly as code
-use Rattle.nc_polynomial.specs.Arithmetic.{sum_result}
-use Rattle.nc_polynomial.specs.Faults.{Explains}
-use Rattle.nc_polynomial.specs.Shape.{IsCanonical}
-use Rattle.nc_polynomial.proofs.RunningSums.{sum_with_none}
-use Rattle.quiver.specs.Declarations.{Declaration}
-use Rattle.statement_syntax.specs.declared.tree.Term.{Term, out-Term}
-use Rattle.statement_syntax.specs.declared.tree.Sum.{Sum, out-Sum}
-use Rattle.expressions.specs.Results.{◌>>=◌}
-use Rattle.expressions.specs.Polynomials.{Summand, signed, sum_step, sum_from, total, term_poly}
+use Rattle.statement_syntax.specs.declared.tree.Term.{Term}
+use Rattle.expressions.specs.Polynomials.{sum_step, sum_from}
 use Rattle.expressions.proofs.Trees.{each, summand}
 use Rattle.expressions.proofs.Canonical.{canonical-negated}
 use Rattle.expressions.proofs.PolynomialLoops.{summands_of, explains-on, sum-next}

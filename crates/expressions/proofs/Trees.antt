@@ -1,13 +1,6 @@
 -- What the definitions of signatures and of polynomials say of a sum and of a term, by lists in place of rows.
-use Rattle.std.proofs.Common.{◌≡◌, ℕ, ◌<◌, length, get_or, Bool, true, false, ◌&&◌, ◌||◌, List, [], ◌∷◌, None, Result, Ok, refl, sym, ap, ◌∙◌}
-use Rattle.nc_polynomial.specs.declared.fault.PolyFault.{PolyFault}
-use Rattle.quiver.specs.Declarations.{Declaration, quiver_of}
-use Rattle.statement_syntax.specs.declared.tree.Factor.{Factor}
-use Rattle.statement_syntax.specs.declared.tree.Term.{Term, Term', out-Term, outs-Term', Row_of-Factor, end_of-Factor, more_of-Factor, items-the_row-Factor, items_shown-the_row-Factor-1}
-use Rattle.statement_syntax.specs.declared.tree.Sum.{Sum, Sum', out-Sum, Row_of-Term, end_of-Term, more_of-Term, items-the_row-Term, items_shown-the_row-Term-0}
-use Rattle.expressions.specs.declared.fault.SignatureFault.{SignatureFault}
-use Rattle.abbreviations.proofs.Trees.{of_sum, of_term}
-use Rattle.expressions.specs.Results.{◌>>=◌}
+use Rattle.expressions.proofs.Prelude.{◌≡◌, ℕ, ◌<◌, length, get_or, Bool, true, false, ◌&&◌, ◌||◌, List, [], ◌∷◌, None, Result, Ok, refl, sym, ap, ◌∙◌, PolyFault, Declaration, quiver_of, Factor, Term', out-Term, outs-Term', Row_of-Factor, end_of-Factor, more_of-Factor, items-the_row-Factor, items_shown-the_row-Factor-1, Sum, Sum', out-Sum, Row_of-Term, end_of-Term, more_of-Term, items-the_row-Term, items_shown-the_row-Term-0, SignatureFault, of_sum, of_term, ◌>>=◌}
+use Rattle.statement_syntax.specs.declared.tree.Term.{Term}
 use Rattle.expressions.specs.Signatures as signatures
 use Rattle.expressions.specs.Polynomials as polynomials
 

@@ -1,39 +1,6 @@
 -- Two adjoints change nothing: the adjoint of an adjoint is the polynomial itself, and none of them is a fault.
-use Rattle.std.proofs.Common.{◌≡◌, ℕ, zero, suc, ◌+◌, ◌<◌, ◌≤◌, ◌⊎◌, inl, inr, pos, negsuc, ℤ, ◌+ℤ◌, Bool, true, false, not, cond, List, [], ◌∷◌, ◌++◌, length, map, get_or, None, Ok, sym, refl, ap, ap₂, subst, ◌∙◌, arith, append_assoc}
-use Rattle.std.proofs.Math.IntN.{+ℤ_idl}
-use Rattle.std.proofs.lemmas.Bool.{cases_lt}
-use Rattle.std.proofs.lemmas.List.{length-append, length-map, get_or_past}
-use Rattle.std.proofs.lemmas.List.Elements.{All-nil, All-cons, All-head, All-tail, All-map}
-use Rattle.std.specs.Cmp.{both_ways}
-use Rattle.std.specs.List.{All}
-use Rattle.std.specs.declared.cmp.Ordering.{Ordering}
-use Rattle.std.specs.declared.cmp.Ordering.TheVariants.{Less, Equal, Greater}
-use Rattle.coef_int.specs.Operations.{sum_of, first_overflow}
-use Rattle.coef_int.specs.Range.{IsCoefficient}
-use Rattle.word_core.specs.Canonical.{word_cmp}
-use Rattle.definitions.specs.Generators.{adjoint_word, adjoint_poly}
-use Rattle.definitions.specs.Poly.{Poly, Term, word_eq, coefficient_of}
-use Rattle.definitions.specs.Quiver.{Quiver, star}
-use Rattle.definitions.proofs.Adjoints.{adjoint_word-append}
-use Rattle.definitions.proofs.Linear.{word_eq-same, word_eq-true}
+use Rattle.expressions.proofs.Prelude.{◌≡◌, ℕ, zero, suc, ◌+◌, ◌<◌, ◌≤◌, ◌⊎◌, inl, inr, pos, negsuc, ℤ, ◌+ℤ◌, Bool, true, false, not, cond, List, [], ◌∷◌, ◌++◌, length, map, get_or, None, Ok, sym, refl, ap, ap₂, subst, ◌∙◌, arith, append_assoc, +ℤ_idl, cases_lt, length-append, length-map, get_or_past, All-nil, All-cons, All-head, All-tail, All-map, both_ways, All, Ordering, Less, Equal, Greater, sum_of, first_overflow, IsCoefficient, word_cmp, adjoint_word, adjoint_poly, Poly, Term, word_eq, coefficient_of, Quiver, star, adjoint_word-append, word_eq-same, word_eq-true, collected, additions, collection_result, unless_overflow, sized, IsCanonical, Pair, only_right, keep, by_order, aligned, aligned_at, totals, first-fits, coefficient_of-collected, descending-collected, nonzero-collected, collected-end, AreDistinct, none_listed, distinct-descending, ranged-descending, coefficient-ranged, IsInRange, IsDescending-from_recursion, recursion_from_IsDescending, all_middle, word_eq-turned, Declaration, IsDeclared, quiver_of, stars_are_involution, Mark, Adjoint, Marked, due_poly, due_marked, mark_poly, marked_poly, ◌>>=◌}
 use Rattle.nc_polynomial.specs.declared.poly.Poly as code
-use Rattle.nc_polynomial.specs.Collected.{collected, additions, collection_result}
-use Rattle.nc_polynomial.specs.Faults.{unless_overflow, sized}
-use Rattle.nc_polynomial.specs.Shape.{IsCanonical}
-use Rattle.nc_polynomial.specs.Terms.{Pair, only_right, keep, by_order, aligned, aligned_at, totals}
-use Rattle.nc_polynomial.proofs.Chains.{first-fits}
-use Rattle.nc_polynomial.proofs.CollectedTerms.{coefficient_of-collected, descending-collected, nonzero-collected, collected-end}
-use Rattle.nc_polynomial.proofs.Distinct.{AreDistinct, none_listed, distinct-descending, ranged-descending, coefficient-ranged}
-use Rattle.nc_polynomial.proofs.Shapes.{IsInRange, IsDescending-from_recursion, recursion_from_IsDescending, all_middle}
-use Rattle.nc_polynomial.proofs.Words.{word_eq-turned}
-use Rattle.quiver.specs.Declarations.{Declaration, IsDeclared, quiver_of}
-use Rattle.adjoint_rules.proofs.Stars.{stars_are_involution}
-use Rattle.statement_syntax.specs.declared.tree.Mark.{Mark}
-use Rattle.statement_syntax.specs.declared.tree.Mark.TheVariants.{Adjoint}
-use Rattle.expressions.specs.declared.powers.Marked.{Marked}
-use Rattle.expressions.specs.Due.{due_poly, due_marked}
-use Rattle.expressions.specs.Polynomials.{mark_poly, marked_poly}
-use Rattle.expressions.specs.Results.{◌>>=◌}
 use Rattle.expressions.proofs.Canonical.{in_range-adjoint_poly}
 use Rattle.expressions.proofs.Words.{words-adjoint, words-collected}
 use Rattle.expressions.proofs.WordRuns.{sized-canonical, bind-assoc}

@@ -1,28 +1,9 @@
 -- The words of an expression's polynomial are paths of its signature, and it has none where the expression is open.
-use Rattle.std.proofs.Common.{◌≡◌, ◌<◌, ℕ, ℤ, pos, true, List, [], ◌∷◌, Option, Some, None, Ok, refl, sym, subst, ◌∙◌}
-use Rattle.std.proofs.lemmas.Bool.{and_parts}
-use Rattle.std.proofs.lemmas.List.Elements.{All-replicate}
-use Rattle.definitions.specs.Poly.{Poly}
-use Rattle.definitions.specs.Quiver.{Quiver, IsQuiver, source, is_path}
-use Rattle.quiver.specs.declared.named.Sig.{Sig}
-use Rattle.quiver.specs.declared.named.Named.{Named}
-use Rattle.quiver.specs.declared.named.Named.TheVariants.{Object, Map}
-use Rattle.quiver.specs.Declarations.{Declaration, named_in, object_count, quiver_of, identity_in, ObjectsFirst, IsDeclared}
-use Rattle.quiver.proofs.Counts.{letters-quiver_of}
-use Rattle.quiver.proofs.Found.{is_named}
-use Rattle.quiver.proofs.Identities.{identity_is, is_quiver}
-use Rattle.quiver.proofs.TypedTerms.{typed_from_paths}
-use Rattle.statement_tokens.specs.declared.place.Spot.{Spot}
-use Rattle.statement_syntax.specs.declared.tree.Primary.{Primary, Letter, Identity, Bracket}
-use Rattle.statement_syntax.specs.declared.tree.Term.{Term, Term', Row_of-Factor, end_of-Factor, more_of-Factor}
-use Rattle.statement_syntax.specs.declared.tree.Sum.{Sum, Sum', Row_of-Term, end_of-Term, more_of-Term}
-use Rattle.expressions.specs.Results.{◌>>=◌}
-use Rattle.abbreviations.specs.Names.{is_map, is_object, letter_number, object_number, letter_of, object_of, are_names, are_names_of_terms, are_names_of_term, are_names_of_factors, are_names_of_primary}
+use Rattle.expressions.proofs.Prelude.{◌≡◌, ◌<◌, ℕ, ℤ, pos, true, List, [], ◌∷◌, Option, Some, None, Ok, refl, sym, subst, ◌∙◌, and_parts, All-replicate, Poly, Quiver, IsQuiver, source, is_path, Sig, Named, Object, Map, Declaration, named_in, object_count, quiver_of, identity_in, ObjectsFirst, IsDeclared, letters-quiver_of, is_named, identity_is, is_quiver, typed_from_paths, Spot, Primary, Identity, Bracket, Term', Row_of-Factor, end_of-Factor, more_of-Factor, Sum, Sum', Row_of-Term, end_of-Term, more_of-Term, ◌>>=◌, is_map, is_object, letter_number, object_number, letter_of, object_of, are_names, are_names_of_terms, are_names_of_term, are_names_of_factors, are_names_of_primary, from_to, letter_signature, marked_signature, sides_signature, equation_signature, sum_at, letter_poly, marked_poly, scaled_by, equation_poly, EquationsAreTyped}
+use Rattle.statement_syntax.specs.declared.tree.Primary.{Letter}
+use Rattle.statement_syntax.specs.declared.tree.Term.{Term}
 use Rattle.expressions.specs.Signatures as signatures
-use Rattle.expressions.specs.Signatures.{from_to, letter_signature, marked_signature, sides_signature, equation_signature, sum_at}
 use Rattle.expressions.specs.Polynomials as polynomials
-use Rattle.expressions.specs.Polynomials.{letter_poly, marked_poly, scaled_by, equation_poly}
-use Rattle.expressions.specs.Laws.{EquationsAreTyped}
 use Rattle.expressions.proofs.Sequences.{bound, same_value, OfValues, values-ok, values-bind}
 use Rattle.expressions.proofs.Words.{weaker, words-difference}
 use Rattle.expressions.proofs.Letters.{words-scaled_by}

@@ -1,23 +1,7 @@
 -- The words of sums, products and adjoints are paths of their signatures.
-use Rattle.std.proofs.Common.{◌≡◌, ◌<◌, ℕ, zero, suc, ℤ, pos, negsuc, Bool, true, false, cond, nat_eq, List, [], ◌∷◌, ◌++◌, Option, Some, None, Result, Ok, Err, refl, sym, ap, ap₂, subst, ◌∙◌, eqb-true, eq-eqb, lt-ltb}
-use Rattle.std.proofs.lemmas.Bool.{and_parts, and_from}
-use Rattle.std.proofs.lemmas.List.Elements.{All-nil}
-use Rattle.std.specs.Option.{option_map}
-use Rattle.definitions.specs.Poly.{Poly}
-use Rattle.definitions.specs.Quiver.{Quiver, IsQuiver, letters, source, target, is_path}
-use Rattle.definitions.specs.Generators.{adjoint_word, adjoint_poly}
-use Rattle.definitions.proofs.Adjoints.{is_path-adjoint_word}
-use Rattle.definitions.proofs.Paths.{leads-append}
-use Rattle.nc_polynomial.specs.Product.{product_result}
-use Rattle.quiver.specs.declared.named.Sig.{Sig}
-use Rattle.statement_tokens.specs.declared.place.Spot.{Spot}
-use Rattle.statement_syntax.specs.declared.tree.Mark.{Mark}
-use Rattle.statement_syntax.specs.declared.tree.Mark.TheVariants.{Adjoint, Power}
-use Rattle.expressions.specs.declared.fault.SignatureFault.{SignatureFault}
+use Rattle.expressions.proofs.Prelude.{◌≡◌, ◌<◌, ℕ, zero, suc, ℤ, pos, negsuc, Bool, true, false, cond, nat_eq, List, [], ◌∷◌, ◌++◌, Option, Some, None, Result, Ok, Err, refl, sym, ap, ap₂, subst, ◌∙◌, eqb-true, eq-eqb, lt-ltb, and_parts, and_from, All-nil, option_map, Poly, Quiver, IsQuiver, letters, source, target, is_path, adjoint_word, adjoint_poly, is_path-adjoint_word, leads-append, product_result, Sig, Spot, Mark, Adjoint, Power, SignatureFault, Part, from_to, same_ends, turned, is_repeated, repeated, mark_signature, marked_signature, power_poly, mark_poly, marked_poly, Summand, signed}
 use Rattle.expressions.specs.Signatures as signatures
-use Rattle.expressions.specs.Signatures.{Part, from_to, same_ends, turned, is_repeated, repeated, mark_signature, marked_signature}
 use Rattle.expressions.specs.Polynomials as polynomials
-use Rattle.expressions.specs.Polynomials.{power_poly, mark_poly, marked_poly, Summand, signed}
 use Rattle.expressions.proofs.Sequences.{bound, same_value, OfValues, values-ok, values-bind}
 use Rattle.expressions.proofs.Words.{Words, weaker, words-collection, words-adjoint, words-product}
 use Rattle.expressions.proofs.Letters.{words-signed, words-sum_step, words-power_poly}

@@ -1,14 +1,6 @@
 -- The power of one term whose coefficient is 1 or -1: no product is too large.
-use Rattle.std.proofs.Common.{◌≡◌, ◌≢◌, ◌⊎◌, inl, inr, ℕ, zero, suc, ◌+◌, ◌-◌, ◌*◌, ◌%◌, ◌<◌, ◌≤◌, ◌^◌, ℤ, pos, negsuc, ◌*ℤ◌, Bool, true, false, nat_lt, [], ◌∷◌, length, replicate, unsigned_abs, Result, Ok, refl, sym, ap, ap₂, subst, ◌∙◌, arith}
-use Rattle.std.proofs.lemmas.Bool.{ltb-true, ltb-false}
-use Rattle.coef_int.specs.Range.{IsCoefficient}
-use Rattle.definitions.specs.Poly.{Poly, Term}
-use Rattle.nc_polynomial.specs.declared.fault.PolyFault.{PolyFault}
-use Rattle.nc_polynomial.specs.Faults.{Explains, size_fault}
-use Rattle.nc_polynomial.specs.Shape.{IsCanonical}
-use Rattle.nc_polynomial.proofs.Units.{one-*ℤ}
-use Rattle.expressions.specs.Polynomials.{product_from, product_poly}
-use Rattle.expressions.specs.Repeated.{repeated_word}
+use Rattle.expressions.proofs.Prelude.{◌≡◌, ◌≢◌, ◌⊎◌, inl, inr, ℕ, zero, suc, ◌+◌, ◌-◌, ◌*◌, ◌%◌, ◌<◌, ◌≤◌, ◌^◌, ℤ, pos, negsuc, ◌*ℤ◌, Bool, true, false, nat_lt, [], ◌∷◌, length, replicate, Result, Ok, refl, sym, ap, ap₂, subst, ◌∙◌, arith, ltb-true, ltb-false, IsCoefficient, Poly, Term, PolyFault, Explains, size_fault, IsCanonical, one-*ℤ, product_from, product_poly, repeated_word}
+use Rattle.std.proofs.Common.{unsigned_abs}
 use Rattle.expressions.proofs.RepeatedWords.{length-repeated}
 use Rattle.expressions.proofs.TermPowers.{short-alone, term-too_long, term-next, canonical-next}
 

@@ -1,22 +1,7 @@
 -- Products with words: letters in a row are one word first.
-use Rattle.std.proofs.Common.{◌≡◌, ◌≢◌, ℕ, ◌+◌, ◌<◌, ◌≤◌, pos, ℤ, ◌*ℤ◌, Bool, true, false, cond, ◌||◌, nat_lt, List, [], ◌∷◌, ◌++◌, length, Result, Ok, Err, sym, refl, ap, ap₂, subst, ◌∙◌, arith, append-nil, append_assoc}
-use Rattle.std.proofs.lemmas.Bool.{le-ltb, ltb-true, ltb-false, or_right}
-use Rattle.std.proofs.lemmas.Bool.Decides.{nat_tests}
-use Rattle.std.proofs.lemmas.Int.{ints}
-use Rattle.std.proofs.lemmas.List.{length-append, length-map}
-use Rattle.coef_int.specs.Range.{IsCoefficient}
-use Rattle.definitions.specs.Poly.{Term, poly_between}
-use Rattle.nc_polynomial.specs.Arithmetic.{combined}
-use Rattle.nc_polynomial.specs.Faults.{sized, has_long_word, size_fault}
-use Rattle.nc_polynomial.specs.Product.{and_then, product_from, product_result}
-use Rattle.nc_polynomial.specs.Shape.{IsCanonical}
-use Rattle.nc_polynomial.specs.Limits.{word_limit, term_limit}
-use Rattle.nc_polynomial.proofs.Around.{shaped-between}
-use Rattle.nc_polynomial.proofs.OneTerm.{behind, times_term, canonical_none, long_word, from-step, canonical-step, made-step}
-use Rattle.nc_polynomial.proofs.Products.{canonical_sized}
-use Rattle.nc_polynomial.proofs.RunningSums.{not_long}
-use Rattle.nc_polynomial.proofs.Shapes.{all_middle}
-use Rattle.expressions.specs.Results.{◌>>=◌}
+use Rattle.expressions.proofs.Prelude.{◌≡◌, ◌≢◌, ℕ, ◌+◌, ◌<◌, ◌≤◌, pos, ℤ, ◌*ℤ◌, Bool, true, false, cond, ◌||◌, nat_lt, List, [], ◌∷◌, ◌++◌, length, Result, Ok, Err, sym, refl, ap, ap₂, subst, ◌∙◌, arith, append_assoc, le-ltb, ltb-true, ltb-false, or_right, nat_tests, ints, length-append, length-map, IsCoefficient, Term, poly_between, combined, sized, has_long_word, size_fault, and_then, product_result, IsCanonical, word_limit, term_limit, shaped-between, behind, times_term, canonical_none, long_word, from-step, canonical-step, made-step, canonical_sized, not_long, all_middle, ◌>>=◌}
+use Rattle.std.proofs.Common.{append-nil}
+use Rattle.nc_polynomial.specs.Product.{product_from}
 
 -- with so few terms only a long word is refused
 by_words : (p : List Term) → length p ≤ term_limit → sized p ≡ cond (has_long_word p) (Err (size_fault true)) (Ok p)

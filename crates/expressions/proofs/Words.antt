@@ -1,20 +1,7 @@
 -- What holds of the words of all operands holds of the words of a result.
-use Rattle.std.proofs.Common.{◌≡◌, ℕ, ℤ, pos, List, [], ◌∷◌, ◌++◌, Result, Ok, Err, get_or, sym, refl, subst}
-use Rattle.std.proofs.lemmas.List.{append-nil}
-use Rattle.std.proofs.lemmas.List.Elements.{All-nil, All-head, All-tail, All-map, All-replicate, All-weaker}
-use Rattle.std.specs.List.{All}
-use Rattle.definitions.specs.Poly.{Poly, poly_between}
-use Rattle.definitions.specs.Quiver.{Quiver}
-use Rattle.definitions.specs.Generators.{adjoint_word, adjoint_poly}
-use Rattle.nc_polynomial.specs.declared.fault.PolyFault.{PolyFault}
+use Rattle.expressions.proofs.Prelude.{◌≡◌, ℕ, ℤ, pos, List, [], ◌∷◌, ◌++◌, Result, Ok, Err, get_or, sym, refl, subst, append-nil, All-nil, All-head, All-tail, All-map, All-replicate, All-weaker, All, Poly, poly_between, Quiver, adjoint_word, adjoint_poly, PolyFault, scaled, products, negated, aligned, added, sums, sized, sum_result, difference_result, multiple_result, combined, collected, additions, collection_result, and_then, product_step, product_result, all-scaled, all-totals, all-aligned, no_error, sized-value, finished-value}
 use Rattle.nc_polynomial.specs.declared.fault.PolyFault.TheVariants as fault
-use Rattle.nc_polynomial.specs.Terms.{scaled, products, negated, aligned, added, sums}
-use Rattle.nc_polynomial.specs.Faults.{sized}
-use Rattle.nc_polynomial.specs.Arithmetic.{sum_result, difference_result, multiple_result, combined}
-use Rattle.nc_polynomial.specs.Collected.{collected, additions, collection_result}
-use Rattle.nc_polynomial.specs.Product.{and_then, product_step, product_from, product_result}
-use Rattle.nc_polynomial.proofs.Shapes.{all-scaled, all-totals, all-aligned}
-use Rattle.nc_polynomial.proofs.Chains.{no_error, sized-value, finished-value}
+use Rattle.nc_polynomial.specs.Product.{product_from}
 use Rattle.expressions.proofs.Sequences.{same_value}
 
 abbrev pub Words : (List ℕ → Type 0) → Poly → Type 0

@@ -1,19 +1,5 @@
 -- The letters of an equation's polynomial are those that the equation writes.
-use Rattle.std.proofs.Common.{◌≡◌, ◌<◌, ℕ, true, ◌||◌, List, Some, sym, subst, ◌∙◌, arith}
-use Rattle.std.proofs.lemmas.Bool.{or_left, or_right}
-use Rattle.std.specs.List.{All}
-use Rattle.definitions.specs.Quiver.{star, letters}
-use Rattle.word_core.specs.declared.letter.Letter.{Letter}
-use Rattle.quiver.specs.declared.named.Named.TheVariants.{Map}
-use Rattle.quiver.specs.Declarations.{Declaration, named_in, object_count, letter_count, quiver_of, identity_in, ObjectsFirst, IsDeclared}
-use Rattle.quiver.proofs.Counts.{letters-quiver_of}
-use Rattle.quiver.proofs.Found.{is_named}
-use Rattle.quiver.proofs.Identities.{identity_in_range, identity_is, is_quiver}
-use Rattle.statement_syntax.specs.declared.tree.Sum.{Sum}
-use Rattle.abbreviations.specs.Names.{are_names}
-use Rattle.abbreviations.specs.Occurrences.{has_quote, has_identity}
-use Rattle.expressions.specs.Polynomials.{sum_poly, equation_poly}
-use Rattle.expressions.specs.Laws.{IsWritten, LettersAreWritten}
+use Rattle.expressions.proofs.Prelude.{◌≡◌, ◌<◌, ℕ, true, ◌||◌, List, Some, sym, subst, ◌∙◌, arith, or_left, or_right, All, star, letters, Letter, Map, Declaration, named_in, object_count, letter_count, quiver_of, identity_in, ObjectsFirst, IsDeclared, letters-quiver_of, is_named, identity_in_range, identity_is, is_quiver, Sum, are_names, has_quote, has_identity, sum_poly, equation_poly, IsWritten, LettersAreWritten}
 use Rattle.expressions.proofs.Sequences.{OfValue, value-bind}
 use Rattle.expressions.proofs.Words.{Words, words-difference}
 use Rattle.expressions.proofs.Letters.{over-sum}

@@ -1,10 +1,5 @@
 -- Files by their places, and the shelf that keeps them.
-use Rattle.std.proofs.Common.{◌≡◌, ℕ, suc, List, [], ◌∷◌, Bool, true, false, Some, slice_get, slice_index, set, if◌then◌else◌, subst, refl}
-use Rattle.std.specs.Str.{bytes_eq}
-use Rattle.flow_io.specs.Causes.{next_count}
-use Rattle.flow_io.specs.Told.{Holds}
-use Rattle.flow_io.specs.Files.{Files, place_of, file_under}
-use Rattle.flow_io.specs.MemoryShelf.{ShelfState, with_load, with_fault}
+use Rattle.flow_io.proofs.Prelude.{◌≡◌, ℕ, suc, List, [], ◌∷◌, Bool, true, false, Some, slice_get, slice_index, set, if◌then◌else◌, subst, refl, bytes_eq, next_count, Holds, Files, place_of, file_under, ShelfState, with_load, with_fault}
 
 -- the file at the place of a name is held under the name
 pub file_under-place_of : (files : Files) (name : List ℕ) (file : List ℕ × List ℕ) → slice_get files (place_of files name) ≡ Some file → file_under files name ≡ Holds file.1

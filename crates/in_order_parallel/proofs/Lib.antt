@@ -1,2 +1,3 @@
+mod Prelude
 pub mod Zips
 pub mod Shares

@@ -1,7 +1,5 @@
 -- How many items each worker has.
-use Rattle.std.proofs.Common.{◌≡◌, ℕ, ◌<◌, ◌≤◌, ◌+◌, ◌-◌, ◌*◌, ◌/◌, ◌%◌, min, arith, ap, ◌∙◌}
-use Rattle.std.proofs.Math.Nat.{div-add-mod', mul-add, mul_comm, le-mul_of_pos_right}
-use Rattle.std.proofs.lemmas.Nat.{le-div}
+use Rattle.in_order_parallel.proofs.Prelude.{◌≡◌, ℕ, ◌<◌, ◌≤◌, ◌+◌, ◌-◌, ◌*◌, ◌/◌, ◌%◌, min, arith, ap, ◌∙◌, div-add-mod', mul-add, mul_comm, le-mul_of_pos_right, le-div}
 
 -- where there are as many items as workers, the workers after the first ones have one each at least
 pub back_is_busy : (front workers items : ℕ) → front < workers → workers ≤ items → workers - front ≤ items - (items / workers * front + min (items % workers) front)

@@ -1,7 +1,5 @@
 -- Two lists that agree place by place.
-use Rattle.std.proofs.Common.{◌≡◌, ℕ, ◌<◌, ◌+◌, List, [], ◌∷◌, ◌++◌, length, get_or, take, drop, sym, subst, ap, ◌∙◌}
-use Rattle.std.specs.List.{AllZip}
-use Rattle.std.proofs.lemmas.List.{take_more, take-append-drop}
+use Rattle.in_order_parallel.proofs.Prelude.{◌≡◌, ℕ, ◌<◌, ◌+◌, List, [], ◌∷◌, ◌++◌, length, get_or, take, drop, sym, subst, ap, ◌∙◌, AllZip, take_more, take-append-drop}
 
 module _ {A B : Type 0} (R : A → B → Type 0) where
   -- one pair of such lists after another

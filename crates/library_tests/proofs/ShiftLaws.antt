@@ -1,18 +1,5 @@
 -- Shifts are read, and read back where they are written.
-use Rattle.std.proofs.Common.{arith, ◌≡◌, List, [], ◌∷◌, Some, IsTrue, refl, codes}
-use Rattle.std.specs.List.{list_all}
-use Rattle.quiver.specs.Declarations.{Declaration, IsDeclared}
-use Rattle.block_text.specs.Back.{is_named}
-use Rattle.block_text.specs.Laws.{AreReadBack}
-use Rattle.block_text.specs.Lines.{number_limit}
-use Rattle.block_text.specs.Texts.{HasBlocks}
-use Rattle.block_text.proofs.Bounds.{bound_of}
-use Rattle.block_text.proofs.Owed.{IsReader}
-use Rattle.block_text.proofs.TextLaws.{are_read_back}
-use Rattle.block_lines.proofs.LetterReader.{letter_reader, letter_line_written}
-use Rattle.block_lines.proofs.SectionReaders.{none_read, line_read}
-use Rattle.block_lines.proofs.SectionBlocks.{number_read, block_read, number_written, none_written, line_written, block_written}
-use Rattle.library_tests.specs.Shifts.{Bound, names, numbers, flaw_of, shift_lines, other_words, shift_kind, shift_steps, shift_text, IsWritable}
+use Rattle.library_tests.proofs.Prelude.{arith, ◌≡◌, List, [], ◌∷◌, Some, IsTrue, refl, codes, list_all, Declaration, IsDeclared, is_named, AreReadBack, number_limit, HasBlocks, bound_of, IsReader, are_read_back, letter_reader, letter_line_written, none_read, line_read, number_read, block_read, number_written, none_written, line_written, block_written, Bound, names, numbers, flaw_of, shift_lines, other_words, shift_kind, shift_steps, shift_text, IsWritable}
 
 abbrev bounds : List Bound
 bounds = names ∷ numbers ∷ []

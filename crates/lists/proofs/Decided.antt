@@ -1,7 +1,5 @@
 -- What holds or doesn't.
-use Rattle.std.proofs.Common.{◌⊎◌, inl, inr, ℕ, ◌<◌, ◌≤◌, List, [], ◌∷◌, arith}
-use Rattle.std.specs.List.{AllByRecursion}
-use Rattle.std.proofs.lemmas.Bool.{cases_lt}
+use Rattle.lists.proofs.Prelude.{◌⊎◌, inl, inr, ℕ, ◌<◌, ◌≤◌, List, [], ◌∷◌, arith, AllByRecursion, cases_lt}
 
 -- it holds, or it doesn't
 abbrev pub IsDecided : Type 0 → Type 0

@@ -1,8 +1,6 @@
 -- Tests in order, and the first that fails: exactly one outcome.
-use Rattle.std.proofs.Common.{◌≡◌, ◌⊎◌, inl, inr, ℕ, zero, suc, ◌+◌, ◌<◌, ◌≤◌, List, [], ◌∷◌, length, take, All, Option, Some, None, slice_get, get_or, refl, sym, subst, ap, ◌∙◌, arith}
-use Rattle.std.proofs.lemmas.Bool.{cases_lt, cases_order}
-use Rattle.std.proofs.lemmas.List.Elements.{All-nil, All-cons, All-head, All-tail}
-use Rattle.std.proofs.lemmas.Option.{slice_get_within, slice_get_cases, get_or_from_slice_get}
+use Rattle.lists.proofs.Prelude.{◌≡◌, ◌⊎◌, inl, inr, ℕ, zero, suc, ◌+◌, ◌<◌, ◌≤◌, List, [], ◌∷◌, length, take, Option, Some, None, slice_get, get_or, refl, sym, subst, ap, ◌∙◌, arith, cases_lt, cases_order, All-nil, All-cons, All-head, All-tail, slice_get_within, slice_get_cases, get_or_from_slice_get}
+use Rattle.std.proofs.Common.{All}
 use Rattle.lists.proofs.Decided.{IsDecided}
 
 -- It passes, or is refused for one thing. Some refusals, such as want of memory, may come at any time.

@@ -1,8 +1,5 @@
 -- Two lists of which a relation holds place by place.
-use Rattle.std.proofs.Common.{◌≡◌, List, [], ◌∷◌, ◌++◌, length, refl, sym, ap₂}
-use Rattle.std.specs.List.{All, AllZip}
-use Rattle.std.proofs.lemmas.List.Elements.{All-nil, All-cons}
-use Rattle.std.proofs.lemmas.Slice.Zip.{AllZip-long}
+use Rattle.lists.proofs.Prelude.{◌≡◌, List, [], ◌∷◌, ◌++◌, length, refl, sym, ap₂, All, AllZip, All-nil, All-cons, AllZip-long}
 
 module _ {X Y : Type 0} (R : X → Y → Type 0) where
   -- what holds of no pair, and of one more where it holds of those after it

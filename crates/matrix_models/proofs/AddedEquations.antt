@@ -1,12 +1,5 @@
 -- Equations that are added to pivots, one list of them after another.
-use Rattle.std.proofs.Common.{◌≡◌, List, ◌++◌, All, length, sym, ap, subst}
-use Rattle.std.proofs.Math.Seq.{take-append_seam}
-use Rattle.std.proofs.lemmas.List.{append_assoc}
-use Rattle.std.proofs.lemmas.List.Elements.{All-take}
-use Rattle.matrix_models.specs.declared.system.LinearRow.{LinearRow}
-use Rattle.matrix_models.specs.declared.system.System.{System}
-use Rattle.matrix_models.specs.Systems.{Holds, HasNoSolution}
-use Rattle.matrix_models.specs.Pivots.{Pivots, StandFor, Add, AreAgainst, with_equations}
+use Rattle.matrix_models.proofs.Prelude.{◌≡◌, List, ◌++◌, All, length, sym, ap, subst, take-append_seam, append_assoc, All-take, LinearRow, System, Holds, HasNoSolution, Pivots, StandFor, Add, AreAgainst, with_equations}
 
 abbrev with_rows : System → List LinearRow → System
 with_rows s rows = record { modulus = s.modulus; unknowns = s.unknowns; rows = rows }

@@ -1,13 +1,6 @@
 -- The values that pivots and preferences give, and that they are the greedy solution.
-use Rattle.std.proofs.Common.{◌≡◌, ℕ, zero, suc, ◌+◌, ◌*◌, ◌%◌, ◌<◌, ◌≤◌, List, [], ◌∷◌, ◌++◌, length, get_or, Option, Some, None, ◌⊎◌, inl, inr, sym, refl, ap, ap₂, subst, ◌∙◌, arith, zero-mul, one-mul}
-use Rattle.std.proofs.lemmas.Bool.{cases_eq, cases_lt}
-use Rattle.std.proofs.lemmas.Option.{none-some}
-use Rattle.std.proofs.lemmas.List.{get_or_past, get_or_push, get_or_append_left, length_push}
+use Rattle.matrix_models.proofs.Prelude.{◌≡◌, ℕ, zero, suc, ◌+◌, ◌*◌, ◌%◌, ◌<◌, ◌≤◌, List, [], ◌∷◌, ◌++◌, length, get_or, Option, Some, None, ◌⊎◌, inl, inr, sym, refl, ap, ap₂, subst, ◌∙◌, arith, zero-mul, one-mul, cases_eq, cases_lt, none-some, get_or_past, get_or_push, get_or_append_left, length_push, All-push, total, total_same, MeetsAll, IsPivot, ArePivots}
 use Rattle.std.specs.List.{All}
-use Rattle.std.proofs.lemmas.List.Elements.{All-push}
-use Rattle.matrix_models.specs.Matrices.{total}
-use Rattle.matrix_models.specs.Totals.{total_same}
-use Rattle.matrix_models.specs.Elimination.{MeetsAll, IsPivot, ArePivots}
 
 -- The values of the unknowns before `to`: one with no pivot has its preferred value, and one with a pivot the value that its
 -- pivot asks for with the values before it.

@@ -1,10 +1,5 @@
 -- The definitions of blocks at small examples that were worked out by hand.
-use Rattle.std.proofs.Common.{◌≡◌, ℕ, zero, suc, ◌<◌, [], ◌∷◌, List, Contains, All, ◌⊎◌, inl, inr, refl, arith}
-use Rattle.std.proofs.lemmas.Bool.{eqb-true}
-use Rattle.std.proofs.lemmas.List.Elements.{All-nil, All-cons, All-contains}
-use Rattle.matrix_models.specs.declared.system.System.{System}
-use Rattle.matrix_models.specs.declared.system.LinearRow.{LinearRow}
-use Rattle.matrix_models.specs.Blocks.{IsWithin, IsOutside, IsPart, numbered, AreParts, joined}
+use Rattle.matrix_models.proofs.Prelude.{◌≡◌, ℕ, zero, suc, ◌<◌, [], ◌∷◌, List, Contains, All, ◌⊎◌, inl, inr, refl, arith, eqb-true, All-nil, All-cons, All-contains, System, LinearRow, IsWithin, IsOutside, IsPart, numbered, AreParts, joined}
 
 -- each unknown is a block
 abbrev own_block : ℕ → ℕ

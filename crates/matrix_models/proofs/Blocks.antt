@@ -1,17 +1,5 @@
 -- Blocks of unknowns that are solved apart: what holds of an equation is told by the unknowns that it has.
-use Rattle.std.proofs.Common.{◌≡◌, ◌↔◌, ℕ, zero, suc, ◌*◌, ◌%◌, ◌<◌, ◌≤◌, Bool, true, false, cond, List, [], ◌∷◌, ◌++◌, All, Contains, length, map, get_or, take, ◌⊎◌, inl, inr, refl, sym, ap, ap₂, subst, ◌∙◌, arith}
-use Rattle.std.proofs.Common.{zero-mul}
-use Rattle.std.specs.List.{range_with_len}
-use Rattle.std.proofs.lemmas.Bool.{cases_Bool, cases_eq, cases_lt, cond-true, cond-false, cond_both, eqb-true, eq-eqb}
-use Rattle.std.proofs.lemmas.List.{get_or_at, get_or_append_left, get_or_past, get_or-take, length-take-le, append_assoc, ext_get_or}
-use Rattle.std.proofs.lemmas.List.Elements.{All-contains, All-contains_itself, All-from_get_or, All-get_or, All-weaker}
-use Rattle.std.proofs.lemmas.List.FromFn.{get_or-map-range_with_len, length-map-range_with_len}
-use Rattle.matrix_models.specs.Totals.{total_same}
-use Rattle.matrix_models.specs.declared.system.LinearRow.{LinearRow}
-use Rattle.matrix_models.specs.declared.system.System.{System}
-use Rattle.matrix_models.specs.Systems.{AreValues, Holds, Solves}
-use Rattle.matrix_models.specs.Greedy.{Extends, CanTake, IsGreedy, HasGreedySolution}
-use Rattle.matrix_models.specs.Blocks.{IsWithin, IsOutside, IsPart, numbered, AreParts, HasSolution, joined}
+use Rattle.matrix_models.proofs.Prelude.{◌≡◌, ◌↔◌, ℕ, zero, suc, ◌*◌, ◌%◌, ◌<◌, ◌≤◌, Bool, true, false, cond, List, [], ◌∷◌, ◌++◌, All, Contains, length, map, get_or, take, ◌⊎◌, inl, inr, refl, sym, ap, ap₂, subst, ◌∙◌, arith, zero-mul, range_with_len, cases_Bool, cases_eq, cases_lt, cond-true, cond-false, cond_both, eqb-true, eq-eqb, get_or_at, get_or_append_left, get_or_past, get_or-take, length-take-le, append_assoc, ext_get_or, All-contains, All-contains_itself, All-from_get_or, All-get_or, All-weaker, get_or-map-range_with_len, length-map-range_with_len, total_same, LinearRow, System, AreValues, Holds, Solves, Extends, CanTake, IsGreedy, HasGreedySolution, IsWithin, IsOutside, IsPart, numbered, AreParts, HasSolution, joined}
 use Rattle.matrix_models.proofs.GreedyLists.{same_fronts}
 use Rattle.matrix_models.proofs.GreedySolutions.{can_take_own}
 use Rattle.matrix_models.proofs.GreedyExistence.{has_greedy_solution}

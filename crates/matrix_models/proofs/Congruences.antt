@@ -1,8 +1,5 @@
 -- Sums and products of numbers that are congruent modulo m.
-use Rattle.std.proofs.Common.{◌≡◌, ℕ, ◌+◌, ◌-◌, ◌*◌, ◌/◌, ◌%◌, ◌<◌, sym, ap, ap₂, ◌∙◌, arith, mod-lt, div-add-mod', mul_comm, mul_assoc, add-mul, one-mul}
-use Rattle.std.proofs.Math.Nat.{add-mul-mod_self_right, add-mod-mod}
-use Rattle.std.proofs.lemmas.Nat.{mul-mod_second}
-use Rattle.matrix_models.specs.Totals.{add_mod}
+use Rattle.matrix_models.proofs.Prelude.{◌≡◌, ℕ, ◌+◌, ◌-◌, ◌*◌, ◌/◌, ◌%◌, ◌<◌, sym, ap, ap₂, ◌∙◌, arith, mod-lt, div-add-mod', mul_comm, mul_assoc, add-mul, one-mul, add-mul-mod_self_right, add-mod-mod, mul-mod_second, add_mod}
 
 pub add_alike : (m a b c d : ℕ) → a % m ≡ b % m → c % m ≡ d % m → (a + c) % m ≡ (b + d) % m
 add_alike m a b c d first second = sym (add_mod m a c) ∙ ap₂ (λ x y. (x + y) % m) first second ∙ add_mod m b d

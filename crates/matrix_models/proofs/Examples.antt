@@ -1,7 +1,5 @@
 -- The definitions at small examples that were worked out by hand.
-use Rattle.std.proofs.Common.{◌≡◌, [], ◌∷◌, Some, None, refl}
-use Rattle.matrix_models.specs.Matrix.{Matrix, entry_at, first_too_large}
-use Rattle.matrix_models.specs.Matrices.{identity_matrix, zero_matrix, matrix_sum, matrix_negative, matrix_product, transpose}
+use Rattle.matrix_models.proofs.Prelude.{◌≡◌, [], ◌∷◌, Some, None, refl, Matrix, entry_at, first_too_large, identity_matrix, zero_matrix, matrix_sum, matrix_negative, matrix_product, transpose}
 
 -- (1 2 3 | 4 0 1), modulo 5
 abbrev wide : Matrix

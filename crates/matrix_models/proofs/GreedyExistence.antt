@@ -1,11 +1,5 @@
 -- A system that has a solution has a greedy one, and one at most: values below the modulus are tried, in order.
-use Rattle.std.proofs.Common.{◌≡◌, ℕ, ◌<◌, List, length, inl, inr}
-use Rattle.std.proofs.lemmas.Bool.{cases_eq}
-use Rattle.lists.proofs.Decided.{IsDecided, both_decided, decided_by, lt_decided}
-use Rattle.lists.proofs.FirstFailure.{each_decided}
-use Rattle.matrix_models.specs.declared.system.System.{System}
-use Rattle.matrix_models.specs.Systems.{Holds, Solves}
-use Rattle.matrix_models.specs.Greedy.{HasGreedySolution, IsGreedy}
+use Rattle.matrix_models.proofs.Prelude.{◌≡◌, ℕ, ◌<◌, List, length, inl, inr, cases_eq, IsDecided, both_decided, decided_by, lt_decided, each_decided, System, Holds, Solves, HasGreedySolution, IsGreedy}
 use Rattle.matrix_models.proofs.GreedyLists.{IsGreedyList, greedy_or_none, one_greedy}
 
 module _ (s : System) where

@@ -1,10 +1,5 @@
 -- Lists of a length that pass: at most one of them is greedy, and where it can be told whether a list passes, one is or none passes.
-use Rattle.std.proofs.Common.{◌≡◌, ℕ, zero, suc, ◌+◌, ◌<◌, ◌≤◌, List, [], ◌∷◌, ◌++◌, length, get_or, take, drop, All, ◌⊎◌, inl, inr, refl, sym, ap, subst, ◌∙◌, arith}
-use Rattle.std.proofs.Math.Seq.{take-append_seam}
-use Rattle.std.proofs.lemmas.Bool.{cases_eq, cases_lt}
-use Rattle.std.proofs.lemmas.List.{append-nil, append_assoc, length-append, length_push, get_or_at, take_all, take_more, take_more_same, take-append-drop}
-use Rattle.std.proofs.lemmas.List.Elements.{All-get_or}
-use Rattle.lists.proofs.Decided.{IsDecided, decided_by}
+use Rattle.matrix_models.proofs.Prelude.{◌≡◌, ℕ, zero, suc, ◌+◌, ◌<◌, ◌≤◌, List, [], ◌∷◌, ◌++◌, length, get_or, take, drop, All, ◌⊎◌, inl, inr, refl, sym, ap, subst, ◌∙◌, arith, take-append_seam, cases_eq, cases_lt, append-nil, append_assoc, length-append, length_push, get_or_at, take_all, take_more, take_more_same, take-append-drop, All-get_or, IsDecided, decided_by}
 
 -- the least number that passes, or none below the bound does
 record LeastOf (Q : ℕ → Type 0) : Type 0 where

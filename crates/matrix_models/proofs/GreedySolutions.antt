@@ -1,15 +1,5 @@
 -- What is left by pivots is a greedy solution.
-use Rattle.std.proofs.Common.{◌≡◌, ℕ, ◌+◌, ◌*◌, ◌%◌, ◌<◌, ◌≤◌, List, [], ◌∷◌, ◌++◌, length, get_or, take, drop, Option, Some, None, sym, refl, ap, ap₂, subst, ◌∙◌, arith}
-use Rattle.std.proofs.lemmas.List.{get_or_at, get_or_append_left, get_or-take, length-take-le, take_more, take-append-drop, append_assoc}
-use Rattle.std.proofs.lemmas.List.Elements.{All-get_or}
-use Rattle.std.proofs.Math.Nat.{mod-eq_of_lt}
-use Rattle.matrix_models.specs.Matrices.{total}
-use Rattle.matrix_models.specs.Totals.{total_same}
-use Rattle.matrix_models.specs.declared.system.System.{System}
-use Rattle.matrix_models.specs.Systems.{Solves}
-use Rattle.matrix_models.specs.Greedy.{CanTake, IsGreedy}
-use Rattle.matrix_models.specs.Elimination.{MeetsAll, ArePivots}
-use Rattle.matrix_models.specs.Pivots.{Pivots, StandFor}
+use Rattle.matrix_models.proofs.Prelude.{◌≡◌, ℕ, ◌+◌, ◌*◌, ◌%◌, ◌<◌, ◌≤◌, List, [], ◌∷◌, ◌++◌, length, get_or, take, drop, Option, Some, None, sym, refl, ap, ap₂, subst, ◌∙◌, arith, get_or_at, get_or_append_left, get_or-take, length-take-le, take_more, take-append-drop, append_assoc, All-get_or, mod-eq_of_lt, total, total_same, System, Solves, CanTake, IsGreedy, MeetsAll, ArePivots, Pivots, StandFor}
 use Rattle.matrix_models.proofs.Congruences.{add_cancel}
 use Rattle.matrix_models.proofs.Primes.{field_positive}
 use Rattle.matrix_models.proofs.BackSolving.{IsSolvedTo, pivot_sum, meets-solved}

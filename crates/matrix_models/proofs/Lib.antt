@@ -1,3 +1,4 @@
+mod Prelude
 pub mod Building
 pub mod Products
 pub mod Congruences

@@ -1,11 +1,6 @@
 -- That the moduli of fields are primes, by trial division up to their roots, and inverses modulo a prime.
-use Rattle.std.proofs.Common.{◌≡◌, ℕ, zero, suc, ◌+◌, ◌-◌, ◌*◌, ◌/◌, ◌%◌, ◌<◌, ◌≤◌, Bool, true, not, ◌&&◌, nat_eq, List, [], ◌∷◌, ◌⊎◌, inl, inr, sym, refl, ap, subst, ◌∙◌, arith, mod-lt, div-add-mod', mul-add, mul_assoc}
-use Rattle.std.proofs.lemmas.Bool.{cases_eq, cases_lt, and_parts, or_cases, eqb-true, eq-eqb, not-true, both_ways, false≢true}
-use Rattle.std.proofs.lemmas.Nat.{mul-le, mul-mod_first, mul-mod_second}
-use Rattle.std.proofs.Math.Nat.{mul-mod_left, mul-mod_right, mod-add-div, mod_self, mod-eq_of_lt, div-le_self}
-use Rattle.std.specs.List.{list_any, AllByRecursion}
+use Rattle.matrix_models.proofs.Prelude.{◌≡◌, ℕ, zero, suc, ◌+◌, ◌-◌, ◌*◌, ◌/◌, ◌%◌, ◌<◌, ◌≤◌, Bool, true, not, ◌&&◌, nat_eq, List, [], ◌∷◌, ◌⊎◌, inl, inr, sym, refl, ap, subst, ◌∙◌, arith, mod-lt, div-add-mod', mul-add, mul_assoc, cases_eq, cases_lt, and_parts, or_cases, eqb-true, eq-eqb, not-true, both_ways, false≢true, mul-le, mul-mod_first, mul-mod_second, mul-mod_left, mul-mod_right, mod-add-div, mod_self, mod-eq_of_lt, div-le_self, list_any, AllByRecursion, field_moduli, IsFieldModulus}
 use Rattle.matrix_models.proofs.Congruences.{add_cancel}
-use Rattle.definitions.specs.Moduli.{field_moduli, IsFieldModulus}
 
 -- no number from 2 on below m divides it
 abbrev IsPrime : ℕ → Type 0

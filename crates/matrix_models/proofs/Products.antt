@@ -1,7 +1,5 @@
 -- Sums that are kept below the square of m.
-use Rattle.std.proofs.Common.{◌≡◌, ℕ, suc, ◌+◌, ◌-◌, ◌*◌, ◌%◌, ◌≤◌, sym, ap, ◌∙◌, arith}
-use Rattle.std.proofs.Math.Nat.{add-mul-mod_self_right}
-use Rattle.matrix_models.specs.Matrices.{total}
+use Rattle.matrix_models.proofs.Prelude.{◌≡◌, ℕ, suc, ◌+◌, ◌-◌, ◌*◌, ◌%◌, ◌≤◌, sym, ap, ◌∙◌, arith, add-mul-mod_self_right, total}
 use Rattle.matrix_models.proofs.Congruences.{add_alike}
 
 -- up to a multiple of m

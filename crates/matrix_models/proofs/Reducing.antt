@@ -1,10 +1,5 @@
 -- A row that is reduced from its last unknown down to its first: how far it is, and what a step keeps.
-use Rattle.std.proofs.Common.{◌≡◌, ℕ, ◌+◌, ◌-◌, ◌*◌, ◌%◌, ◌<◌, ◌≤◌, List, length, get_or, set, Option, Some, None, ◌⊎◌, inl, inr, sym, ap, ap₂, ◌∙◌, arith, mul-zero}
-use Rattle.std.proofs.lemmas.Bool.{cases_eq, cases_lt}
-use Rattle.std.proofs.lemmas.Nat.{mul-le}
-use Rattle.std.proofs.lemmas.List.{get_or-set_same, get_or-set_other, get_or_past, length-set}
-use Rattle.std.proofs.Math.Nat.{zero-mod}
-use Rattle.matrix_models.specs.Elimination.{ArePivots, AreSmall, HasNoFactor, MeetsAlike}
+use Rattle.matrix_models.proofs.Prelude.{◌≡◌, ℕ, ◌+◌, ◌-◌, ◌*◌, ◌%◌, ◌<◌, ◌≤◌, List, length, get_or, set, Option, Some, None, ◌⊎◌, inl, inr, sym, ap, ap₂, ◌∙◌, arith, mul-zero, cases_eq, cases_lt, mul-le, get_or-set_same, get_or-set_other, get_or_past, length-set, zero-mod, ArePivots, AreSmall, HasNoFactor, MeetsAlike}
 use Rattle.matrix_models.proofs.Rows.{meets-multiple, meets-congruent, set-congruent, without-unknown, alike_through}
 use Rattle.matrix_models.proofs.Stretches.{none_set, none_before_multiple}
 

@@ -1,20 +1,5 @@
 -- Rows and equations, pivots that stand for a system, and what they say of its solutions.
-use Rattle.std.proofs.Common.{◌≡◌, ◌↔◌, ℕ, ◌+◌, ◌*◌, ◌-◌, ◌%◌, ◌<◌, ◌≤◌, ◌^◌, List, [], ◌∷◌, ◌++◌, length, get_or, take, replicate}
-use Rattle.std.proofs.Common.{Option, None, All, ◌⊎◌, inl, inr, sym, refl, ap, subst, ◌∙◌, arith}
-use Rattle.std.proofs.lemmas.Bool.{cases_lt}
-use Rattle.std.proofs.lemmas.Option.{none-some}
-use Rattle.std.proofs.lemmas.List.{get_or_past, get_or-replicate, length-replicate, length-take-le, get_or_append_left}
-use Rattle.std.proofs.lemmas.List.{get_or_push, length_push, take_all, take_more}
-use Rattle.std.proofs.Math.Seq.{take-append_seam}
-use Rattle.std.proofs.lemmas.List.Elements.{All-get_or, All-nil, All-push, All-take}
-use Rattle.definitions.specs.Moduli.{IsFieldModulus}
-use Rattle.matrix_models.specs.Matrices.{total}
-use Rattle.matrix_models.specs.Totals.{total_same}
-use Rattle.matrix_models.specs.declared.system.LinearRow.{LinearRow}
-use Rattle.matrix_models.specs.declared.system.System.{System}
-use Rattle.matrix_models.specs.Systems.{IsEquation, Holds, Solves, HasNoSolution}
-use Rattle.matrix_models.specs.Elimination.{Meets, MeetsAll, ArePivots, IsAdded, IsAgainst, row_of, equation_of}
-use Rattle.matrix_models.specs.Pivots.{Pivots, AreRows, StandFor, no_equations, with_equations}
+use Rattle.matrix_models.proofs.Prelude.{◌≡◌, ◌↔◌, ℕ, ◌+◌, ◌*◌, ◌-◌, ◌%◌, ◌<◌, ◌≤◌, ◌^◌, List, [], ◌∷◌, ◌++◌, length, get_or, take, replicate, Option, None, All, ◌⊎◌, inl, inr, sym, refl, ap, subst, ◌∙◌, arith, cases_lt, none-some, get_or_past, get_or-replicate, length-replicate, length-take-le, get_or_append_left, get_or_push, length_push, take_all, take_more, take-append_seam, All-get_or, All-nil, All-push, All-take, IsFieldModulus, total, total_same, LinearRow, System, IsEquation, Holds, Solves, HasNoSolution, Meets, MeetsAll, ArePivots, IsAdded, IsAgainst, row_of, equation_of, Pivots, AreRows, StandFor, no_equations, with_equations}
 
 -- equations as rows
 meets-row_of : (m n : ℕ) (equation : LinearRow) (values : List ℕ) → length equation.factors ≡ n → Holds m values equation ↔ Meets m n (λ k. get_or values k 0) (row_of equation)

@@ -1,13 +1,5 @@
 -- What a step of elimination keeps: multiples of pivots are taken off a row, a row is multiplied, and a new pivot is set.
-use Rattle.std.proofs.Common.{◌≡◌, ◌↔◌, ℕ, ◌+◌, ◌-◌, ◌*◌, ◌%◌, ◌<◌, List, length, get_or, set, Option, Some, None, All, ◌⊎◌, inl, inr, sym, ap, ap₂, subst, ◌∙◌, arith, add-mul, mul_assoc, mul_comm, zero-mul}
-use Rattle.std.proofs.lemmas.Bool.{cases_eq}
-use Rattle.std.proofs.lemmas.Option.{none-some}
-use Rattle.std.proofs.Math.Nat.{mod-mod, zero-mod}
-use Rattle.std.proofs.lemmas.Nat.{mul-mod_first}
-use Rattle.std.proofs.lemmas.List.{get_or-set_same, get_or-set_other}
-use Rattle.matrix_models.specs.Matrices.{total}
-use Rattle.matrix_models.specs.Totals.{total_mod, total_zero, total_add, total_mul, total_mul_right}
-use Rattle.matrix_models.specs.Elimination.{Meets, MeetsAll, IsPivot, ArePivots, AreSmall, IsFree, HasNoFactor, MeetsAlike, IsAdded, IsAgainst}
+use Rattle.matrix_models.proofs.Prelude.{◌≡◌, ◌↔◌, ℕ, ◌+◌, ◌-◌, ◌*◌, ◌%◌, ◌<◌, List, length, get_or, set, Option, Some, None, All, ◌⊎◌, inl, inr, sym, ap, ap₂, subst, ◌∙◌, arith, add-mul, mul_assoc, mul_comm, zero-mul, cases_eq, none-some, mod-mod, zero-mod, mul-mod_first, get_or-set_same, get_or-set_other, total, total_mod, total_zero, total_add, total_mul, total_mul_right, Meets, MeetsAll, IsPivot, ArePivots, AreSmall, IsFree, HasNoFactor, MeetsAlike, IsAdded, IsAgainst}
 use Rattle.matrix_models.proofs.Congruences.{complete, add_alike, mul_alike, add_cancel, mul_cancel}
 
 -- a multiple of a pivot

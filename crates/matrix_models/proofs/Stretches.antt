@@ -1,12 +1,5 @@
 -- What is 0 outside of a stretch of a row stays as it is, and where a row's first factor can stand after a step.
-use Rattle.std.proofs.Common.{◌≡◌, ℕ, zero, suc, ◌+◌, ◌-◌, ◌*◌, ◌%◌, ◌<◌, ◌≤◌, List, length, get_or, set, Option, Some, None, ◌⊎◌, inl, inr, refl, sym, ap, ap₂, subst, ◌∙◌, arith, mul-zero, zero-mul}
-use Rattle.std.specs.Int.RustNames.{bit_or}
-use Rattle.std.proofs.lemmas.Bool.{cases_eq, cases_lt}
-use Rattle.std.proofs.lemmas.Nat.{le_or_l, le_or_r}
-use Rattle.std.proofs.lemmas.List.{get_or-set_same, get_or-set_other, get_or_past, length-set}
-use Rattle.std.proofs.Math.Nat.{zero-mod}
-use Rattle.matrix_models.specs.Matrices.{total}
-use Rattle.matrix_models.specs.Elimination.{IsPivot, HasNoFactor, LiesIn, AreFirsts}
+use Rattle.matrix_models.proofs.Prelude.{◌≡◌, ℕ, zero, suc, ◌+◌, ◌-◌, ◌*◌, ◌%◌, ◌<◌, ◌≤◌, List, length, get_or, set, Option, Some, None, ◌⊎◌, inl, inr, refl, sym, ap, ap₂, subst, ◌∙◌, arith, mul-zero, zero-mul, bit_or, cases_eq, cases_lt, le_or_l, le_or_r, get_or-set_same, get_or-set_other, get_or_past, length-set, zero-mod, total, IsPivot, HasNoFactor, LiesIn, AreFirsts}
 use Rattle.matrix_models.proofs.Rows.{no_factor_sum}
 
 -- a number that becomes 0, or is 0

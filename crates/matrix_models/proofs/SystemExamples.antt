@@ -1,10 +1,5 @@
 -- The definitions of systems and of greedy solutions at small examples that were worked out by hand.
-use Rattle.std.proofs.Common.{◌≡◌, ℕ, zero, suc, ◌<◌, ◌≤◌, [], ◌∷◌, get_or, refl, arith, zero-mul}
-use Rattle.std.proofs.lemmas.List.Elements.{All-nil, All-cons}
-use Rattle.matrix_models.specs.declared.system.System.{System}
-use Rattle.matrix_models.specs.declared.system.LinearRow.{LinearRow}
-use Rattle.matrix_models.specs.Systems.{Holds, Solves, HasNoSolution}
-use Rattle.matrix_models.specs.Greedy.{CanTake, IsGreedy}
+use Rattle.matrix_models.proofs.Prelude.{◌≡◌, ℕ, zero, suc, ◌<◌, ◌≤◌, [], ◌∷◌, get_or, refl, arith, zero-mul, All-nil, All-cons, System, LinearRow, Holds, Solves, HasNoSolution, CanTake, IsGreedy}
 
 -- x + y = 3 modulo 7
 abbrev sum : LinearRow

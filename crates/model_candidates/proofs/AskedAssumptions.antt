@@ -1,30 +1,5 @@
 -- The assumptions of a problem that are linear in its solved maps, found one after the other.
-use Rattle.std.proofs.Common.{◌≡◌, ℕ, ◌+◌, ◌<◌, ℤ, pos, Bool, true, false, cond, not, ◌&&◌, List, [], ◌∷◌, ◌++◌, get_or, take, filter, Some, slice_get, option_map, refl, sym, ap, subst, ◌∙◌}
-use Rattle.std.specs.List.{All, AllByRecursion}
-use Rattle.std.proofs.lemmas.Bool.{and_parts}
-use Rattle.std.proofs.lemmas.List.{take_more}
-use Rattle.std.proofs.lemmas.List.Elements.{All-from_get_or, All-from_recursion, All-get_or}
-use Rattle.std.proofs.lemmas.Option.{get_or_from_slice_get, slice_get-map, slice_get_within}
-use Rattle.definitions.specs.Quiver.{Quiver, letters, IsTyped, is_path}
-use Rattle.definitions.specs.Soundness.{HasSignature, HasValueZeroAt}
-use Rattle.definitions.proofs.UnitSound.{all-append}
-use Rattle.nc_polynomial.specs.declared.poly.Poly.{Poly}
-use Rattle.quiver.specs.declared.named.Sig.{Sig}
-use Rattle.quiver.specs.Declarations.{quiver_of}
-use Rattle.representations.proofs.Suffixes.{letter_within}
-use Rattle.representations.proofs.TypedTerms.{words_are_paths}
-use Rattle.matrix_models.specs.Matrices.{matrices}
-use Rattle.matrix_models.specs.declared.model.Model.{Model}
-use Rattle.adjoint_rules.specs.declared.problem.Problem.{Problem}
-use Rattle.adjoint_rules.specs.Problem.{polynomials, IsTypedOf, HasObjects}
-use Rattle.adjoint_rules.proofs.Generators.{assumptions_have_signatures}
-use Rattle.model_candidates.specs.declared.plan.LinearAssumption.{LinearAssumption}
-use Rattle.model_checker.specs.Models.{IsZeroIn}
-use Rattle.model_checker.specs.Representations.{representation_of}
-use Rattle.model_candidates.specs.Candidates.{is_linear}
-use Rattle.model_candidates.specs.Plans.{AreAsked, AreLinearAssumptions, IsAssumption, IsZeroAtSignature, has_few, is_asked}
-use Rattle.model_checker.proofs.Places.{all_at, zip_at}
-use Rattle.model_checker.proofs.Values.{zero_from_value}
+use Rattle.model_candidates.proofs.Prelude.{◌≡◌, ℕ, ◌+◌, ◌<◌, ℤ, pos, Bool, true, false, cond, not, ◌&&◌, List, [], ◌∷◌, ◌++◌, get_or, take, filter, Some, slice_get, option_map, refl, sym, ap, subst, ◌∙◌, All, AllByRecursion, and_parts, take_more, All-from_get_or, All-from_recursion, All-get_or, get_or_from_slice_get, slice_get-map, slice_get_within, Quiver, letters, IsTyped, is_path, HasSignature, HasValueZeroAt, all-append, Poly, Sig, quiver_of, letter_within, words_are_paths, matrices, Model, Problem, polynomials, IsTypedOf, HasObjects, assumptions_have_signatures, LinearAssumption, IsZeroIn, representation_of, is_linear, AreAsked, AreLinearAssumptions, IsAssumption, IsZeroAtSignature, has_few, is_asked, all_at, zip_at, zero_from_value}
 use Rattle.model_candidates.proofs.AssumptionTerms.{all_kept, of_kept}
 
 -- with one polynomial more

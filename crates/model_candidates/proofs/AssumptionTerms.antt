@@ -1,18 +1,5 @@
 -- The terms of an assumption, and that it is zero where all linear assumptions are.
-use Rattle.std.proofs.Common.{◌≡◌, ℕ, zero, suc, ◌<◌, ℤ, Bool, true, false, cond, List, [], ◌∷◌, length, get_or, filter, refl, sym, ◌∙◌, arith, true≢false}
-use Rattle.std.specs.List.{AllByRecursion}
-use Rattle.std.proofs.lemmas.List.Elements.{recursion_from_All}
-use Rattle.definitions.specs.Quiver.{is_path}
-use Rattle.nc_polynomial.specs.Shape.{IsCanonical}
-use Rattle.nc_polynomial.specs.declared.poly.Poly.{Poly}
-use Rattle.quiver.specs.Declarations.{quiver_of}
-use Rattle.representations.proofs.TypedTerms.{words_are_paths}
-use Rattle.matrix_models.specs.declared.model.Model.{Model}
-use Rattle.adjoint_rules.specs.Problem.{polynomials}
-use Rattle.adjoint_rules.specs.declared.problem.Problem.{Problem}
-use Rattle.model_checker.specs.Models.{IsZeroIn}
-use Rattle.model_candidates.specs.declared.plan.LinearAssumption.{LinearAssumption}
-use Rattle.model_candidates.specs.Plans.{IsAssumption, IsZeroAtSignature, has_few, linear_assumptions, terms_of}
+use Rattle.model_candidates.proofs.Prelude.{◌≡◌, ℕ, zero, suc, ◌<◌, ℤ, Bool, true, false, cond, List, [], ◌∷◌, length, get_or, filter, refl, sym, ◌∙◌, arith, true≢false, AllByRecursion, recursion_from_All, is_path, IsCanonical, Poly, quiver_of, words_are_paths, Model, polynomials, Problem, IsZeroIn, LinearAssumption, IsAssumption, IsZeroAtSignature, has_few, linear_assumptions, terms_of}
 use Rattle.model_candidates.proofs.SolvedWords.{fewer}
 
 -- what holds of all polynomials that are kept holds of each that is

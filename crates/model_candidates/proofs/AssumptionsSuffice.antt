@@ -1,37 +1,6 @@
 -- In a model the linear assumptions are zero exactly where all linear generators are: adjoints are zero with what they are the adjoints of, and the relations of
 -- identities are zero anyway.
-use Rattle.std.proofs.Common.{◌≡◌, ◌≢◌, ℕ, ◌+◌, ◌<◌, ◌≤◌, ℤ, negsuc, pos, Bool, true, false, cond, ◌||◌, nat_eq, nat_le, List, [], ◌∷◌, ◌++◌, length, get_or, filter, refl, sym, ap, ap₂, subst, ◌∙◌, arith, eqb-true, eq-eqb}
-use Rattle.std.specs.List.{All, AllByRecursion, AllZip, flat_map, list_all, list_any}
-use Rattle.std.proofs.lemmas.Bool.{le-leb}
-use Rattle.std.proofs.lemmas.List.{length-append}
-use Rattle.std.proofs.lemmas.List.Elements.{filter-append}
-use Rattle.std.proofs.lemmas.List.Sums.{list_all-from_AllPass}
-use Rattle.definitions.specs.Poly.{SamePolynomial, coefficient_of, poly_eq, poly_multiple, word_eq}
-use Rattle.definitions.specs.Quiver.{Quiver, IsQuiver, letters, star}
-use Rattle.definitions.specs.Generators.{adjoint_word, adjoint_poly, new_adjoint, units}
-use Rattle.definitions.specs.Representation.{Representation, StarRepresents}
-use Rattle.definitions.specs.Soundness.{IsStarSound}
-use Rattle.definitions.proofs.Adjoints.{star_star_each, adjoint_word-adjoint_word, coefficient_of-adjoint_poly}
-use Rattle.definitions.proofs.Linear.{word_eq-true, coefficient_other}
-use Rattle.definitions.proofs.StarSound.{all-append, star_sound}
-use Rattle.word_core.specs.declared.letter.Letter.{Letter}
-use Rattle.nc_polynomial.specs.declared.poly.Poly.{Poly}
-use Rattle.nc_polynomial.proofs.Distinct.{distinct-descending, words_listed}
-use Rattle.nc_polynomial.proofs.Shapes.{recursion_from_IsDescending}
-use Rattle.nc_polynomial.proofs.Unique.{canonical_unique}
-use Rattle.quiver.specs.Declarations.{quiver_of}
-use Rattle.matrix_models.specs.Matrix.{Matrix}
-use Rattle.matrix_models.specs.Matrices.{matrices, transpose}
-use Rattle.matrix_models.specs.Laws.{matrices_laws, transpose_laws}
-use Rattle.matrix_models.specs.declared.model.Model.{Model}
-use Rattle.adjoint_rules.specs.declared.problem.Problem.{Problem}
-use Rattle.adjoint_rules.specs.Problem.{polynomials, numbers, generators_in}
-use Rattle.adjoint_rules.proofs.Generators.{posed_quiver, marked_are_objects, zero_along}
-use Rattle.model_checker.specs.Models.{IsModel, HaveMatrices, IsZeroIn}
-use Rattle.model_checker.specs.Representations.{representation_of}
-use Rattle.model_checker.proofs.Arrows.{star_represents}
-use Rattle.model_candidates.specs.Candidates.{is_linear, is_solved, linear_generators, solved_count}
-use Rattle.model_candidates.specs.Plans.{linear_assumptions}
+use Rattle.model_candidates.proofs.Prelude.{◌≡◌, ◌≢◌, ℕ, ◌+◌, ◌<◌, ◌≤◌, ℤ, negsuc, pos, Bool, true, false, cond, ◌||◌, nat_eq, nat_le, List, [], ◌∷◌, ◌++◌, length, get_or, filter, refl, sym, ap, ap₂, subst, ◌∙◌, arith, eqb-true, eq-eqb, All, AllByRecursion, AllZip, flat_map, list_all, list_any, le-leb, length-append, filter-append, list_all-from_AllPass, SamePolynomial, coefficient_of, poly_eq, poly_multiple, word_eq, Quiver, IsQuiver, letters, star, adjoint_word, adjoint_poly, new_adjoint, units, Representation, StarRepresents, IsStarSound, star_star_each, adjoint_word-adjoint_word, coefficient_of-adjoint_poly, word_eq-true, coefficient_other, all-append, star_sound, Letter, Poly, distinct-descending, words_listed, recursion_from_IsDescending, canonical_unique, quiver_of, Matrix, matrices, transpose, matrices_laws, transpose_laws, Model, Problem, polynomials, numbers, generators_in, posed_quiver, marked_are_objects, zero_along, IsModel, HaveMatrices, IsZeroIn, representation_of, star_represents, is_linear, is_solved, linear_generators, solved_count, linear_assumptions}
 use Rattle.model_candidates.proofs.AssumptionTerms.{all_kept, of_kept}
 use Rattle.model_candidates.proofs.SolvedWords.{few_words, kept_first}
 

@@ -1,27 +1,6 @@
 -- Of each shape, seed and number there is one candidate.
-use Rattle.std.proofs.Common.{◌≡◌, ℕ, ◌<◌, Bool, true, false, not, List, [], ◌∷◌, length, get_or, map, filter, cond, Option, Some, None, ◌⊎◌, inl, inr, refl, sym, ap, subst, ◌∙◌}
-use Rattle.std.specs.List.{AllByRecursion, range_with_len}
-use Rattle.std.proofs.lemmas.Bool.{cases_eq, false≢true}
-use Rattle.definitions.specs.Quiver.{Quiver}
+use Rattle.model_candidates.proofs.Prelude.{◌≡◌, ℕ, ◌<◌, Bool, true, false, not, List, [], ◌∷◌, length, get_or, map, filter, cond, Option, Some, None, ◌⊎◌, inl, inr, refl, sym, ap, subst, ◌∙◌, AllByRecursion, range_with_len, cases_eq, false≢true, Quiver, HasSignature, quiver_of, Poly, matrices, Begins, IsGreedyList, greedy_or_none, one_greedy, Model, Shape, Problem, polynomials, generators_have_signatures, IsZeroIn, representation_of, entries_of, model_by, is_exhaustive, digits, draws, is_linear, IsShapeOf, IsSolution, CanBegin, IsGreedy, IsCandidate, solved_flags, zero_from_value, IsDecided, decided_by, both_decided, lt_decided, each_decided, matrix_decided}
 use Rattle.definitions.specs.Representation.{value_at}
-use Rattle.definitions.specs.Soundness.{HasSignature}
-use Rattle.quiver.specs.Declarations.{quiver_of}
-use Rattle.nc_polynomial.specs.declared.poly.Poly.{Poly}
-use Rattle.matrix_models.specs.Matrices.{matrices}
-use Rattle.matrix_models.proofs.GreedyLists.{Begins, IsGreedyList, greedy_or_none, one_greedy}
-use Rattle.matrix_models.specs.declared.model.Model.{Model}
-use Rattle.adjoint_rules.specs.declared.parts.Shape.{Shape}
-use Rattle.adjoint_rules.specs.declared.problem.Problem.{Problem}
-use Rattle.adjoint_rules.specs.Problem.{polynomials}
-use Rattle.adjoint_rules.proofs.Generators.{generators_have_signatures}
-use Rattle.model_checker.specs.Models.{IsZeroIn}
-use Rattle.model_checker.specs.Representations.{representation_of}
-use Rattle.model_candidates.specs.Candidates.{entries_of, model_by, is_exhaustive, digits, draws, is_linear, IsShapeOf, IsSolution, CanBegin, IsGreedy, IsCandidate}
-use Rattle.model_candidates.specs.Unknowns.{solved_flags}
-use Rattle.model_checker.proofs.Values.{zero_from_value}
-use Rattle.lists.proofs.Decided.{IsDecided, decided_by, both_decided, lt_decided}
-use Rattle.lists.proofs.FirstFailure.{each_decided}
-use Rattle.model_checker.proofs.Decided.{matrix_decided}
 use Rattle.model_candidates.proofs.Ranges.{all_of_range, range_of_all}
 use Rattle.model_candidates.proofs.SolvedEntries.{IsAsDrawn}
 use Rattle.model_candidates.proofs.DrawnEntries.{drawn_by_flags, drawn_by_entries}

@@ -1,23 +1,7 @@
 -- Values below the modulus, one for each entry of a shape, make a model.
-use Rattle.std.proofs.Common.{◌≡◌, ℕ, ◌<◌, ◌≤◌, ◌&&◌, true, cond, List, [], ◌∷◌, length, Option, Some, None, ◌⊎◌, inl, inr, refl, sym, ap, ap₂, subst, ◌∙◌, eq-eqb, arith}
-use Rattle.std.specs.List.{All, AllByRecursion, position}
-use Rattle.std.proofs.lemmas.Bool.{cases_order, le-leb}
-use Rattle.std.proofs.lemmas.List.Elements.{All-get_or, All-weaker}
-use Rattle.std.proofs.lemmas.List.FromFn.{get_or-map-range_with_len, length-map-range_with_len}
-use Rattle.std.proofs.lemmas.List.Quantifiers.{position-Some}
-use Rattle.definitions.specs.Moduli.{field_moduli}
-use Rattle.definitions.specs.Quiver.{Quiver, IsQuiver, letters, source, target, star}
-use Rattle.adjoint_rules.specs.declared.parts.Shape.{Shape}
-use Rattle.adjoint_rules.specs.Problem.{IsShape}
+use Rattle.model_candidates.proofs.Prelude.{◌≡◌, ℕ, ◌<◌, ◌≤◌, ◌&&◌, true, cond, List, [], ◌∷◌, length, Option, Some, None, ◌⊎◌, inl, inr, refl, sym, ap, ap₂, subst, ◌∙◌, eq-eqb, arith, All, AllByRecursion, position, cases_order, le-leb, All-get_or, All-weaker, get_or-map-range_with_len, length-map-range_with_len, position-Some, field_moduli, Quiver, IsQuiver, letters, source, target, star, Shape, IsShape, IsModulus, IsMatrix, entry_at, transpose, IsObject, entry_at-matrix_of, matrix_of_is_matrix, same_matrix, transpose_laws, any_of, IsModel, IsMap, HaveMatrices, map_at, Entry, entry, is_same_entry, is_self, side_in, is_declared_map, entries_of, value_at, value_of_entry, entry_shown, matrix_by, place_by, model_by}
 use Rattle.adjoint_rules.specs.Problem as problem
-use Rattle.matrix_models.specs.Matrix.{IsModulus, IsSide, IsMatrix, entry_at}
-use Rattle.matrix_models.specs.Matrices.{transpose, IsObject}
-use Rattle.matrix_models.specs.Entries.{entry_at-matrix_of, matrix_of_is_matrix, same_matrix}
-use Rattle.matrix_models.specs.Laws.{transpose_laws}
-use Rattle.matrix_models.proofs.Primes.{any_of}
-use Rattle.model_checker.specs.Models.{IsModel, IsMap, HaveMatrices}
-use Rattle.model_checker.specs.Representations.{map_at}
-use Rattle.model_candidates.specs.Candidates.{Entry, entry, is_same_entry, is_self, side_in, is_declared_map, entries_of, value_at, value_of_entry, entry_shown, matrix_by, place_by, model_by}
+use Rattle.matrix_models.specs.Matrix.{IsSide}
 use Rattle.model_candidates.proofs.EntryPlaces.{shown_mirrored, shown_behind}
 
 -- the modulus

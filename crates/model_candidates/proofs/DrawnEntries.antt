@@ -1,14 +1,5 @@
 -- Values are drawn at the entries that aren't solved for exactly where they are where the flag isn't set.
-use Rattle.std.proofs.Common.{◌≡◌, ℕ, ◌<◌, Bool, true, false, not, List, length, get_or, Some, refl, sym, ap, subst, ◌∙◌}
-use Rattle.std.specs.List.{position}
-use Rattle.std.proofs.lemmas.Bool.{false≢true}
-use Rattle.std.proofs.lemmas.List.{length-map, get_or-map}
-use Rattle.std.proofs.lemmas.List.Quantifiers.{position-Some}
-use Rattle.definitions.specs.Quiver.{Quiver}
-use Rattle.word_core.specs.declared.letter.Letter.{Letter}
-use Rattle.adjoint_rules.specs.declared.parts.Shape.{Shape}
-use Rattle.model_candidates.specs.Candidates.{Entry, entry, is_same_entry, is_solved_map, entries_of}
-use Rattle.model_candidates.specs.Unknowns.{solved_flags}
+use Rattle.model_candidates.proofs.Prelude.{◌≡◌, ℕ, ◌<◌, Bool, true, false, not, List, length, get_or, Some, refl, sym, ap, subst, ◌∙◌, position, false≢true, length-map, get_or-map, position-Some, Quiver, Letter, Shape, Entry, entry, is_same_entry, is_solved_map, entries_of, solved_flags}
 use Rattle.model_candidates.proofs.EntryPlaces.{place_of_own, same_entry}
 use Rattle.model_candidates.proofs.SolvedEntries.{IsAsDrawn}
 

@@ -1,17 +1,6 @@
 -- The entries of a shape are distinct, where each of them stands, and how many there are.
-use Rattle.std.proofs.Common.{◌≡◌, ℕ, zero, suc, ◌+◌, ◌*◌, ◌-◌, ◌/◌, ◌<◌, ◌≤◌, Bool, true, false, cond, ◌&&◌, nat_le, nat_lt, nat_eq, List, [], ◌∷◌, ◌++◌, length, filter, get_or, Some, inl, inr, refl, sym, ap, ap₂, subst, ◌∙◌, eq-eqb, ne_eqb, eqb-true, lt-ltb, arith}
-use Rattle.std.specs.List.{AllByRecursion, flat_map, range_with_len, position}
-use Rattle.std.proofs.Math.Bool.{and-false}
-use Rattle.std.proofs.lemmas.Bool.{and_parts, cases_eq, false_from_ne_true, leb-true, leb-false, lt-leb}
-use Rattle.std.proofs.lemmas.List.{append-nil, length-append, get_or_append_left, get_or-append-add}
-use Rattle.std.proofs.lemmas.List.Concat.{flat_map_single}
-use Rattle.std.proofs.lemmas.List.Elements.{All-get_or, All-from_recursion}
-use Rattle.definitions.specs.Quiver.{Quiver, IsQuiver, letters, source, target, star}
-use Rattle.definitions.proofs.UnitSound.{all-append, all-flat_map}
-use Rattle.adjoint_rules.specs.declared.parts.Shape.{Shape}
-use Rattle.adjoint_rules.proofs.Ranges.{flat_map-range_more}
-use Rattle.model_candidates.specs.Candidates.{Entry, entry, is_same_entry, is_self, side_in, is_declared_map, row_entries, map_entries, entries_of, value_at, value_of_entry, entry_shown}
-use Rattle.model_candidates.specs.EntryPlaces.{entries_before, is_kept, piece, row_pieces, pieces, place_within}
+use Rattle.model_candidates.proofs.Prelude.{◌≡◌, ℕ, zero, suc, ◌+◌, ◌*◌, ◌-◌, ◌/◌, ◌<◌, ◌≤◌, Bool, true, false, cond, ◌&&◌, nat_le, nat_lt, nat_eq, List, [], ◌∷◌, ◌++◌, length, filter, get_or, Some, inl, inr, refl, sym, ap, ap₂, subst, ◌∙◌, eq-eqb, ne_eqb, eqb-true, arith, AllByRecursion, flat_map, range_with_len, position, and-false, and_parts, cases_eq, false_from_ne_true, leb-true, leb-false, lt-leb, append-nil, length-append, get_or_append_left, get_or-append-add, flat_map_single, All-get_or, All-from_recursion, Quiver, IsQuiver, letters, source, target, star, all-append, all-flat_map, Shape, flat_map-range_more, Entry, entry, is_same_entry, is_self, side_in, is_declared_map, row_entries, map_entries, entries_of, value_at, value_of_entry, entry_shown, entries_before, is_kept, piece, row_pieces, pieces, place_within}
+use Rattle.std.proofs.Common.{lt-ltb}
 use Rattle.model_candidates.proofs.SolvedPlaces.{first_place}
 
 abbrev pub no_entry : Entry

@@ -1,21 +1,5 @@
 -- Sums modulo m that are taken term by term.
-use Rattle.std.proofs.Common.{◌≡◌, ℕ, zero, suc, ◌+◌, ◌-◌, ◌*◌, ◌/◌, ◌%◌, ◌<◌, ◌++◌, ◌∷◌, [], cond, nat_eq, List, length, get_or, set, map, take, ◌⊎◌, inl, inr, refl, sym, ap, ap₂, ◌∙◌, arith, mod-lt, mul-zero, zero-mul}
-use Rattle.std.proofs.Common.{eq-eqb, ne_eqb}
-use Rattle.std.specs.List.{All, sum_by, range_with_len}
-use Rattle.std.proofs.Math.Nat.{mod-mod, mod-eq_of_lt}
-use Rattle.std.proofs.lemmas.Bool.{cases_eq}
-use Rattle.std.proofs.lemmas.Nat.{div-mul-add, mod-mul-add, mul-mod_first}
-use Rattle.std.proofs.lemmas.List.{get_or-set_same, get_or-set_other, take_more}
-use Rattle.std.proofs.lemmas.List.Elements.{All-get_or}
-use Rattle.std.proofs.lemmas.List.FromFn.{fill_by_all, length-map-range_with_len}
-use Rattle.std.proofs.lemmas.List.Sums.{sum_by_push}
-use Rattle.matrix_models.specs.Matrix.{Matrix, entry_at}
-use Rattle.matrix_models.specs.Matrices.{total}
-use Rattle.matrix_models.specs.Systems.{IsEquation}
-use Rattle.matrix_models.specs.Totals.{total_zero}
-use Rattle.matrix_models.proofs.Congruences.{add_alike}
-use Rattle.model_candidates.specs.declared.solved_terms.SolvedTerm.{SolvedTerm}
-use Rattle.model_candidates.specs.Factors.{line_factor, place_factor, term_factor, terms_factor, row_with}
+use Rattle.model_candidates.proofs.Prelude.{◌≡◌, ℕ, zero, suc, ◌+◌, ◌-◌, ◌*◌, ◌/◌, ◌%◌, ◌<◌, ◌++◌, ◌∷◌, [], cond, nat_eq, List, length, get_or, set, map, take, ◌⊎◌, inl, inr, refl, sym, ap, ap₂, ◌∙◌, arith, mod-lt, mul-zero, zero-mul, eq-eqb, ne_eqb, All, sum_by, range_with_len, mod-mod, mod-eq_of_lt, cases_eq, div-mul-add, mod-mul-add, mul-mod_first, get_or-set_same, get_or-set_other, take_more, All-get_or, fill_by_all, length-map-range_with_len, sum_by_push, Matrix, entry_at, total, IsEquation, total_zero, add_alike, SolvedTerm, line_factor, place_factor, term_factor, terms_factor, row_with}
 use Rattle.model_candidates.proofs.Ranges.{all_of_range}
 
 -- Numbers below m, so many, that are what the unknowns add in these terms.

@@ -1,9 +1,5 @@
 -- What stands at a place of drawn values that values have been filled into: a drawn value, or one of these.
-use Rattle.std.proofs.Common.{◌≡◌, ℕ, suc, ◌<◌, ◌≤◌, Bool, true, false, cond, eqb, List, [], ◌∷◌, length, get_or, refl, ap, ◌∙◌, arith, ne_eqb}
-use Rattle.std.specs.List.{All}
-use Rattle.std.proofs.lemmas.List.Elements.{All-nil, All-cons, All-head, All-tail}
-use Rattle.std.proofs.lemmas.List.FromFn.{get_or-map-range_with_len, length-map-range_with_len}
-use Rattle.model_candidates.specs.Unknowns.{set_count, filled, unit_values}
+use Rattle.model_candidates.proofs.Prelude.{◌≡◌, ℕ, suc, ◌<◌, ◌≤◌, Bool, true, false, cond, eqb, List, [], ◌∷◌, length, get_or, refl, ap, ◌∙◌, arith, ne_eqb, All, All-nil, All-cons, All-head, All-tail, get_or-map-range_with_len, length-map-range_with_len, set_count, filled, unit_values}
 use Rattle.model_candidates.proofs.Ranges.{all_of_range}
 use Rattle.model_candidates.proofs.SolvedEntries.{AreChosen, before, before_within, filled_set}
 

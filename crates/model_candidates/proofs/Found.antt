@@ -1,5 +1,5 @@
 -- What holds of what is found, where there is something, and what holds where there is nothing.
-use Rattle.std.proofs.Common.{Option, Some, None, IfSome, IfNone}
+use Rattle.model_candidates.proofs.Prelude.{Option, Some, None, IfSome, IfNone}
 
 pub some_weaker : {X : Type 0} (found : Option X) (P Q : X → Type 0) → ((x : X) → P x → Q x) → IfSome found P → IfSome found Q
 some_weaker None P Q step given = tt

@@ -1,28 +1,5 @@
 -- Values of the entries of a shape of a problem, and the model that they make.
-use Rattle.std.proofs.Common.{◌≡◌, ℕ, ◌*◌, ◌<◌, ℤ, true, List, sym, subst, arith}
-use Rattle.std.specs.List.{AllByRecursion}
-use Rattle.std.proofs.lemmas.List.Elements.{All-weaker, recursion_from_All}
-use Rattle.definitions.specs.Category.{IsArrow}
-use Rattle.definitions.specs.Quiver.{Quiver, IsQuiver, letters, leads}
-use Rattle.definitions.specs.Representation.{Representation, Represents}
-use Rattle.quiver.specs.Declarations.{object_count, quiver_of}
-use Rattle.quiver.proofs.Counts.{letters-quiver_of}
-use Rattle.matrix_models.specs.Matrix.{Matrix, IsModulus, entry_at}
-use Rattle.matrix_models.specs.Matrices.{matrices, IsObject}
-use Rattle.matrix_models.specs.Laws.{matrices_laws}
-use Rattle.matrix_models.specs.declared.model.Model.{Model}
-use Rattle.adjoint_rules.specs.declared.parts.Shape.{Shape}
-use Rattle.adjoint_rules.specs.declared.problem.Problem.{Problem}
-use Rattle.adjoint_rules.specs.Problem.{IsShape, IsDeclaredMap}
-use Rattle.adjoint_rules.proofs.Generators.{posed_quiver}
-use Rattle.model_checker.specs.Models.{IsMap, IsModel, HaveMatrices}
-use Rattle.model_checker.specs.Representations.{representation_of}
-use Rattle.model_checker.proofs.Arrows.{represents}
-use Rattle.model_candidates.specs.declared.word_rows.EntryValues.{EntryValues}
-use Rattle.model_candidates.specs.Candidates.{model_by, side_in}
-use Rattle.model_candidates.specs.Factors.{letters_product, residue}
-use Rattle.model_candidates.specs.Plans.{AreEntryValues}
-use Rattle.model_candidates.specs.WordRows.{AreTabled}
+use Rattle.model_candidates.proofs.Prelude.{◌≡◌, ℕ, ◌*◌, ◌<◌, ℤ, true, List, sym, subst, arith, AllByRecursion, All-weaker, recursion_from_All, IsArrow, Quiver, IsQuiver, letters, leads, Representation, Represents, object_count, quiver_of, letters-quiver_of, Matrix, IsModulus, entry_at, matrices, IsObject, matrices_laws, Model, Shape, Problem, IsShape, IsDeclaredMap, posed_quiver, IsMap, IsModel, HaveMatrices, representation_of, represents, EntryValues, model_by, side_in, letters_product, residue, AreEntryValues, AreTabled}
 use Rattle.model_candidates.proofs.CandidateModels.{modulus_of_shape, model_by_is_model, model_by_has_matrices, side_is_object}
 use Rattle.model_candidates.proofs.WordProducts.{product_is_arrow}
 

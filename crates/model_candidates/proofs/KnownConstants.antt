@@ -1,15 +1,5 @@
 -- Where the entries that are solved for are 0, a term with a solved letter adds nothing to a value.
-use Rattle.std.proofs.Common.{◌≡◌, ℕ, ◌<◌, ◌≤◌, ℤ, true, List, [], Some, slice_get, sym, subst, ◌∙◌}
-use Rattle.std.specs.List.{position}
-use Rattle.std.proofs.lemmas.List.Elements.{All-from_recursion}
-use Rattle.definitions.specs.Quiver.{is_path}
-use Rattle.model_checker.proofs.Places.{all_at}
-use Rattle.model_candidates.specs.declared.solved_terms.Known.{Known}
-use Rattle.model_candidates.specs.Candidates.{is_solved, side_in, solved_count}
-use Rattle.model_candidates.specs.Known.{IsKnown}
-use Rattle.model_candidates.specs.Plans.{has_few}
-use Rattle.model_candidates.specs.Unknowns.{solved_flags}
-use Rattle.model_candidates.specs.WordRows.{quiver_in, term_entry}
+use Rattle.model_candidates.proofs.Prelude.{◌≡◌, ℕ, ◌<◌, ◌≤◌, ℤ, true, List, [], Some, slice_get, sym, subst, ◌∙◌, position, All-from_recursion, is_path, all_at, Known, is_solved, side_in, solved_count, IsKnown, has_few, solved_flags, quiver_in, term_entry}
 use Rattle.model_candidates.proofs.DrawnEntries.{flag_of_each}
 use Rattle.model_candidates.proofs.FilledValues.{zeros_there}
 use Rattle.model_candidates.proofs.GivenValues.{given_of}

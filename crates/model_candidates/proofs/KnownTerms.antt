@@ -1,24 +1,5 @@
 -- The terms of an assumption that are made in a known model fit its value.
-use Rattle.std.proofs.Common.{◌≡◌, ℕ, List, Some, get_or, slice_get, sym, ap, subst, ◌∙◌}
-use Rattle.nc_polynomial.specs.declared.poly.Poly.{Poly}
-use Rattle.model_candidates.specs.Residues.{residues}
-use Rattle.std.proofs.lemmas.List.{get_or-map}
-use Rattle.std.proofs.lemmas.Option.{get_or_from_slice_get, slice_get_within}
-use Rattle.std.specs.List.{All}
-use Rattle.std.proofs.lemmas.List.Elements.{All-weaker, All-from_recursion}
-use Rattle.definitions.specs.Category.{IsArrow}
-use Rattle.matrix_models.specs.Matrix.{Matrix}
-use Rattle.matrix_models.specs.Matrices.{matrices}
-use Rattle.adjoint_rules.specs.declared.parts.Shape.{Shape}
-use Rattle.model_candidates.specs.declared.plan.LinearAssumption.{LinearAssumption}
-use Rattle.model_candidates.specs.declared.solved_terms.Known.{Known}
-use Rattle.model_candidates.specs.declared.solved_terms.SolvedTerm.{SolvedTerm}
-use Rattle.model_candidates.specs.Candidates.{side_in}
-use Rattle.model_candidates.specs.Known.{IsKnown, numbers_in}
-use Rattle.model_candidates.specs.WordRows.{model_in, quiver_in}
-use Rattle.model_candidates.specs.Plans.{terms_of, IsAssumption}
-use Rattle.model_candidates.specs.Unknowns.{solved_flags, set_count}
-use Rattle.model_candidates.specs.Factors.{solved_terms, FitsTerm, HasSides}
+use Rattle.model_candidates.proofs.Prelude.{◌≡◌, ℕ, List, Some, get_or, slice_get, sym, ap, subst, ◌∙◌, Poly, residues, get_or-map, get_or_from_slice_get, slice_get_within, All, All-weaker, All-from_recursion, IsArrow, Matrix, matrices, Shape, LinearAssumption, Known, SolvedTerm, side_in, IsKnown, numbers_in, model_in, quiver_in, terms_of, IsAssumption, solved_flags, set_count, solved_terms, FitsTerm, HasSides}
 use Rattle.model_candidates.proofs.AssumptionTerms.{assumption_paths}
 use Rattle.model_candidates.proofs.GivenValues.{given_of}
 use Rattle.model_candidates.proofs.SolvedTerms.{Fits, terms_fit}

@@ -1,14 +1,5 @@
 -- An assumption with no solved letter has the value that the drawn entries give, whatever the solved ones are.
-use Rattle.std.proofs.Common.{ℕ, ◌%◌, List, get_or, sym, ap, ◌∙◌}
-use Rattle.std.specs.List.{All}
-use Rattle.std.proofs.lemmas.List.Elements.{All-get_or, All-from_get_or, All-weaker}
-use Rattle.quiver.specs.Declarations.{quiver_of}
-use Rattle.adjoint_rules.specs.declared.parts.Shape.{Shape}
-use Rattle.adjoint_rules.specs.declared.problem.Problem.{Problem}
-use Rattle.model_candidates.specs.declared.plan.LinearAssumption.{LinearAssumption}
-use Rattle.model_candidates.specs.Candidates.{IsSolution}
-use Rattle.model_candidates.specs.Unknowns.{solved_flags}
-use Rattle.model_candidates.specs.Plans.{terms_of, IsAssumption, IsZeroAtSignature}
+use Rattle.model_candidates.proofs.Prelude.{ℕ, ◌%◌, List, get_or, sym, ap, ◌∙◌, All, All-get_or, All-from_get_or, All-weaker, quiver_of, Shape, Problem, LinearAssumption, IsSolution, solved_flags, terms_of, IsAssumption, IsZeroAtSignature}
 use Rattle.model_candidates.proofs.AssumptionTerms.{assumption_paths, linear_zero, weaker}
 use Rattle.model_candidates.proofs.AssumptionsSuffice.{linear_assumptions_are_zero}
 use Rattle.model_candidates.proofs.DrawnEntries.{drawn_by_flags}

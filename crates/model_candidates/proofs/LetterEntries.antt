@@ -1,24 +1,5 @@
 -- Which entry of a shape stands in a row and a column of a letter's matrix, and which letters are solved for.
-use Rattle.std.proofs.Common.{◌≡◌, ℕ, ◌+◌, ◌<◌, ◌≤◌, ◌||◌, Bool, true, false, cond, not, nat_le, List, [], ◌∷◌, length, replicate, get_or, Some, ◌⊎◌, inl, inr, refl, sym, ap, subst, ◌∙◌, arith, eqb-true, ne_eqb}
-use Rattle.std.specs.List.{AllByRecursion, position, range_with_len}
-use Rattle.std.proofs.lemmas.Bool.{cases_eq, cases_lt, le-leb, lt-leb, or_cases}
-use Rattle.std.proofs.lemmas.List.{length-replicate}
-use Rattle.std.proofs.lemmas.List.FromFn.{get_or-range_with_len, length-range_with_len}
-use Rattle.std.proofs.lemmas.List.Quantifiers.{position-Some}
-use Rattle.definitions.specs.Quiver.{Quiver, IsQuiver, letters, source, target, star}
-use Rattle.word_core.specs.declared.letter.Letter.{Letter}
-use Rattle.adjoint_rules.specs.declared.parts.Shape.{Shape}
-use Rattle.adjoint_rules.specs.Problem.{IsShape}
-use Rattle.matrix_models.specs.Matrix.{entry_at}
-use Rattle.matrix_models.specs.Matrices.{transpose}
-use Rattle.matrix_models.specs.Entries.{entry_at-matrix_of}
-use Rattle.model_checker.specs.Models.{IsMap}
-use Rattle.model_checker.specs.Representations.{arrow_of, matrix_or_zero}
-use Rattle.model_checker.proofs.Arrows.{arrow_of-map, arrow_of-adjoint, adjoint_is_map}
-use Rattle.model_candidates.specs.Candidates.{Entry, entry, is_same_entry, is_self, is_declared_map, side_in, entries_of, value_at, value_of_entry, entry_shown, matrix_by, model_by, is_solved, is_solved_map}
-use Rattle.model_candidates.specs.EntryPlaces.{is_kept}
-use Rattle.model_candidates.specs.LetterNumbers.{letter_value, map_behind}
-use Rattle.model_candidates.specs.Unknowns.{solved_flags, set_count, unknown_numbers}
+use Rattle.model_candidates.proofs.Prelude.{◌≡◌, ℕ, ◌+◌, ◌<◌, ◌≤◌, ◌||◌, Bool, true, false, cond, not, nat_le, List, [], ◌∷◌, length, replicate, get_or, Some, ◌⊎◌, inl, inr, refl, sym, ap, subst, ◌∙◌, arith, eqb-true, ne_eqb, AllByRecursion, position, range_with_len, cases_eq, cases_lt, le-leb, lt-leb, or_cases, length-replicate, get_or-range_with_len, length-range_with_len, position-Some, Quiver, IsQuiver, letters, source, target, star, Letter, Shape, IsShape, entry_at, transpose, entry_at-matrix_of, IsMap, arrow_of, matrix_or_zero, arrow_of-map, arrow_of-adjoint, adjoint_is_map, Entry, entry, is_same_entry, is_self, is_declared_map, side_in, entries_of, value_at, value_of_entry, entry_shown, matrix_by, model_by, is_solved, is_solved_map, is_kept, letter_value, map_behind, solved_flags, set_count, unknown_numbers}
 use Rattle.model_candidates.proofs.CandidateModels.{is_declared, map_at-model_by, model_by_is_model}
 use Rattle.model_candidates.proofs.DrawnEntries.{flag_of_each, flag_at}
 use Rattle.model_candidates.proofs.EntryPlaces.{place_of_entry, same_entry, shown_mirrored, shown_itself, shown_behind}

@@ -1,20 +1,5 @@
 -- The tables of letters: the value in a table is the entry of the letter's matrix in the model by the values.
-use Rattle.std.proofs.Common.{◌≡◌, ℕ, ◌+◌, ◌*◌, ◌/◌, ◌%◌, ◌<◌, ◌≤◌, cond, List, length, get_or, Option, Some, None, inl, inr, sym, ap, ap₂, subst, ◌∙◌, arith, div-lt_iff_lt-mul, mod-lt}
-use Rattle.std.specs.List.{All}
-use Rattle.std.proofs.lemmas.Bool.{cases_lt, le-ltb, lt-ltb}
-use Rattle.std.proofs.lemmas.List.FromFn.{get_or-map-range_with_len, length-map-range_with_len, get_or-range_with_len}
-use Rattle.std.proofs.lemmas.List.Elements.{All-get_or}
-use Rattle.definitions.specs.Quiver.{Quiver, IsQuiver, letters, source, target}
-use Rattle.adjoint_rules.specs.Limits.{shape_side_limit}
-use Rattle.adjoint_rules.specs.declared.parts.Shape.{Shape}
-use Rattle.adjoint_rules.specs.Problem.{IsShape, IsSide}
-use Rattle.matrix_models.specs.Matrix.{entry_at}
-use Rattle.matrix_models.specs.Entries.{entry_at-matrix_of}
-use Rattle.model_checker.specs.Representations.{arrow_of}
-use Rattle.model_candidates.specs.declared.letter_tables.LetterTable.{LetterTable}
-use Rattle.model_candidates.specs.Candidates.{entries_of, model_by, side_in}
-use Rattle.model_candidates.specs.LetterNumbers.{letter_value, letter_values}
-use Rattle.model_candidates.specs.LetterTables.{IsTable, entry_numbers, letter_table, letter_tables, value_in_table}
+use Rattle.model_candidates.proofs.Prelude.{◌≡◌, ℕ, ◌+◌, ◌*◌, ◌/◌, ◌%◌, ◌<◌, ◌≤◌, cond, List, length, get_or, Option, Some, None, inl, inr, sym, ap, ap₂, subst, ◌∙◌, arith, div-lt_iff_lt-mul, mod-lt, All, cases_lt, le-ltb, lt-ltb, get_or-map-range_with_len, length-map-range_with_len, get_or-range_with_len, All-get_or, Quiver, IsQuiver, letters, source, target, shape_side_limit, Shape, IsShape, IsSide, entry_at, entry_at-matrix_of, arrow_of, LetterTable, entries_of, model_by, side_in, letter_value, letter_values, IsTable, entry_numbers, letter_table, letter_tables, value_in_table}
 use Rattle.model_candidates.proofs.CandidateModels.{side_is_object}
 use Rattle.model_candidates.proofs.LetterEntries.{StandsAt, stands}
 use Rattle.model_candidates.proofs.Ranges.{all_of_range}

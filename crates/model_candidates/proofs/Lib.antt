@@ -1,3 +1,4 @@
+mod Prelude
 pub mod Streams
 pub mod SolvedPlaces
 pub mod EntryPlaces

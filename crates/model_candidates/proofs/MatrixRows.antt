@@ -1,13 +1,7 @@
 -- Lists of entries that are made row by row, and the matrices that they make.
-use Rattle.std.proofs.Common.{◌≡◌, ℕ, ◌+◌, ◌*◌, ◌<◌, ◌≤◌, [], ◌++◌, List, All, length, get_or}
-use Rattle.std.proofs.Common.{map, ◌⊎◌, inl, inr, refl, sym, ap, subst, ◌∙◌, arith, add-mul, one-mul}
-use Rattle.std.specs.List.{range_with_len}
-use Rattle.std.proofs.lemmas.Bool.{cases_lt}
-use Rattle.std.proofs.lemmas.List.{length-append, get_or_append_left, get_or-append-add}
-use Rattle.std.proofs.lemmas.List.Elements.{All-append, All-from_get_or, All-nil}
-use Rattle.std.proofs.lemmas.List.FromFn.{get_or-map-range_with_len, length-map-range_with_len}
-use Rattle.matrix_models.specs.Matrix.{Matrix, entry_at, IsMatrix, IsSide}
-use Rattle.matrix_models.specs.Entries.{same_matrix}
+use Rattle.model_candidates.proofs.Prelude.{◌≡◌, ℕ, ◌+◌, ◌*◌, ◌<◌, ◌≤◌, [], ◌++◌, List, length, get_or, map, ◌⊎◌, inl, inr, refl, sym, ap, subst, ◌∙◌, arith, add-mul, one-mul, range_with_len, cases_lt, length-append, get_or_append_left, get_or-append-add, All-append, All-from_get_or, All-nil, get_or-map-range_with_len, length-map-range_with_len, Matrix, entry_at, IsMatrix, same_matrix}
+use Rattle.std.proofs.Common.{All}
+use Rattle.matrix_models.specs.Matrix.{IsSide}
 
 -- Numbers below m that are the entries f in so many rows, row by row.
 pub record AreRows (m columns : ℕ) (f : ℕ → ℕ → ℕ) (rows : ℕ) (entries : List ℕ) : Type 0 where

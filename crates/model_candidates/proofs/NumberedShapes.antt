@@ -1,15 +1,5 @@
 -- The shape with a number, and the draws of its entries.
-use Rattle.std.proofs.Common.{◌≡◌, ℕ, ◌+◌, ◌-◌, ◌*◌, ◌/◌, ◌%◌, ◌^◌, ◌<◌, ◌≤◌, length, get_or, Some, None, slice_get, ◌⊎◌, inl, inr, sym, ap, ◌∙◌, arith, mod-lt}
-use Rattle.std.proofs.lemmas.List.FromFn.{length-map-range_with_len}
-use Rattle.std.proofs.lemmas.Option.{get_or_from_slice_get, slice_get_cases}
-use Rattle.quiver.specs.Declarations.{object_count, quiver_of}
-use Rattle.adjoint_rules.specs.declared.parts.Shape.{Shape}
-use Rattle.adjoint_rules.specs.declared.problem.Problem.{Problem}
-use Rattle.adjoint_rules.specs.Problem.{IsShape}
-use Rattle.model_candidates.specs.Candidates.{IsShapeOf, digit, digits, entries_of, draws, word_of_stream}
-use Rattle.model_candidates.specs.Plans.{AreEntryValues, FitsShape, IsPlan}
-use Rattle.model_candidates.specs.declared.plan.Plan.{Plan}
-use Rattle.model_checker.proofs.Places.{all_at}
+use Rattle.model_candidates.proofs.Prelude.{◌≡◌, ℕ, ◌+◌, ◌-◌, ◌*◌, ◌/◌, ◌%◌, ◌^◌, ◌<◌, ◌≤◌, length, get_or, Some, None, slice_get, ◌⊎◌, inl, inr, sym, ap, ◌∙◌, arith, mod-lt, length-map-range_with_len, get_or_from_slice_get, slice_get_cases, object_count, quiver_of, Shape, Problem, IsShape, IsShapeOf, digit, digits, entries_of, draws, word_of_stream, AreEntryValues, FitsShape, IsPlan, Plan, all_at}
 use Rattle.model_candidates.proofs.Ranges.{all_of_range}
 
 pub shape_numbered : (problem : Problem) {number : ℕ} {s : Shape} → 1 ≤ number → slice_get problem.parts.shapes (number - 1) ≡ Some s

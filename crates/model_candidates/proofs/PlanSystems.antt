@@ -1,16 +1,6 @@
 -- The equations of a plan, and what their solutions are.
-use Rattle.std.proofs.Common.{◌≡◌, ℕ, ◌<◌, List, length, sym, ap, subst, ◌∙◌}
-use Rattle.std.specs.List.{All}
-use Rattle.quiver.specs.Declarations.{quiver_of}
-use Rattle.matrix_models.specs.Systems.{AreValues, HasNoSolution}
+use Rattle.model_candidates.proofs.Prelude.{◌≡◌, ℕ, ◌<◌, List, length, sym, ap, subst, ◌∙◌, All, quiver_of, AreValues, HasNoSolution, Shape, Problem, Plan, IsSolution, IsGreedy, model_by, set_count, filled, picked, unit_values, FitsShape, IsZeroAtSignature, system_for}
 use Rattle.matrix_models.specs.Greedy as of_system
-use Rattle.adjoint_rules.specs.declared.parts.Shape.{Shape}
-use Rattle.adjoint_rules.specs.declared.problem.Problem.{Problem}
-use Rattle.model_candidates.specs.declared.plan.Plan.{Plan}
-use Rattle.model_candidates.specs.Candidates.{IsSolution, IsGreedy, model_by}
-use Rattle.model_candidates.specs.Unknowns.{set_count, filled, picked, unit_values}
-use Rattle.model_candidates.specs.Plans.{FitsShape, IsZeroAtSignature}
-use Rattle.model_candidates.specs.Equations.{system_for}
 use Rattle.model_candidates.proofs.DrawnEntries.{flag_of_each}
 use Rattle.model_candidates.proofs.GivenValues.{AreGiven}
 use Rattle.model_candidates.proofs.KnownValues.{conditions_of_solution, conditions_same}

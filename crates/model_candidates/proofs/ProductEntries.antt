@@ -1,14 +1,5 @@
 -- The entries of a product of three matrices modulo m, as sums over the entries of the one between, and those of a multiple.
-use Rattle.std.proofs.Common.{◌≡◌, ℕ, zero, suc, ◌+◌, ◌-◌, ◌*◌, ◌%◌, ◌<◌, ℤ, pos, negsuc, refl, sym, ap, ◌∙◌, arith, mod-lt, add-mul, zero-mul}
-use Rattle.std.proofs.lemmas.Nat.{mul-mod_first, mul-mod_second}
-use Rattle.std.proofs.Math.Nat.{mod-mod, mod-eq_of_lt, mod_self, add-mod-mod, mul-mod_right}
-use Rattle.definitions.specs.Representation.{natural_multiple, multiple}
-use Rattle.matrix_models.specs.Matrix.{Matrix, entry_at}
-use Rattle.matrix_models.specs.Matrices.{total, matrices, matrix_product}
-use Rattle.matrix_models.specs.Entries.{entry_at-matrix_of}
-use Rattle.matrix_models.specs.Totals.{total_mul, total_mod}
-use Rattle.matrix_models.proofs.Congruences.{add_cancel}
-use Rattle.model_candidates.specs.Factors.{residue}
+use Rattle.model_candidates.proofs.Prelude.{◌≡◌, ℕ, zero, suc, ◌+◌, ◌-◌, ◌*◌, ◌%◌, ◌<◌, ℤ, pos, negsuc, refl, sym, ap, ◌∙◌, arith, mod-lt, add-mul, zero-mul, mul-mod_first, mul-mod_second, mod-mod, mod-eq_of_lt, mod_self, add-mod-mod, mul-mod_right, natural_multiple, multiple, Matrix, entry_at, total, matrices, matrix_product, entry_at-matrix_of, total_mul, total_mod, add_cancel, residue}
 
 pub residue_below : (m : ℕ) (k : ℤ) → 0 < m → residue m k < m
 residue_below m (pos n) positive = mod-lt n positive

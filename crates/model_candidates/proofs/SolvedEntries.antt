@@ -1,10 +1,5 @@
 -- Values of the entries that are solved for, among the values of all entries.
-use Rattle.std.proofs.Common.{◌≡◌, ℕ, zero, suc, ◌+◌, ◌<◌, ◌≤◌, Bool, true, false, cond, List, [], ◌∷◌, ◌++◌, length, get_or, take, drop, refl, sym, ap, ◌∙◌, arith}
-use Rattle.std.specs.List.{All}
-use Rattle.std.proofs.lemmas.Bool.{false≢true}
-use Rattle.std.proofs.lemmas.List.{take_all, take_more}
-use Rattle.std.proofs.lemmas.List.Elements.{All-nil, All-cons, All-head, All-tail}
-use Rattle.model_candidates.specs.Unknowns.{set_count, filled, picked}
+use Rattle.model_candidates.proofs.Prelude.{◌≡◌, ℕ, zero, suc, ◌+◌, ◌<◌, ◌≤◌, Bool, true, false, cond, List, [], ◌∷◌, ◌++◌, length, get_or, take, drop, refl, sym, ap, ◌∙◌, arith, All, false≢true, take_all, take_more, All-nil, All-cons, All-head, All-tail, set_count, filled, picked}
 
 -- lists
 pub length-picked : (flags : List Bool) (values : List ℕ) → length values ≡ length flags → length (picked flags values) ≡ set_count flags

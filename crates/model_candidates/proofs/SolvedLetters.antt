@@ -1,10 +1,5 @@
 -- Letters that are solved maps or adjoints of these, and the flags of the entries of a map.
-use Rattle.std.proofs.Common.{◌≡◌, ℕ, ◌<◌, ◌≤◌, suc, Bool, true, false, cond, ◌||◌, nat_eq, List, [], ◌∷◌, length, map, filter, replicate, ◌⊎◌, inl, inr, refl, sym, ap, ap₂, ◌∙◌, eq-eqb, ne_eqb, arith}
-use Rattle.std.specs.List.{AllByRecursion}
-use Rattle.std.proofs.lemmas.Bool.{cases_eq}
-use Rattle.definitions.specs.Quiver.{Quiver, IsQuiver, letters, star}
-use Rattle.word_core.specs.declared.letter.Letter.{Letter}
-use Rattle.model_candidates.specs.Candidates.{is_solved, is_solved_map}
+use Rattle.model_candidates.proofs.Prelude.{◌≡◌, ℕ, ◌<◌, ◌≤◌, suc, Bool, true, false, cond, ◌||◌, nat_eq, List, [], ◌∷◌, length, map, filter, replicate, ◌⊎◌, inl, inr, refl, sym, ap, ap₂, ◌∙◌, eq-eqb, ne_eqb, arith, AllByRecursion, cases_eq, Quiver, IsQuiver, letters, star, Letter, is_solved, is_solved_map}
 
 either_of_both : (x y u v : Bool) → ((x || y) || (u || v)) ≡ ((x || u) || (y || v))
 either_of_both true y u v = refl

@@ -1,10 +1,5 @@
 -- The first place in a list at which a test passes, and the letters of a word from a place on.
-use Rattle.std.proofs.Common.{◌≡◌, ℕ, suc, ◌+◌, ◌<◌, ◌≤◌, Bool, true, false, cond, ltb, List, ◌∷◌, length, get_or, take, drop, Some, None, ap, ◌∙◌, arith}
-use Rattle.std.specs.List.{position, position_or_len}
-use Rattle.std.proofs.lemmas.Bool.{le-ltb, lt-ltb}
-use Rattle.std.proofs.lemmas.List.{get_or-take, length-take-le}
-use Rattle.std.proofs.lemmas.List.Sums.{position_or_len_is}
-use Rattle.std.proofs.Math.Seq.{drop-cons}
+use Rattle.model_candidates.proofs.Prelude.{◌≡◌, ℕ, suc, ◌+◌, ◌<◌, ◌≤◌, Bool, true, false, cond, ltb, List, ◌∷◌, length, get_or, take, drop, Some, None, ap, ◌∙◌, arith, position, position_or_len, le-ltb, lt-ltb, get_or-take, length-take-le, position_or_len_is, drop-cons}
 
 pub first_place : {X : Type 0} (p : X → Bool) (xs : List X) (d : X) {place : ℕ} → place < length xs
     → ((k : ℕ) → k < place → p (get_or xs k d) ≡ false) → p (get_or xs place d) ≡ true → position p xs ≡ Some place

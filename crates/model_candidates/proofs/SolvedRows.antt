@@ -1,28 +1,5 @@
 -- Linear assumptions are zero exactly where the values of the entries that are solved for solve their equations.
-use Rattle.std.proofs.Common.{◌≡◌, ℕ, ◌+◌, ◌-◌, ◌*◌, ◌/◌, ◌%◌, ◌<◌, Bool, List, [], ◌∷◌, length, get_or, map, refl, sym, ap, subst, ◌∙◌, arith, div-lt_iff_lt-mul, mod-lt}
-use Rattle.std.specs.List.{All, AllByRecursion, flat_map, range_with_len}
-use Rattle.std.proofs.Math.Nat.{mod-mod, mod-eq_of_lt, mod_self}
-use Rattle.std.proofs.lemmas.Nat.{div-mul-add, mod-mul-add, mul-mod_first}
-use Rattle.std.proofs.lemmas.List.Elements.{All-append, All-nil}
-use Rattle.std.proofs.lemmas.List.FromFn.{get_or-map-range_with_len, length-map-range_with_len}
-use Rattle.definitions.specs.Category.{IsArrow}
-use Rattle.definitions.specs.Quiver.{Quiver}
-use Rattle.quiver.specs.Declarations.{quiver_of}
-use Rattle.adjoint_rules.specs.declared.parts.Shape.{Shape}
-use Rattle.adjoint_rules.specs.declared.problem.Problem.{Problem}
-use Rattle.matrix_models.specs.Matrix.{Matrix, entry_at}
-use Rattle.matrix_models.specs.Matrices.{matrices, total}
-use Rattle.matrix_models.specs.Entries.{entry_at_below}
-use Rattle.matrix_models.specs.Systems.{Holds}
-use Rattle.matrix_models.specs.Totals.{total_mod}
-use Rattle.matrix_models.specs.declared.system.LinearRow.{LinearRow}
-use Rattle.matrix_models.proofs.Congruences.{add_alike, add_cancel}
-use Rattle.model_candidates.specs.declared.plan.LinearAssumption.{LinearAssumption}
-use Rattle.model_candidates.specs.declared.solved_terms.SolvedTerm.{SolvedTerm}
-use Rattle.model_candidates.specs.Candidates.{side_in}
-use Rattle.model_candidates.specs.Factors.{equations_of, row_with, solved_terms, terms_factor}
-use Rattle.model_candidates.specs.Plans.{IsAssumption, IsZeroAtSignature, terms_of}
-use Rattle.model_candidates.specs.Unknowns.{set_count, solved_flags, unknown_numbers}
+use Rattle.model_candidates.proofs.Prelude.{◌≡◌, ℕ, ◌+◌, ◌-◌, ◌*◌, ◌/◌, ◌%◌, ◌<◌, Bool, List, [], ◌∷◌, length, get_or, map, refl, sym, ap, subst, ◌∙◌, arith, div-lt_iff_lt-mul, mod-lt, All, AllByRecursion, flat_map, range_with_len, mod-mod, mod-eq_of_lt, mod_self, div-mul-add, mod-mul-add, mul-mod_first, All-append, All-nil, get_or-map-range_with_len, length-map-range_with_len, IsArrow, Quiver, quiver_of, Shape, Problem, Matrix, entry_at, matrices, total, entry_at_below, Holds, total_mod, LinearRow, add_alike, add_cancel, LinearAssumption, SolvedTerm, side_in, equations_of, row_with, solved_terms, terms_factor, IsAssumption, IsZeroAtSignature, terms_of, set_count, solved_flags, unknown_numbers}
 use Rattle.model_candidates.proofs.AssumptionTerms.{assumption_paths}
 use Rattle.model_candidates.proofs.GivenValues.{AreGiven, model}
 use Rattle.model_candidates.proofs.Ranges.{all_back, all_front, all_of_range, range_of_all}

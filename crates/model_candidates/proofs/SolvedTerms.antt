@@ -1,24 +1,5 @@
 -- The terms with a solved letter: their sides and numbers.
-use Rattle.std.proofs.Common.{◌≡◌, ℕ, suc, ◌+◌, ◌*◌, ◌/◌, ◌%◌, ◌<◌, ℤ, Bool, true, false, List, [], ◌∷◌, ◌++◌, length, get_or, replicate, take, drop, Option, Some, None, option_map, refl, sym, ap, ap₂, subst, ◌∙◌, arith, mod-lt, div-lt_iff_lt-mul, cond}
-use Rattle.std.specs.List.{All, AllByRecursion, position, range_with_len}
-use Rattle.std.proofs.lemmas.Option.{none-some}
-use Rattle.std.proofs.lemmas.List.{take-append-drop, length-replicate}
-use Rattle.std.proofs.lemmas.List.Elements.{All-nil, All-cons}
-use Rattle.std.proofs.lemmas.List.FromFn.{get_or-map-range_with_len, length-map-range_with_len}
-use Rattle.std.proofs.lemmas.List.Quantifiers.{position-Some}
-use Rattle.std.proofs.Math.Seq.{drop-cons}
-use Rattle.definitions.specs.Quiver.{Quiver, letters, source, target, leads, is_path}
-use Rattle.definitions.proofs.Paths.{step}
-use Rattle.definitions.proofs.UnitSound.{all-append}
-use Rattle.word_core.specs.declared.letter.Letter.{Letter}
-use Rattle.adjoint_rules.specs.declared.parts.Shape.{Shape}
-use Rattle.quiver.specs.Declarations.{quiver_of}
-use Rattle.adjoint_rules.specs.declared.problem.Problem.{Problem}
-use Rattle.model_candidates.specs.declared.solved_terms.SolvedTerm.{SolvedTerm}
-use Rattle.model_candidates.specs.Candidates.{side_in, entries_of, is_solved}
-use Rattle.model_candidates.specs.Unknowns.{solved_flags, set_count, unknown_numbers}
-use Rattle.model_candidates.specs.LetterNumbers.{letter_numbers, letter_value, letter_values, numbers_of_letters}
-use Rattle.model_candidates.specs.Factors.{term_around, solved_term, listed, solved_terms, FitsTerm, HasSides}
+use Rattle.model_candidates.proofs.Prelude.{◌≡◌, ℕ, suc, ◌+◌, ◌*◌, ◌/◌, ◌%◌, ◌<◌, ℤ, Bool, true, false, List, [], ◌∷◌, ◌++◌, length, get_or, replicate, take, drop, Option, Some, None, option_map, refl, sym, ap, ap₂, subst, ◌∙◌, arith, mod-lt, div-lt_iff_lt-mul, cond, All, AllByRecursion, position, range_with_len, none-some, take-append-drop, length-replicate, All-nil, All-cons, get_or-map-range_with_len, length-map-range_with_len, position-Some, drop-cons, Quiver, letters, source, target, leads, is_path, step, all-append, Letter, Shape, quiver_of, Problem, SolvedTerm, side_in, entries_of, is_solved, solved_flags, set_count, unknown_numbers, letter_numbers, letter_value, letter_values, numbers_of_letters, term_around, solved_term, listed, solved_terms, FitsTerm, HasSides}
 use Rattle.model_candidates.proofs.DrawnEntries.{flag_of_each}
 use Rattle.model_candidates.proofs.FilledValues.{length-filled}
 use Rattle.model_candidates.proofs.GivenValues.{AreGiven, model, positive, product_ends, quiver, side_object, solved_maps}

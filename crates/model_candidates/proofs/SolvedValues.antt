@@ -1,31 +1,5 @@
 -- What the entries that are solved for add to the value of a polynomial with one of their letters at most in each word.
-use Rattle.std.proofs.Common.{◌≡◌, ℕ, zero, suc, ◌+◌, ◌*◌, ◌/◌, ◌%◌, ◌<◌, ◌≤◌, ℤ, Bool, true, false, cond, eqb, List, [], ◌∷◌, ◌++◌, get_or, take, drop, Option, Some, None, option_map, inl, inr, refl, sym, ap, ap₂, subst, ◌∙◌, arith, mul_comm, add-mul, mul-zero, zero-mul}
-use Rattle.std.specs.List.{AllByRecursion, position, sum_by}
-use Rattle.std.proofs.Math.Nat.{mod-mod, mod-eq_of_lt, mod-add-mod}
-use Rattle.std.proofs.lemmas.Bool.{cases_lt}
-use Rattle.std.proofs.lemmas.Nat.{div-mul-add, mod-mul-add, mul-mod_second}
-use Rattle.std.proofs.lemmas.List.Elements.{All-get_or}
-use Rattle.std.proofs.lemmas.List.FromFn.{get_or-map-range_with_len}
-use Rattle.std.proofs.lemmas.List.Sums.{sum_by-append, sum_by-cons}
-use Rattle.definitions.specs.Quiver.{Quiver, letters, source, target, leads, is_path}
-use Rattle.definitions.proofs.Paths.{step}
-use Rattle.quiver.specs.Declarations.{quiver_of}
-use Rattle.word_core.specs.declared.letter.Letter.{Letter}
-use Rattle.adjoint_rules.specs.declared.parts.Shape.{Shape}
-use Rattle.adjoint_rules.specs.declared.problem.Problem.{Problem}
-use Rattle.matrix_models.specs.Matrix.{entry_at}
-use Rattle.matrix_models.specs.Matrices.{matrix_product, total}
-use Rattle.matrix_models.specs.Entries.{same_matrix}
-use Rattle.matrix_models.specs.Laws.{matrices_laws}
-use Rattle.matrix_models.specs.Totals.{total_add, total_mul, total_pick, total_same, total_swap, total_zero}
-use Rattle.matrix_models.proofs.Congruences.{add_alike}
-use Rattle.model_checker.specs.Representations.{arrow_of}
-use Rattle.model_checker.proofs.Arrows.{arrow_of-identity}
-use Rattle.model_candidates.specs.declared.solved_terms.SolvedTerm.{SolvedTerm}
-use Rattle.model_candidates.specs.Candidates.{is_solved, side_in, solved_count}
-use Rattle.model_candidates.specs.Factors.{residue, listed, solved_term, solved_terms, place_factor, term_factor, terms_factor, FitsTerm}
-use Rattle.model_candidates.specs.LetterNumbers.{letter_value, number_at}
-use Rattle.model_candidates.specs.Unknowns.{solved_flags, set_count, unknown_numbers}
+use Rattle.model_candidates.proofs.Prelude.{◌≡◌, ℕ, zero, suc, ◌+◌, ◌*◌, ◌/◌, ◌%◌, ◌<◌, ◌≤◌, ℤ, Bool, true, false, cond, eqb, List, [], ◌∷◌, ◌++◌, get_or, take, drop, Option, Some, None, option_map, inl, inr, refl, sym, ap, ap₂, subst, ◌∙◌, arith, mul_comm, add-mul, mul-zero, zero-mul, AllByRecursion, position, sum_by, mod-mod, mod-eq_of_lt, mod-add-mod, cases_lt, div-mul-add, mod-mul-add, mul-mod_second, All-get_or, get_or-map-range_with_len, sum_by-append, sum_by-cons, Quiver, letters, source, target, leads, is_path, step, quiver_of, Letter, Shape, Problem, entry_at, matrix_product, total, same_matrix, matrices_laws, total_add, total_mul, total_pick, total_same, total_swap, total_zero, add_alike, arrow_of, arrow_of-identity, SolvedTerm, is_solved, side_in, solved_count, residue, listed, solved_term, solved_terms, place_factor, term_factor, terms_factor, FitsTerm, letter_value, number_at, solved_flags, set_count, unknown_numbers}
 use Rattle.model_candidates.proofs.FactorRows.{total_split}
 use Rattle.model_candidates.proofs.GivenValues.{AreGiven, f, model, positive, product, product_ends, quiver, represented, solved_maps, term}
 use Rattle.model_candidates.proofs.LetterEntries.{flag_inside, flag_is, has_solved_map, no_solved_map, number_is, stands}

@@ -1,15 +1,5 @@
 -- How many solved letters a word has.
-use Rattle.std.proofs.Common.{◌≡◌, ℕ, suc, ◌+◌, ◌<◌, ◌≤◌, ℤ, Bool, true, false, cond, nat_le, List, [], ◌∷◌, ◌++◌, length, get_or, filter, Some, None, inl, inr, refl, sym, ap, ◌∙◌, arith}
-use Rattle.std.specs.List.{AllByRecursion, position, position_or_len}
-use Rattle.std.proofs.lemmas.Bool.{cases_lt, false_from_ne_true, and_from, and_parts, le-leb, leb-true, lt-ltb}
-use Rattle.std.proofs.lemmas.Option.{none-some}
-use Rattle.std.proofs.lemmas.List.{length-append}
-use Rattle.std.proofs.lemmas.List.Elements.{filter-append}
-use Rattle.std.proofs.lemmas.List.Sums.{fails_before_first}
-use Rattle.definitions.specs.Quiver.{Quiver}
-use Rattle.word_core.specs.declared.letter.Letter.{Letter}
-use Rattle.model_candidates.specs.Candidates.{solved_count}
-use Rattle.model_candidates.specs.Plans.{has_few}
+use Rattle.model_candidates.proofs.Prelude.{◌≡◌, ℕ, suc, ◌+◌, ◌<◌, ◌≤◌, ℤ, Bool, true, false, cond, nat_le, List, [], ◌∷◌, ◌++◌, length, get_or, filter, Some, None, inl, inr, refl, sym, ap, ◌∙◌, arith, AllByRecursion, position, position_or_len, cases_lt, false_from_ne_true, and_from, and_parts, le-leb, leb-true, lt-ltb, none-some, length-append, filter-append, fails_before_first, Quiver, Letter, solved_count, has_few}
 
 -- each word of the polynomial has so many solved letters at most
 abbrev pub HasFew : Quiver → List Letter → ℕ → List (ℤ × List ℕ) → Type 0

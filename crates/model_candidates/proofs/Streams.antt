@@ -1,6 +1,5 @@
 -- Streams a word further.
-use Rattle.std.proofs.Common.{◌≡◌, ℕ, zero, suc, ◌+◌, refl, sym, ap, ◌∙◌, arith}
-use Rattle.rand_pcg.specs.Lcg.{Lcg, advance, next, next_state, state_after}
+use Rattle.model_candidates.proofs.Prelude.{◌≡◌, ℕ, zero, suc, ◌+◌, refl, sym, ap, ◌∙◌, arith, Lcg, advance, next, next_state, state_after}
 
 -- a step behind n others
 state_after-suc : (w m increment n state : ℕ) → state_after w m increment (suc n) state ≡ next_state w m increment (state_after w m increment n state)

@@ -1,20 +1,6 @@
 -- What solves the equations that drawn entries leave is what makes the linear assumptions zero, and so are the greedy solutions.
-use Rattle.std.proofs.Common.{◌≡◌, ℕ, ◌+◌, ◌<◌, ◌≤◌, suc, Bool, true, false, List, [], ◌∷◌, ◌++◌, length, get_or, take, drop, refl, sym, ap, subst, ◌∙◌}
-use Rattle.std.specs.List.{All, AllByRecursion}
-use Rattle.std.proofs.lemmas.List.{append_assoc, take_more, take-append-drop}
-use Rattle.std.proofs.lemmas.List.Elements.{All-from_recursion, All-weaker, recursion_from_All}
-use Rattle.definitions.specs.Quiver.{Quiver}
-use Rattle.quiver.specs.Declarations.{quiver_of}
-use Rattle.matrix_models.specs.declared.system.System.{System}
-use Rattle.matrix_models.specs.Systems.{Solves}
+use Rattle.model_candidates.proofs.Prelude.{◌≡◌, ℕ, ◌+◌, ◌<◌, ◌≤◌, suc, Bool, true, false, List, [], ◌∷◌, ◌++◌, length, get_or, take, drop, refl, sym, ap, subst, ◌∙◌, All, AllByRecursion, append_assoc, take_more, take-append-drop, All-from_recursion, All-weaker, recursion_from_All, Quiver, quiver_of, System, Solves, Shape, Problem, LinearAssumption, IsSolution, CanTake, IsGreedy, solved_flags, set_count, filled, picked, unit_values, IsAssumption, IsZeroAtSignature, AreLinearAssumptions, system_for}
 use Rattle.matrix_models.specs.Greedy as of_system
-use Rattle.adjoint_rules.specs.declared.parts.Shape.{Shape}
-use Rattle.adjoint_rules.specs.declared.problem.Problem.{Problem}
-use Rattle.model_candidates.specs.declared.plan.LinearAssumption.{LinearAssumption}
-use Rattle.model_candidates.specs.Candidates.{IsSolution, CanTake, IsGreedy}
-use Rattle.model_candidates.specs.Unknowns.{solved_flags, set_count, filled, picked, unit_values}
-use Rattle.model_candidates.specs.Plans.{IsAssumption, IsZeroAtSignature, AreLinearAssumptions}
-use Rattle.model_candidates.specs.Equations.{system_for}
 use Rattle.model_candidates.proofs.AssumptionTerms.{linear_zero}
 use Rattle.model_candidates.proofs.AssumptionsSuffice.{linear_assumptions_are_zero, linear_generators_are_zero}
 use Rattle.model_candidates.proofs.DrawnEntries.{flag_of_each, drawn_by_flags, drawn_by_entries}

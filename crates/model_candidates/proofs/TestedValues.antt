@@ -1,26 +1,5 @@
 -- Values of candidates: which candidate they are, and what the tests of them tell.
-use Rattle.std.proofs.Common.{◌≡◌, ◌↔◌, ℕ, ℤ, Bool, true, filter, not, List, [], map, get_or, Option, None, Some, slice_get, option_map, IfNone, IfSome, IfOk, IsTrue, Result, Ok, Err, refl, sym, ap, subst, ◌∙◌, true≢false}
-use Rattle.std.specs.List.{AllByRecursion}
-use Rattle.std.proofs.lemmas.Bool.{not-true}
-use Rattle.std.proofs.lemmas.List.{get_or-map}
-use Rattle.std.proofs.lemmas.List.Elements.{All-from_recursion}
-use Rattle.std.proofs.lemmas.Option.{get_or_from_slice_get, none-some, slice_get-map, slice_get_within}
-use Rattle.definitions.specs.Soundness.{HasValueZeroAt}
-use Rattle.nc_polynomial.specs.declared.poly.Poly.{Poly}
-use Rattle.quiver.specs.declared.named.Sig.{Sig}
-use Rattle.quiver.specs.Declarations.{quiver_of}
-use Rattle.matrix_models.specs.Matrices.{matrices}
-use Rattle.matrix_models.specs.declared.model.Model.{Model}
-use Rattle.adjoint_rules.specs.declared.parts.Shape.{Shape}
-use Rattle.adjoint_rules.specs.declared.problem.Problem.{Problem}
-use Rattle.adjoint_rules.specs.Problem.{HasObjects, IsTypedOf, polynomials}
-use Rattle.model_checker.specs.Models.{IsZeroIn}
-use Rattle.model_checker.specs.Representations.{representation_of}
-use Rattle.model_checker.proofs.Places.{all_at}
-use Rattle.model_checker.proofs.Values.{zero_from_value}
-use Rattle.model_candidates.specs.Candidates.{IsCandidate, IsGreedy, IsSolution, draws, is_exhaustive, model_by}
-use Rattle.model_candidates.specs.Plans.{AreEntryValues, linear_assumptions}
-use Rattle.model_candidates.specs.Residues.{residues}
+use Rattle.model_candidates.proofs.Prelude.{◌≡◌, ◌↔◌, ℕ, ℤ, Bool, true, filter, not, List, [], map, get_or, Option, None, Some, slice_get, option_map, IfNone, IfSome, IfOk, IsTrue, Result, Ok, Err, refl, sym, ap, subst, ◌∙◌, true≢false, AllByRecursion, not-true, get_or-map, All-from_recursion, get_or_from_slice_get, none-some, slice_get-map, slice_get_within, HasValueZeroAt, Poly, Sig, quiver_of, matrices, Model, Shape, Problem, HasObjects, IsTypedOf, polynomials, IsZeroIn, representation_of, all_at, zero_from_value, IsCandidate, IsGreedy, IsSolution, draws, is_exhaustive, model_by, AreEntryValues, linear_assumptions, residues}
 use Rattle.model_candidates.proofs.AssumptionTerms.{of_kept}
 use Rattle.model_candidates.proofs.AssumptionsSuffice.{linear_assumptions_are_zero}
 

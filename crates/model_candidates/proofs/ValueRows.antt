@@ -1,30 +1,6 @@
 -- The entries of a polynomial's value in the model by values, as sums over its terms.
-use Rattle.std.proofs.Common.{◌≡◌, ℕ, ℤ, ◌+◌, ◌*◌, ◌%◌, ◌<◌, cond, true, List, [], ◌∷◌, length, get_or, take, drop, Some, slice_get, sym, ap, ap₂, subst, ◌∙◌, arith}
-use Rattle.std.specs.List.{AllByRecursion, sum_by}
-use Rattle.std.proofs.lemmas.List.{take_all, get_or-map}
-use Rattle.std.proofs.lemmas.List.Sums.{sum_by_more, sum_by-cons}
-use Rattle.std.proofs.lemmas.Option.{get_or_from_slice_get, slice_get_within}
-use Rattle.std.proofs.lemmas.List.Elements.{recursion_from_All}
-use Rattle.std.proofs.Math.Nat.{mod-eq_of_lt}
-use Rattle.definitions.specs.Category.{IsArrow}
-use Rattle.definitions.specs.Quiver.{Quiver, leads, is_path, IsTyped}
-use Rattle.definitions.specs.Representation.{multiple, word_value, value_at}
-use Rattle.definitions.specs.Soundness.{HasValueZeroAt}
-use Rattle.nc_polynomial.specs.Shape.{IsCanonical}
-use Rattle.quiver.specs.Declarations.{quiver_of}
-use Rattle.representations.proofs.TermSums.{value_is_arrow}
-use Rattle.representations.proofs.TypedTerms.{words_are_paths}
-use Rattle.matrix_models.specs.Matrix.{Matrix, entry_at}
-use Rattle.matrix_models.specs.Matrices.{matrices, matrix_sum, zero_matrix}
-use Rattle.matrix_models.specs.Entries.{entry_at-matrix_of, same_matrix}
-use Rattle.matrix_models.specs.Laws.{matrices_laws}
-use Rattle.matrix_models.specs.Totals.{add_mod}
-use Rattle.matrix_models.proofs.Congruences.{add_alike}
-use Rattle.adjoint_rules.specs.declared.parts.Shape.{Shape}
-use Rattle.adjoint_rules.specs.declared.problem.Problem.{Problem}
-use Rattle.model_checker.proofs.Places.{all_at}
-use Rattle.model_candidates.specs.Candidates.{side_in}
-use Rattle.model_candidates.specs.Residues.{residue, residues}
+use Rattle.model_candidates.proofs.Prelude.{◌≡◌, ℕ, ℤ, ◌+◌, ◌*◌, ◌%◌, ◌<◌, cond, true, List, [], ◌∷◌, length, get_or, take, drop, Some, slice_get, sym, ap, ap₂, subst, ◌∙◌, arith, AllByRecursion, sum_by, take_all, get_or-map, sum_by_more, sum_by-cons, get_or_from_slice_get, slice_get_within, recursion_from_All, mod-eq_of_lt, IsArrow, Quiver, leads, is_path, IsTyped, multiple, word_value, HasValueZeroAt, IsCanonical, quiver_of, value_is_arrow, words_are_paths, Matrix, entry_at, matrices, matrix_sum, zero_matrix, entry_at-matrix_of, same_matrix, matrices_laws, add_mod, add_alike, Shape, Problem, all_at, side_in, residue, residues}
+use Rattle.definitions.specs.Representation.{value_at}
 use Rattle.model_candidates.proofs.GivenValues.{AreGiven, f, positive, product, product_ends, represented, side_object, term}
 use Rattle.model_candidates.proofs.ProductEntries.{multiple_columns, multiple_entry, multiple_rows, residue_below}
 use Rattle.model_candidates.proofs.WordProducts.{leads_of_path, word_value-product}

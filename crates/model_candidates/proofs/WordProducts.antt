@@ -1,11 +1,5 @@
 -- The value of a path is the product of its letters: at each of them, the product before it, its arrow, and the product behind it.
-use Rattle.std.proofs.Common.{◌≡◌, ℕ, ◌<◌, true, List, [], ◌∷◌, ◌++◌, sym, ap, subst, ◌∙◌, eqb-true}
-use Rattle.definitions.specs.Category.{Structure, IsArrow, PreadditiveLaws}
-use Rattle.definitions.specs.Quiver.{Quiver, letters, source, target, leads, is_path}
-use Rattle.definitions.specs.Representation.{Representation, Represents, path_value, word_value}
-use Rattle.definitions.proofs.Paths.{step, split}
-use Rattle.definitions.proofs.Values.{letter_is_arrow}
-use Rattle.model_candidates.specs.Factors.{letters_product}
+use Rattle.model_candidates.proofs.Prelude.{◌≡◌, ℕ, ◌<◌, true, List, [], ◌∷◌, ◌++◌, sym, ap, subst, ◌∙◌, eqb-true, Structure, IsArrow, PreadditiveLaws, Quiver, letters, source, target, leads, is_path, Representation, Represents, path_value, word_value, step, split, letter_is_arrow, letters_product}
 
 -- a letter of a path
 pub leads_of_path : (q : Quiver) (u v : ℕ) (w : List ℕ) → is_path q u v w ≡ true → leads q u v w ≡ true

@@ -1,30 +1,5 @@
 -- Rows times matrices modulo m, and the product of the letters of a path, of which a row is multiplied letter by letter.
-use Rattle.std.proofs.Common.{◌≡◌, ℕ, ◌+◌, ◌*◌, ◌%◌, ◌<◌, ◌≤◌, cond, eqb, true, List, [], ◌∷◌, length, get_or, take, drop, Option, Some, None, ◌⊎◌, inl, inr, sym, ap, subst, ◌∙◌, arith, mul_comm, eqb-true, eq-eqb, ne_eqb}
-use Rattle.std.specs.List.{All}
-use Rattle.std.proofs.lemmas.Bool.{cases_eq, cases_lt}
-use Rattle.std.proofs.lemmas.Nat.{mul-le, mul-mod_first, mul-mod_second}
-use Rattle.std.proofs.lemmas.List.{drop_all, get_or_past, length-take-le}
-use Rattle.std.proofs.lemmas.List.Elements.{All-get_or}
-use Rattle.std.proofs.lemmas.List.FromFn.{length-map-range_with_len}
-use Rattle.std.proofs.Math.Nat.{mod-eq_of_lt}
-use Rattle.definitions.specs.Category.{IsArrow}
-use Rattle.definitions.specs.Quiver.{Quiver, letters, source, target, leads}
-use Rattle.definitions.proofs.Paths.{Step, step}
-use Rattle.quiver.specs.Declarations.{letter_count}
-use Rattle.quiver.proofs.Counts.{letters-quiver_of}
-use Rattle.matrix_models.specs.Matrix.{entry_at}
-use Rattle.matrix_models.specs.Matrices.{identity_matrix, matrices, total}
-use Rattle.matrix_models.specs.Entries.{entry_at-matrix_of}
-use Rattle.matrix_models.specs.Totals.{total_mod, total_pick, total_same, total_swap}
-use Rattle.adjoint_rules.specs.Limits.{shape_side_limit}
-use Rattle.adjoint_rules.specs.Problem.{IsSide}
-use Rattle.model_checker.proofs.Arrows.{arrow_of-identity}
-use Rattle.model_candidates.specs.declared.word_rows.EntryValues.{EntryValues}
-use Rattle.model_candidates.specs.declared.letter_tables.LetterTable.{LetterTable}
-use Rattle.model_candidates.specs.Candidates.{side_in}
-use Rattle.model_candidates.specs.LetterNumbers.{letter_values}
-use Rattle.model_candidates.specs.LetterTables.{IsTable, letter_table, value_in_table}
-use Rattle.model_candidates.specs.WordRows.{AreTabled, IsRow, matrix_in, model_in, product_in, quiver_in}
+use Rattle.model_candidates.proofs.Prelude.{◌≡◌, ℕ, ◌+◌, ◌*◌, ◌%◌, ◌<◌, ◌≤◌, cond, eqb, true, List, [], ◌∷◌, length, get_or, take, drop, Option, Some, None, ◌⊎◌, inl, inr, sym, ap, subst, ◌∙◌, arith, mul_comm, eqb-true, eq-eqb, ne_eqb, All, cases_eq, cases_lt, mul-le, mul-mod_first, mul-mod_second, drop_all, get_or_past, length-take-le, All-get_or, length-map-range_with_len, mod-eq_of_lt, IsArrow, Quiver, letters, source, target, leads, Step, step, letter_count, letters-quiver_of, entry_at, identity_matrix, matrices, total, entry_at-matrix_of, total_mod, total_pick, total_same, total_swap, shape_side_limit, IsSide, arrow_of-identity, EntryValues, LetterTable, side_in, letter_values, IsTable, letter_table, value_in_table, AreTabled, IsRow, matrix_in, model_in, product_in, quiver_in}
 use Rattle.model_candidates.proofs.GivenValues.{AreGiven, given_of, positive, product_ends, quiver, represented}
 use Rattle.model_candidates.proofs.LetterTables.{entry_in_table, has_none, has_table, is_table}
 use Rattle.model_candidates.proofs.SolvedPlaces.{letters_from}

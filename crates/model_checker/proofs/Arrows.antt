@@ -1,18 +1,5 @@
 -- The matrices that a model has for letters are a star representation.
-use Rattle.std.proofs.Common.{◌≡◌, ℕ, ◌<◌, ◌≤◌, cond, nat_le, get_or, slice_get, None, Some, ◌⊎◌, inl, inr, sym, ap, subst, ◌∙◌, arith}
-use Rattle.std.proofs.lemmas.Bool.{cases_lt, cases_eq, lt-ltb, le-ltb, le-leb, lt-leb}
-use Rattle.std.proofs.lemmas.List.{get_or_past}
-use Rattle.std.proofs.lemmas.Option.{get_or_from_slice_get}
-use Rattle.std.proofs.lemmas.List.Elements.{All-get_or}
-use Rattle.definitions.specs.Category.{IsArrow}
-use Rattle.definitions.specs.Quiver.{Quiver, IsQuiver, letters, source, target, star}
-use Rattle.definitions.specs.Representation.{Represents, StarRepresents}
-use Rattle.matrix_models.specs.Matrix.{Matrix, IsSide}
-use Rattle.matrix_models.specs.Matrices.{matrices, transpose, identity_matrix, IsObject}
-use Rattle.matrix_models.specs.Laws.{matrices_laws, transpose_laws}
-use Rattle.matrix_models.specs.declared.model.Model.{Model}
-use Rattle.model_checker.specs.Models.{IsModel, IsMap, HaveMatrices}
-use Rattle.model_checker.specs.Representations.{side_of, map_at, matrix_or_zero, arrow_of, representation_of}
+use Rattle.model_checker.proofs.Prelude.{◌≡◌, ℕ, ◌<◌, ◌≤◌, cond, nat_le, get_or, slice_get, None, Some, ◌⊎◌, inl, inr, sym, ap, subst, ◌∙◌, arith, cases_lt, cases_eq, lt-ltb, le-ltb, le-leb, lt-leb, get_or_past, get_or_from_slice_get, All-get_or, IsArrow, Quiver, IsQuiver, letters, source, target, star, Represents, StarRepresents, Matrix, IsSide, matrices, transpose, identity_matrix, IsObject, matrices_laws, transpose_laws, Model, IsModel, IsMap, HaveMatrices, side_of, map_at, matrix_or_zero, arrow_of, representation_of}
 
 -- the side at the place of an object
 pub side_read : (m : Model) (place v x : ℕ) → slice_get m.sides place ≡ Some x → place ≡ v → x ≡ side_of m v

@@ -1,24 +1,5 @@
 -- A model that refutes its claim is a star representation in which all generators are zero and the claim isn't.
-use Rattle.std.proofs.Common.{◌≡◌, ℕ, ◌-◌, ◌<◌, ◌≤◌, List, length, get_or, Some, None, slice_get, ◌⊎◌, inl, inr, sym, subst, arith}
-use Rattle.std.proofs.lemmas.Option.{slice_get_cases}
-use Rattle.std.proofs.lemmas.Slice.Zip.{AllZip-long}
-use Rattle.definitions.specs.Quiver.{Quiver, IsTyped}
-use Rattle.definitions.specs.Representation.{StarRepresents}
-use Rattle.definitions.specs.Soundness.{HasValueZeroAt}
-use Rattle.definitions.proofs.Sound.{sound}
-use Rattle.definitions.proofs.StarSound.{star_sound}
-use Rattle.nc_polynomial.specs.declared.poly.Poly.{Poly}
-use Rattle.quiver.specs.declared.named.Sig.{Sig}
-use Rattle.quiver.specs.Declarations.{quiver_of}
-use Rattle.matrix_models.specs.Matrices.{matrices, transpose}
-use Rattle.matrix_models.specs.Laws.{matrices_laws, transpose_laws}
-use Rattle.matrix_models.specs.declared.model.Model.{Model}
-use Rattle.adjoint_rules.specs.declared.problem.Problem.{Problem}
-use Rattle.adjoint_rules.specs.Problem.{polynomials, IsTypedOf, HasObjects}
-use Rattle.adjoint_rules.proofs.Generators.{posed_quiver, generators_have_signatures, generators_are_zero}
-use Rattle.model_checker.specs.Models.{IsZeroIn, IsClaimNumber, claim_polynomial}
-use Rattle.model_checker.specs.Representations.{representation_of}
-use Rattle.model_checker.specs.Laws.{HasOtherValue, RefutingModelsAreCounterexamples, RefutedClaimsDoNotFollow}
+use Rattle.model_checker.proofs.Prelude.{◌≡◌, ℕ, ◌-◌, ◌<◌, ◌≤◌, List, length, get_or, Some, None, slice_get, ◌⊎◌, inl, inr, sym, subst, arith, slice_get_cases, AllZip-long, Quiver, IsTyped, StarRepresents, HasValueZeroAt, sound, star_sound, Poly, Sig, quiver_of, matrices, transpose, matrices_laws, transpose_laws, Model, Problem, polynomials, IsTypedOf, HasObjects, posed_quiver, generators_have_signatures, generators_are_zero, IsZeroIn, IsClaimNumber, claim_polynomial, representation_of, HasOtherValue, RefutingModelsAreCounterexamples, RefutedClaimsDoNotFollow}
 use Rattle.model_checker.proofs.Arrows.{star_represents}
 use Rattle.model_checker.proofs.Places.{all_at, zip_at, generator_at-number}
 use Rattle.model_checker.proofs.Values.{zero_from_value}

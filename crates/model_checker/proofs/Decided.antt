@@ -1,10 +1,5 @@
 -- Whether a matrix is another, and whether it is one of a modulus, can be told.
-use Rattle.std.proofs.Common.{◌≡◌, ℕ, ◌*◌, ◌<◌, List, [], ◌∷◌, length, ◌⊎◌, inl, inr, refl, ap}
-use Rattle.std.proofs.lemmas.Bool.{cases_eq}
-use Rattle.lists.proofs.Decided.{IsDecided, decided_by, both_decided, le_decided, lt_decided}
-use Rattle.lists.proofs.FirstFailure.{each_decided}
-use Rattle.matrix_models.specs.Limits.{modulus_limit, side_limit}
-use Rattle.matrix_models.specs.Matrix.{Matrix, IsModulus, IsSide, HasShape, IsMatrix}
+use Rattle.model_checker.proofs.Prelude.{◌≡◌, ℕ, ◌*◌, ◌<◌, List, [], ◌∷◌, length, ◌⊎◌, inl, inr, refl, ap, cases_eq, IsDecided, decided_by, both_decided, le_decided, lt_decided, each_decided, modulus_limit, side_limit, Matrix, IsModulus, IsSide, HasShape, IsMatrix}
 
 list_decided : (xs ys : List ℕ) → IsDecided (xs ≡ ys)
 list_decided [] [] = inl refl

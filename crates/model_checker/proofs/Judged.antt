@@ -1,32 +1,7 @@
 -- Each model has exactly one outcome: it refutes its claim, or one of the tests is the first that fails.
-use Rattle.std.proofs.Common.{◌≡◌, ℕ, suc, ◌+◌, ◌-◌, ◌<◌, List, [], length, take, get_or, Some, None, slice_get, ◌⊎◌, inl, inr, refl, sym, subst, ap, ◌∙◌, arith}
-use Rattle.std.specs.List.{AllByRecursion}
-use Rattle.std.proofs.lemmas.Bool.{cases_eq}
-use Rattle.std.proofs.lemmas.List.{length-map}
-use Rattle.std.proofs.lemmas.List.Elements.{All-from_recursion, recursion_from_All}
-use Rattle.std.proofs.lemmas.Option.{slice_get_within, slice_get-get_or, get_or_from_slice_get}
-use Rattle.std.proofs.lemmas.Slice.Zip.{AllZip-long}
+use Rattle.model_checker.proofs.Prelude.{◌≡◌, ℕ, suc, ◌+◌, ◌-◌, ◌<◌, List, [], length, take, get_or, Some, None, slice_get, ◌⊎◌, inl, inr, refl, sym, subst, ap, ◌∙◌, arith, AllByRecursion, cases_eq, length-map, All-from_recursion, recursion_from_All, slice_get_within, slice_get-get_or, get_or_from_slice_get, AllZip-long, Quiver, letters, source, target, star, generator_at, value_at, IsDecided, decided_by, both_decided, le_decided, lt_decided, HasOneOutcome, PassUpTo, FailsFirst, FirstNot, not_each, one_test, found_test, where_test, then_test, each_test, tests_up_to, reworded, Poly, Sig, quiver_of, Matrix, matrices, transpose, Model, Problem, IsTypedOf, HasObjects, ModelRefusal, IsMap, HasEnds, IsSelfTransposed, HaveMatrices, IsClaimNumber, IsZeroIn, assumptions_of, claim_polynomial, Refutes, side_of, map_at, representation_of, IsMemory, IsAtMap, RefusesMap, IsFirstNotZero, RefusesModel, EachModelIsJudged, RefutingModelIsNotRefused, ModelRefusalIsUnique}
 use Rattle.definitions.specs.Poly as terms
-use Rattle.definitions.specs.Quiver.{Quiver, letters, source, target, star}
-use Rattle.definitions.specs.Combination.{generator_at}
-use Rattle.definitions.specs.Representation.{value_at}
-use Rattle.lists.proofs.Decided.{IsDecided, decided_by, both_decided, le_decided, lt_decided}
-use Rattle.lists.proofs.FirstFailure.{HasOneOutcome, PassUpTo, FailsFirst, FirstNot, not_each, one_test, found_test, where_test, then_test, each_test, tests_up_to, reworded}
-use Rattle.nc_polynomial.specs.declared.poly.Poly.{Poly}
-use Rattle.quiver.specs.declared.named.Sig.{Sig}
-use Rattle.quiver.specs.Declarations.{quiver_of}
-use Rattle.matrix_models.specs.Matrix.{Matrix}
-use Rattle.matrix_models.specs.Matrices.{matrices, transpose}
-use Rattle.matrix_models.specs.declared.model.Model.{Model}
-use Rattle.adjoint_rules.specs.declared.problem.Problem.{Problem}
-use Rattle.adjoint_rules.specs.Problem.{IsTypedOf, HasObjects}
-use Rattle.model_checker.specs.declared.refusal.ModelRefusal.{ModelRefusal}
 use Rattle.model_checker.specs.declared.refusal.ModelRefusal.TheVariants as refusal
-use Rattle.model_checker.specs.Models.{IsMap, HasEnds, IsSelfTransposed, HaveMatrices, IsClaimNumber, IsZeroIn, assumptions_of, claim_polynomial, Refutes}
-use Rattle.model_checker.specs.Representations.{side_of, map_at, representation_of}
-use Rattle.model_checker.specs.Memory.{IsMemory}
-use Rattle.model_checker.specs.Refusals.{IsAtMap, RefusesMap, IsFirstNotZero, RefusesModel}
-use Rattle.model_checker.specs.Laws.{EachModelIsJudged, RefutingModelIsNotRefused, ModelRefusalIsUnique}
 use Rattle.model_checker.proofs.Counterexamples.{both_at, IsPosedOf, claims_are_posed, claim_at, claim_is, zero_from_posed}
 use Rattle.model_checker.proofs.Decided.{matrix_decided, is_matrix_decided}
 use Rattle.model_checker.proofs.Places.{all_at, zip_at, generator_at-suc}

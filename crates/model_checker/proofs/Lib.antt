@@ -1,3 +1,4 @@
+mod Prelude
 pub mod Arrows
 pub mod Values
 pub mod Places

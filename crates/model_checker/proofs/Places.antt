@@ -1,15 +1,5 @@
 -- What is known of the polynomial at a place of a list, and of the first places of a list.
-use Rattle.std.proofs.Common.{◌≡◌, ℕ, suc, ◌+◌, ◌-◌, ◌<◌, ◌≤◌, ℤ, List, [], ◌∷◌, length, get_or, take, Some, MatchOption, All, slice_get, option_map, refl, sym, ap, subst, ◌∙◌, arith}
-use Rattle.std.specs.List.{AllByRecursion, AllZip}
-use Rattle.std.specs.Option.{IsSomeAnd}
-use Rattle.std.proofs.lemmas.List.{take_more, length-map}
-use Rattle.std.proofs.lemmas.List.Elements.{All-get_or}
-use Rattle.std.proofs.lemmas.Option.{get_or_from_slice_get, slice_get-map, slice_get_read, slice_get_within}
-use Rattle.std.proofs.lemmas.Slice.Zip.{AllZip-left}
-use Rattle.definitions.specs.Combination.{generator_at}
-use Rattle.definitions.proofs.UnitSound.{all-append}
-use Rattle.nc_polynomial.specs.declared.poly.Poly.{Poly}
-use Rattle.adjoint_rules.specs.Problem.{polynomials}
+use Rattle.model_checker.proofs.Prelude.{◌≡◌, ℕ, suc, ◌+◌, ◌-◌, ◌<◌, ◌≤◌, ℤ, List, [], ◌∷◌, length, get_or, take, Some, MatchOption, All, slice_get, option_map, refl, sym, ap, subst, ◌∙◌, arith, AllByRecursion, AllZip, IsSomeAnd, take_more, length-map, All-get_or, get_or_from_slice_get, slice_get-map, slice_get_read, slice_get_within, AllZip-left, generator_at, all-append, Poly, polynomials}
 
 -- places
 pub item_at : {X : Type 0} (items xs : List X) (k : ℕ) (x : X) → items ≡ xs → k < length items → x ≡ get_or items k x → slice_get xs k ≡ Some x

@@ -1,16 +1,5 @@
 -- A model that refutes the claim that it names has the meaning of `refuted`.
-use Rattle.std.proofs.Common.{◌≡◌, ℕ, subst}
-use Rattle.definitions.proofs.StarSound.{star_sound}
-use Rattle.quiver.specs.Declarations.{quiver_of}
-use Rattle.matrix_models.specs.Laws.{matrices_laws, transpose_laws}
-use Rattle.matrix_models.specs.declared.model.Model.{Model}
-use Rattle.adjoint_rules.specs.declared.problem.Problem.{Problem}
-use Rattle.adjoint_rules.specs.Problem.{polynomials, numbers}
-use Rattle.adjoint_rules.proofs.Generators.{posed_quiver, marked_are_objects}
-use Rattle.model_checker.specs.Models.{claim_polynomial, IsModel, Refutes}
-use Rattle.model_checker.specs.Representations.{representation_of}
-use Rattle.model_checker.specs.Laws.{HasOtherValue}
-use Rattle.model_checker.specs.RefutedMeans.{RefutedMeans}
+use Rattle.model_checker.proofs.Prelude.{◌≡◌, ℕ, subst, star_sound, quiver_of, matrices_laws, transpose_laws, Model, Problem, polynomials, numbers, posed_quiver, marked_are_objects, claim_polynomial, IsModel, Refutes, representation_of, HasOtherValue, RefutedMeans}
 use Rattle.model_checker.proofs.Counterexamples.{refuting_models_are_counterexamples}
 
 -- it is a counterexample to the claim, in which all generators of the statement are zero

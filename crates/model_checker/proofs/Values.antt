@@ -1,23 +1,5 @@
 -- The lists of a model's representation, and values in it: the value at one signature decides whether a polynomial is zero.
-use Rattle.std.proofs.Common.{◌≡◌, ℕ, ◌<◌, ◌≤◌, ℤ, true, List, [], ◌∷◌, length, get_or, Option, Some, ◌⊎◌, inl, inr, sym, refl, ap, subst, ◌∙◌, arith}
-use Rattle.std.proofs.lemmas.Bool.{cases_lt}
-use Rattle.std.proofs.lemmas.List.{get_or_past}
-use Rattle.std.proofs.lemmas.List.FromFn.{get_or-map-range_with_len, length-map-range_with_len}
-use Rattle.std.proofs.lemmas.Option.{get_or_from_slice_get, slice_get-get_or}
-use Rattle.definitions.specs.Category.{Structure, IsArrow}
-use Rattle.definitions.specs.Quiver.{Quiver, IsQuiver, letters, source, target, is_path, IsTyped}
-use Rattle.definitions.specs.Representation.{Representation, Represents, value_at}
-use Rattle.definitions.specs.Soundness.{HasValueZeroAt, HasValueZero}
-use Rattle.definitions.proofs.Typed.{signature_from_path}
-use Rattle.nc_polynomial.specs.Shape.{IsCanonical}
-use Rattle.representations.specs.Listed.{listed, IsRepresentation, IsValue}
-use Rattle.representations.proofs.TypedTerms.{words_are_paths}
-use Rattle.matrix_models.specs.Matrix.{Matrix}
-use Rattle.matrix_models.specs.Matrices.{IsObject, matrices, zero_matrix}
-use Rattle.matrix_models.specs.declared.model.Model.{Model}
-use Rattle.model_checker.specs.Models.{IsModel, HaveMatrices}
-use Rattle.model_checker.specs.Representations.{side_of, arrow_of, representation_of}
-use Rattle.model_checker.specs.Listed.{AreOfModel}
+use Rattle.model_checker.proofs.Prelude.{◌≡◌, ℕ, ◌<◌, ◌≤◌, ℤ, true, List, [], ◌∷◌, length, get_or, Option, Some, ◌⊎◌, inl, inr, sym, refl, ap, subst, ◌∙◌, arith, cases_lt, get_or_past, get_or-map-range_with_len, length-map-range_with_len, get_or_from_slice_get, slice_get-get_or, Structure, IsArrow, Quiver, IsQuiver, letters, source, target, is_path, IsTyped, Representation, Represents, value_at, HasValueZeroAt, HasValueZero, signature_from_path, IsCanonical, listed, IsRepresentation, IsValue, words_are_paths, Matrix, IsObject, matrices, zero_matrix, Model, IsModel, HaveMatrices, side_of, arrow_of, representation_of, AreOfModel}
 use Rattle.model_checker.proofs.Arrows.{represents, side_object, arrow_of-past}
 
 -- one signature decides

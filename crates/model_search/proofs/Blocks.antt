@@ -1,11 +1,5 @@
 -- The answers to the tests of candidates in a row, and the first of them that breaks a claim.
-use Rattle.std.proofs.Common.{◌≡◌, ℕ, zero, suc, ◌+◌, ◌-◌, ◌<◌, ◌≤◌, Bool, false, List, [], ◌∷◌, length, get_or, Option, Some, None, IsNone, Result, Ok, Err, IfOk, sym, subst, ◌∙◌, arith}
-use Rattle.std.specs.List.{AllZip, range_with_len}
-use Rattle.std.proofs.lemmas.List.FromFn.{length-range_with_len}
-use Rattle.std.proofs.lemmas.Slice.Zip.{AllZip-long}
-use Rattle.adjoint_rules.specs.declared.problem.Problem.{Problem}
-use Rattle.model_search.specs.declared.found.Found.{Found}
-use Rattle.model_search.specs.Searches.{NoneBreaksAt, TellsBreaks, flag_at, IsTested, AreTested, HasFlag, IsFlag, AreUnbroken, IsFirstBroken, AreTold, IsFoundAt, IsFirstFrom}
+use Rattle.model_search.proofs.Prelude.{◌≡◌, ℕ, zero, suc, ◌+◌, ◌-◌, ◌<◌, ◌≤◌, Bool, false, List, [], ◌∷◌, length, get_or, Option, Some, None, IsNone, Result, Ok, Err, IfOk, sym, subst, ◌∙◌, arith, AllZip, range_with_len, length-range_with_len, AllZip-long, Problem, Found, NoneBreaksAt, TellsBreaks, flag_at, IsTested, AreTested, HasFlag, IsFlag, AreUnbroken, IsFirstBroken, AreTold, IsFoundAt, IsFirstFrom}
 
 -- lists side by side
 at_place : {Y : Type 0} (R : ℕ → Y → Type 0) (ys : List Y) (first n : ℕ) → AllZip R (range_with_len first n) ys → (j : ℕ) (d : Y) → j < n

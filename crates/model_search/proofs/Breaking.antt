@@ -1,20 +1,5 @@
 -- Whether a candidate breaks a claim: its model has all that a model needs, and no other model is the candidate.
-use Rattle.std.proofs.Common.{◌≡◌, ℕ, ◌<◌, List, Option, Some, None, refl, sym, ap, subst, ◌∙◌, arith}
-use Rattle.std.proofs.lemmas.Option.{same_Some}
-use Rattle.definitions.specs.Quiver.{Quiver, letters}
-use Rattle.quiver.specs.Declarations.{object_count, quiver_of}
-use Rattle.matrix_models.specs.declared.model.Model.{Model}
-use Rattle.adjoint_rules.specs.declared.parts.Shape.{Shape}
-use Rattle.adjoint_rules.specs.declared.problem.Problem.{Problem}
-use Rattle.adjoint_rules.specs.Problem.{IsShape}
-use Rattle.adjoint_rules.proofs.Generators.{posed_quiver}
-use Rattle.model_checker.specs.Models.{IsModel, HaveMatrices, IsClaimNumber, IsFitting, Refutes}
-use Rattle.model_candidates.specs.Candidates.{digits, model_by, candidate_count, IsShapeOf, IsCandidate, naming, Breaks}
-use Rattle.model_search.specs.Searches.{BreaksAt, NoneBreaksAt}
-use Rattle.model_candidates.proofs.CandidateLaws.{candidate_is_unique}
-use Rattle.model_candidates.proofs.CandidateModels.{modulus_of_shape, model_by_is_model, model_by_has_matrices}
-use Rattle.model_candidates.proofs.GivenValues.{AreGiven, quiver}
-use Rattle.model_candidates.proofs.NumberedShapes.{digits_are_values, shape_is_one, shape_is}
+use Rattle.model_search.proofs.Prelude.{◌≡◌, ℕ, ◌<◌, List, Option, Some, None, refl, sym, ap, subst, ◌∙◌, arith, same_Some, Quiver, letters, object_count, quiver_of, Model, Shape, Problem, IsShape, posed_quiver, IsModel, HaveMatrices, IsClaimNumber, IsFitting, Refutes, digits, model_by, candidate_count, IsShapeOf, IsCandidate, naming, Breaks, BreaksAt, NoneBreaksAt, candidate_is_unique, modulus_of_shape, model_by_is_model, model_by_has_matrices, AreGiven, quiver, digits_are_values, shape_is_one, shape_is}
 
 -- values of the entries make the model
 pub record IsMade (problem : Problem) (s : Shape) (m : Model) : Type 0 where

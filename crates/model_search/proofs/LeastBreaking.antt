@@ -1,12 +1,5 @@
 -- The least candidate that breaks a claim: it is one, or none breaks the claim, and what it is.
-use Rattle.std.proofs.Common.{◌≡◌, ◌⊎◌, inl, inr, ℕ}
-use Rattle.matrix_models.specs.declared.model.Model.{Model}
-use Rattle.adjoint_rules.specs.declared.problem.Problem.{Problem}
-use Rattle.model_candidates.specs.Candidates.{NoneBreaks}
-use Rattle.model_checker.specs.RefutedMeans.{RefutedMeans}
-use Rattle.model_checker.proofs.RefutedMeans.{refuted_means}
-use Rattle.model_search.specs.SearchLaws.{HasLeastBreaking, IsRefutingModel}
-use Rattle.model_search.specs.LeastBreaking.{LeastBreaks}
+use Rattle.model_search.proofs.Prelude.{◌≡◌, ◌⊎◌, inl, inr, ℕ, Model, Problem, NoneBreaks, RefutedMeans, refuted_means, HasLeastBreaking, IsRefutingModel, LeastBreaks}
 use Rattle.model_search.proofs.SearchAnswers.{least_breaking_is_unique, none_breaks_leaves_no_least, each_search_has_an_answer, breaking_candidates_refute}
 
 module _ (problem : Problem) (claim seed : ℕ) where

@@ -1,3 +1,4 @@
+mod Prelude
 pub mod Breaking
 pub mod SearchAnswers
 pub mod Tested

@@ -1,21 +1,6 @@
 -- A claim has one least breaking candidate at most, and one or none, and such a candidate is a model.
-use Rattle.std.proofs.Common.{◌≡◌, ℕ, zero, suc, ◌+◌, ◌<◌, ◌≤◌, length, Option, Some, None, slice_get, ◌⊎◌, inl, inr, refl, sym, ap, subst, ◌∙◌, arith}
-use Rattle.std.proofs.lemmas.Bool.{cases_lt, cases_eq}
-use Rattle.std.proofs.lemmas.Option.{slice_get_within}
-use Rattle.quiver.specs.Declarations.{quiver_of}
-use Rattle.quiver.proofs.Counts.{letters-quiver_of}
-use Rattle.matrix_models.specs.declared.model.Model.{Model}
-use Rattle.adjoint_rules.specs.declared.parts.Shape.{Shape}
-use Rattle.adjoint_rules.specs.declared.problem.Problem.{Problem}
-use Rattle.model_checker.specs.Models.{IsModel, Refutes}
-use Rattle.model_candidates.specs.Candidates.{IsShapeOf, IsCandidate, candidate_count, naming, Breaks, IsEarlier, NoneBreaks}
-use Rattle.model_search.specs.SearchLaws.{LeastBreakingIsUnique, NoneBreaksLeavesNoLeast, HasLeastBreaking, EachSearchHasAnAnswer, BreakingCandidatesRefute}
-use Rattle.model_search.specs.Searches.{NoneBreaksAt}
+use Rattle.model_search.proofs.Prelude.{◌≡◌, ℕ, zero, suc, ◌+◌, ◌<◌, ◌≤◌, length, Option, Some, None, slice_get, ◌⊎◌, inl, inr, refl, sym, ap, subst, ◌∙◌, arith, cases_lt, cases_eq, slice_get_within, quiver_of, letters-quiver_of, Model, Shape, Problem, IsModel, Refutes, IsShapeOf, IsCandidate, candidate_count, naming, Breaks, IsEarlier, NoneBreaks, LeastBreakingIsUnique, NoneBreaksLeavesNoLeast, HasLeastBreaking, EachSearchHasAnAnswer, BreakingCandidatesRefute, NoneBreaksAt, shape_is_one, each_number_has_a_candidate, IsDecided, refutes_decided}
 use Rattle.model_search.proofs.Breaking.{named_model, breaks_where_it_refutes, none_without_model, none_where_it_does_not, breaking_model_is_one}
-use Rattle.model_candidates.proofs.NumberedShapes.{shape_is_one}
-use Rattle.model_candidates.proofs.CandidateLaws.{each_number_has_a_candidate}
-use Rattle.lists.proofs.Decided.{IsDecided}
-use Rattle.model_checker.proofs.Judged.{refutes_decided}
 
 -- of two places one is earlier, or they are one
 either_earlier : (n k n' k' : ℕ) → IsEarlier n k n' k' ⊎ IsEarlier n' k' n k ⊎ ((n ≡ n') × (k ≡ k'))

@@ -1,16 +1,5 @@
 -- What is known of claims after each block of a shape, and after each shape.
-use Rattle.std.proofs.Common.{◌≡◌, ℕ, ◌+◌, ◌<◌, ◌≤◌, List, [], ◌∷◌, ◌++◌, length, get_or, Option, Some, None, IfSome, IfNone, IsNone, MatchOption, ◌⊎◌, inl, inr, refl, sym, ap, subst, ◌∙◌, arith, suc, set, not, false, true≢false, is_none}
-use Rattle.std.specs.List.{AllZip, list_any}
-use Rattle.std.proofs.lemmas.List.{length-set, get_or-set_same, get_or-set_other}
-use Rattle.std.proofs.lemmas.List.Folds.{list_any_at}
-use Rattle.std.proofs.lemmas.Bool.{cases_lt}
-use Rattle.std.proofs.lemmas.Option.{slice_get_within}
-use Rattle.quiver.specs.Declarations.{quiver_of}
-use Rattle.adjoint_rules.specs.declared.parts.Shape.{Shape}
-use Rattle.adjoint_rules.specs.declared.problem.Problem.{Problem}
-use Rattle.model_search.specs.declared.found.Found.{Found}
-use Rattle.model_candidates.specs.Candidates.{IsShapeOf, candidate_count, Breaks, IsEarlier, IsLeastBreaking, NoneBreaks}
-use Rattle.model_search.specs.Searches.{NoneBreaksAt, IsFirstFrom, NoneBefore, IsSearchedTo, AreSearchedTo}
+use Rattle.model_search.proofs.Prelude.{◌≡◌, ℕ, ◌+◌, ◌<◌, ◌≤◌, List, [], ◌∷◌, ◌++◌, length, get_or, Option, Some, None, IfSome, IfNone, IsNone, MatchOption, ◌⊎◌, inl, inr, refl, sym, ap, subst, ◌∙◌, arith, suc, set, not, false, true≢false, is_none, AllZip, list_any, length-set, get_or-set_same, get_or-set_other, list_any_at, cases_lt, slice_get_within, quiver_of, Shape, Problem, Found, IsShapeOf, candidate_count, Breaks, IsEarlier, IsLeastBreaking, NoneBreaks, NoneBreaksAt, IsFirstFrom, NoneBefore, IsSearchedTo, AreSearchedTo}
 
 module _ (problem : Problem) (claim seed : ℕ) where
   abbrev None_in : ℕ → ℕ → Type 0

@@ -1,17 +1,5 @@
 -- The result of the test of a candidate for claims, by its model.
-use Rattle.std.proofs.Common.{◌≡◌, ◌+◌, ◌<◌, ◌≤◌, ◌↔◌, ◌⊎◌, inl, inr, ℕ, Bool, true, false, not, List, [], ◌∷◌, ◌++◌, length, get_or, Option, Some, None, IsNone, IsTrue, refl, ap, subst, true≢false, sym, ◌∙◌, arith}
-use Rattle.std.specs.List.{All, AllByRecursion}
-use Rattle.std.proofs.lemmas.List.Elements.{All-get_or}
-use Rattle.std.proofs.lemmas.Bool.{cases_lt}
-use Rattle.std.proofs.lemmas.List.{length_push, get_or_append_left, get_or_push}
-use Rattle.quiver.specs.Declarations.{quiver_of}
-use Rattle.matrix_models.specs.declared.model.Model.{Model}
-use Rattle.adjoint_rules.specs.declared.parts.Shape.{Shape}
-use Rattle.adjoint_rules.specs.declared.problem.Problem.{Problem}
-use Rattle.model_search.specs.declared.found.Found.{Found}
-use Rattle.model_checker.specs.Models.{IsClaimNumber, IsZeroIn, assumptions_of, claim_polynomial, Refutes}
-use Rattle.model_candidates.specs.Candidates.{IsShapeOf, IsCandidate, candidate_count, naming}
-use Rattle.model_search.specs.Searches.{NoneBreaksAt, TellsBreaks, AreBroken, AreFlags, AreOfClaims, IsTested}
+use Rattle.model_search.proofs.Prelude.{◌≡◌, ◌+◌, ◌<◌, ◌≤◌, ◌↔◌, ◌⊎◌, inl, inr, ℕ, Bool, true, false, not, List, [], ◌∷◌, ◌++◌, length, get_or, Option, Some, None, IsNone, IsTrue, refl, ap, subst, true≢false, sym, ◌∙◌, arith, All, AllByRecursion, All-get_or, cases_lt, length_push, get_or_append_left, get_or_push, quiver_of, Model, Shape, Problem, Found, IsClaimNumber, IsZeroIn, assumptions_of, claim_polynomial, Refutes, IsShapeOf, IsCandidate, candidate_count, naming, NoneBreaksAt, TellsBreaks, AreBroken, AreFlags, AreOfClaims, IsTested}
 use Rattle.model_search.proofs.Breaking.{named_fits, breaks_where_it_refutes, none_where_it_does_not, none_without_model}
 
 module _ (problem : Problem) (seed number k : ℕ) (s : Shape) (of : IsShapeOf problem number s) (claims : List ℕ) (found : List (Option Found)) where

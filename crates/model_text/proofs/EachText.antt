@@ -1,10 +1,5 @@
 -- Each text has models or a first fault, in one way.
-use Rattle.std.proofs.Common.{List}
-use Rattle.quiver.specs.Declarations.{Declaration}
-use Rattle.block_text.specs.Laws.{EachIsRead, ValuesAreUnique, FaultIsUnique, ValuesHaveNoFault, AreTold}
-use Rattle.block_text.proofs.TextLaws.{are_told}
-use Rattle.model_text.specs.Models.{model_kind, IsModels, IsFirstFault}
-use Rattle.model_text.specs.Reading.{model_steps}
+use Rattle.model_text.proofs.Prelude.{List, Declaration, EachIsRead, ValuesAreUnique, FaultIsUnique, ValuesHaveNoFault, AreTold, are_told, model_kind, IsModels, IsFirstFault, model_steps}
 use Rattle.model_text.proofs.Reader.{reader}
 
 module _ (ds : List Declaration) where

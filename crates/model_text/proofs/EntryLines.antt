@@ -1,15 +1,5 @@
 -- The lines `side` and `map`: what is read of a line is the tree whose line it is.
-use Rattle.std.proofs.Common.{◌≡◌, ℕ, Bool, true, false, ◌&&◌, List, [], ◌∷◌, ◌++◌, Option, Some, IsTrue, refl, ap, ap₂, subst, codes}
-use Rattle.std.specs.List.{list_all}
-use Rattle.std.specs.Option.{option_and_then}
-use Rattle.std.proofs.lemmas.Bool.{and_parts}
-use Rattle.std.proofs.lemmas.Option.{option_and_then_some, cond_some}
-use Rattle.block_text.specs.Letters.{is_number}
-use Rattle.block_text.specs.Lines.{is, begins, is_end, Line}
-use Rattle.block_text.proofs.LineTrees.{is_word, other_word}
-use Rattle.block_text.proofs.Results.{by_test}
-use Rattle.model_text.specs.ModelBlocks.{EntryTokens, side, matrix, more_rows, entry_line, is_row, is_row_of, is_entry}
-use Rattle.model_text.specs.Reading.{rows_in, side_tokens, map_tokens, if_entry, entry_tokens}
+use Rattle.model_text.proofs.Prelude.{◌≡◌, ℕ, Bool, true, false, ◌&&◌, List, [], ◌∷◌, ◌++◌, Option, Some, IsTrue, refl, ap, ap₂, subst, codes, list_all, option_and_then, and_parts, option_and_then_some, cond_some, is_number, is, begins, is_end, Line, is_word, other_word, by_test, EntryTokens, side, matrix, more_rows, entry_line, is_row, is_row_of, is_entry, rows_in, side_tokens, map_tokens, if_entry, entry_tokens}
 
 -- rows
 rows_cut : (token : List ℕ) (tokens : Line) (b : Bool) → is (codes ";") token ≡ b → tokens ≡ (rows_in tokens).0 ++ more_rows (rows_in tokens).1

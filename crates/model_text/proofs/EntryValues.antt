@@ -1,22 +1,7 @@
 -- What a line `side` or `map` says, and the bounds that it keeps.
-use Rattle.std.proofs.Common.{◌≡◌, ◌<◌, ◌≤◌, ◌-◌, ℕ, Bool, true, false, ◌&&◌, List, [], ◌∷◌, ◌++◌, Option, Some, None, Result, arith, refl, sym, ap, ap₂, ◌∙◌, length, map, nat_le}
-use Rattle.std.specs.List.{All, AllZip, flat_map, range_with_len}
-use Rattle.std.proofs.lemmas.Bool.{and_parts}
-use Rattle.std.proofs.lemmas.Bool.Decides.{nat_tests}
-use Rattle.std.proofs.lemmas.List.Elements.{All-nil, All-cons, All-head, All-tail, All-append, All-replicate}
-use Rattle.quiver.specs.declared.named.Named.{Named}
-use Rattle.quiver.specs.declared.named.Named.TheVariants.{Object, Map}
-use Rattle.quiver.specs.Declarations.{Declaration, named_in, object_count, letter_count}
-use Rattle.block_text.specs.declared.fault.Flaw.{Flaw}
-use Rattle.block_text.specs.Lines.{Line}
-use Rattle.model_text.specs.declared.place.Entry.{Entry}
+use Rattle.model_text.proofs.Prelude.{◌≡◌, ◌<◌, ◌≤◌, ◌-◌, ℕ, Bool, true, false, ◌&&◌, List, [], ◌∷◌, ◌++◌, Option, Some, None, Result, arith, refl, sym, ap, ap₂, ◌∙◌, length, map, nat_le, All, AllZip, flat_map, range_with_len, and_parts, nat_tests, All-nil, All-cons, All-head, All-tail, All-append, All-replicate, Named, Object, Map, Declaration, named_in, object_count, letter_count, Flaw, Line, Entry, EntryTokens, side, matrix, side_limit, Bound, names, numbers, sizes, bounds, flaw_of, value_of, matrix_value, side_of, matrix_of, ModelTokens, model_value, HasName, IsBelow, IsSmall, KeepsEntry, SaysEntry, entry_kind, values_below, entry_value, side_in, matrix_in, sides_in, maps_in, model_of, IsJudged, fine, fails}
 use Rattle.model_text.specs.declared.place.Entry.TheVariants as entry
-use Rattle.model_text.specs.ModelBlocks.{EntryTokens, side, matrix}
-use Rattle.matrix_models.specs.Limits.{side_limit}
-use Rattle.model_text.specs.ModelBounds.{Bound, names, numbers, sizes, bounds, flaw_of, value_of, matrix_value, side_of, matrix_of, ModelTokens, model_value, HasName, IsBelow, IsSmall, KeepsEntry, SaysEntry, entry_kind}
-use Rattle.model_text.specs.Reading.{values_below, entry_value, side_in, matrix_in, sides_in, maps_in, model_of}
 use Rattle.block_text.proofs.Bounds as listed
-use Rattle.block_lines.proofs.NamedLines.{IsJudged, fine, fails}
 use Rattle.model_text.proofs.Values.{are_values}
 
 -- the bounds that are tested before it

@@ -1,16 +1,6 @@
 -- Worked texts, over the objects U and V and maps a : U -> V and b : V -> U.
 use lib.Utf8.{encode}
-use Rattle.std.proofs.Common.{◌≡◌, false, List, [], ◌∷◌, ℕ, Some, None, Result, Ok, Err, arith, refl, codes}
-use Rattle.std.proofs.lemmas.Fmt.{decimal_digit}
-use Rattle.std.specs.Str.{is_utf8, chars}
-use Rattle.quiver.specs.Declarations.{Declaration, object, arrow}
-use Rattle.matrix_models.specs.declared.model.Model.{Model}
-use Rattle.block_text.specs.Fault.{Fault, truncated, no_block}
-use Rattle.block_text.specs.Tokens.{tokens_of}
-use Rattle.model_text.specs.ModelBlocks.{side, matrix, entry_line}
-use Rattle.block_text.specs.Steps.{all_values}
-use Rattle.model_text.specs.Reading.{model_steps}
-use Rattle.model_text.specs.Written.{model_text}
+use Rattle.model_text.proofs.Prelude.{◌≡◌, false, List, [], ◌∷◌, ℕ, Some, None, Result, Ok, Err, arith, refl, codes, decimal_digit, is_utf8, chars, Declaration, object, arrow, Model, Fault, truncated, no_block, tokens_of, side, matrix, entry_line, all_values, model_steps, model_text}
 
 abbrev declared : List Declaration
 declared = object (codes "U") ∷ object (codes "V") ∷ arrow (codes "a") 0 1 false ∷ arrow (codes "b") 1 0 false ∷ []

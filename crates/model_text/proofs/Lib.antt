@@ -1,3 +1,4 @@
+mod Prelude
 mod Ranges
 mod Rows
 mod Values

@@ -1,21 +1,5 @@
 -- What is read of a matrix that is written.
-use Rattle.std.proofs.Common.{◌≡◌, ◌<◌, ◌+◌, ◌*◌, ◌^◌, ◌==◌, ℕ, zero, suc, Bool, true, false, cond, List, [], ◌∷◌, ◌++◌, arith, refl, sym, ap, ap₂, ◌∙◌, length, map, get_or, drop, codes}
-use Rattle.std.specs.Prelude.{decimal}
-use Rattle.std.specs.List.{flat_map, range_with_len}
-use Rattle.std.proofs.lemmas.Bool.{ne_eqb}
-use Rattle.std.proofs.lemmas.Fmt.{decimal_is_IsNumeral_wide}
-use Rattle.std.proofs.lemmas.List.{append_assoc, map-append}
-use Rattle.std.proofs.lemmas.List.FromFn.{length-map-range_with_len, fill_by_all}
-use Rattle.matrix_models.specs.Matrix.{Matrix, entry_at, IsMatrix}
-use Rattle.block_text.specs.Lines.{Line}
-use Rattle.block_text.specs.Tokens.{goes_on, tokens_of}
-use Rattle.block_text.specs.Back.{IsLineText}
-use Rattle.block_text.proofs.NumbersBack.{decimal_text}
-use Rattle.block_text.proofs.TextsBack.{line_text-append, literal, plain_name}
-use Rattle.block_text.proofs.TokensBack.{IsToken, token_read, name_token}
-use Rattle.model_text.specs.ModelBlocks.{more_rows}
-use Rattle.model_text.specs.ModelBounds.{value_of, matrix_value}
-use Rattle.model_text.specs.Written.{between, entry_text, row_text, part_text, rows_text}
+use Rattle.model_text.proofs.Prelude.{◌≡◌, ◌<◌, ◌+◌, ◌*◌, ◌^◌, ◌==◌, ℕ, zero, suc, Bool, true, false, cond, List, [], ◌∷◌, ◌++◌, arith, refl, sym, ap, ap₂, ◌∙◌, length, map, get_or, drop, codes, decimal, flat_map, range_with_len, ne_eqb, decimal_is_IsNumeral_wide, append_assoc, map-append, length-map-range_with_len, fill_by_all, Matrix, entry_at, IsMatrix, Line, goes_on, tokens_of, IsLineText, decimal_text, line_text-append, literal, plain_name, IsToken, token_read, name_token, more_rows, value_of, matrix_value, between, entry_text, row_text, part_text, rows_text}
 use Rattle.model_text.proofs.Ranges.{range-append}
 
 pub value_back : (n : ℕ) → n < 10 ^ 64 → value_of (decimal n) ≡ n

@@ -1,30 +1,6 @@
 -- What holds of the models that are read.
-use Rattle.std.proofs.Common.{◌≡◌, ◌<◌, ◌≤◌, ◌+◌, ◌*◌, ℕ, Bool, true, false, ◌&&◌, cond, List, [], ◌∷◌, Some, None, Result, IfOk, IsTrue, arith, refl, sym, ap, ◌∙◌, subst, length, nat_eq, nat_le, nat_lt}
-use Rattle.std.specs.List.{All, flat_map, list_all, range_with_len}
-use Rattle.std.proofs.lemmas.Bool.{and_parts}
-use Rattle.std.proofs.lemmas.Bool.Decides.{nat_tests}
-use Rattle.std.proofs.lemmas.List.{length-map}
-use Rattle.std.proofs.lemmas.List.Elements.{All-head, All-tail, All-map}
-use Rattle.std.proofs.lemmas.List.FromFn.{get_or-map-range_with_len, length-map-range_with_len}
-use Rattle.quiver.specs.declared.named.Named.TheVariants.{Map}
-use Rattle.quiver.specs.Declarations.{Declaration, object_count, letter_count, named_in}
-use Rattle.matrix_models.specs.Matrix.{IsModulus, IsSide, IsMatrix}
-use Rattle.matrix_models.specs.declared.model.Model.{Model}
-use Rattle.block_text.specs.declared.fault.CertFault.{CertFault}
-use Rattle.block_text.specs.Lines.{Line}
-use Rattle.block_text.specs.Fault.{ReadsText}
-use Rattle.block_text.specs.Letters.{is_name, is_number}
-use Rattle.model_text.specs.ModelBlocks.{EntryTokens, side, matrix, is_row, is_row_of, is_entry}
-use Rattle.matrix_models.specs.Limits.{modulus_limit, side_limit}
-use Rattle.model_text.specs.ModelBounds.{Bound, names, numbers, sizes, value_of, is_object_named, side_of, matrix_value, matrix_of, ModelTokens, model_value, HasName, IsBelow, IsSmall}
-use Rattle.model_text.specs.Written.{is_map_named}
-use Rattle.model_text.specs.Models.{model_kind, HasMap, IsPlaced, IsModel, IsModels}
-use Rattle.block_text.specs.Steps.{all_values}
-use Rattle.model_text.specs.Reading.{model_steps}
+use Rattle.model_text.proofs.Prelude.{◌≡◌, ◌<◌, ◌≤◌, ◌+◌, ◌*◌, ℕ, Bool, true, false, ◌&&◌, cond, List, [], ◌∷◌, Some, None, Result, IfOk, IsTrue, arith, refl, sym, ap, ◌∙◌, subst, length, nat_eq, nat_le, nat_lt, All, flat_map, list_all, range_with_len, and_parts, nat_tests, length-map, All-head, All-tail, All-map, get_or-map-range_with_len, length-map-range_with_len, Map, Declaration, object_count, letter_count, named_in, IsModulus, IsSide, IsMatrix, Model, CertFault, Line, ReadsText, is_name, is_number, EntryTokens, side, matrix, is_row, is_row_of, is_entry, modulus_limit, side_limit, Bound, names, numbers, sizes, value_of, is_object_named, side_of, matrix_value, matrix_of, ModelTokens, model_value, HasName, IsBelow, IsSmall, is_map_named, model_kind, HasMap, IsPlaced, IsModel, IsModels, all_values, model_steps, values_are, read_values_are, within_limit, everywhere}
 use Rattle.model_text.proofs.EntryValues.{flat_from}
-use Rattle.block_text.proofs.EachText.{values_are, read_values_are}
-use Rattle.block_text.proofs.SaidLines.{within_limit}
-use Rattle.block_text.proofs.Standing.{everywhere}
 use Rattle.model_text.proofs.Reader.{reader}
 use Rattle.model_text.proofs.Values.{rows_have_length}
 

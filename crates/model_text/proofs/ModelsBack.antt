@@ -1,35 +1,6 @@
 -- A model that is written is read back, whatever texts are before and after it.
-use Rattle.std.proofs.Common.{◌≡◌, ◌<◌, ◌≤◌, ◌+◌, ◌*◌, ◌^◌, ℕ, zero, suc, Bool, true, false, List, [], ◌∷◌, ◌++◌, Option, Some, None, arith, refl, sym, ap, ◌∙◌, subst, length, map, get_or, nat_eq, nat_lt, nat_le, drop, codes, IsTrue, eq-eqb}
-use Rattle.std.specs.Prelude.{decimal}
-use Rattle.std.specs.List.{All, flat_map, list_all, range_with_len}
-use Rattle.std.proofs.lemmas.Bool.{le-leb, lt-ltb, ne_eqb}
-use Rattle.std.proofs.lemmas.Bool.Decides.{nat_tests}
-use Rattle.std.proofs.lemmas.List.{append_assoc, map-append}
-use Rattle.std.proofs.lemmas.List.Elements.{All-nil, All-cons, All-head, All-tail, All-append, All-weaker}
-use Rattle.std.proofs.lemmas.List.FromFn.{fill_by_all}
-use Rattle.quiver.specs.Declarations.{Declaration, object_count, letter_count, object_name, letter_name, IsDeclared}
-use Rattle.matrix_models.specs.Matrix.{Matrix, entry_at, IsSide, IsMatrix}
-use Rattle.matrix_models.specs.declared.model.Model.{Model}
-use Rattle.block_text.specs.Lines.{number_limit, claim_line, end_line}
-use Rattle.block_text.proofs.SaidLines.{number_found}
-use Rattle.matrix_models.specs.Limits.{modulus_limit}
-use Rattle.block_text.specs.Letters.{is_number}
-use Rattle.block_text.specs.Tokens.{tokens_of}
-use Rattle.block_text.specs.Back.{is_whole, is_named}
-use Rattle.block_text.proofs.ContentBack.{IsTextOf, no_text, text-append, text_of_tokens}
-use Rattle.block_text.proofs.NameBytes.{name_text}
-use Rattle.block_text.proofs.NumbersBack.{decimal_text, decimal_number}
-use Rattle.block_text.proofs.NumberLines.{text_of_number, end_is_text}
-use Rattle.block_text.proofs.TextsBack.{line_text-append, literal, plain_name}
-use Rattle.block_text.proofs.TokensBack.{token_read, name_token}
-use Rattle.model_text.specs.ModelBlocks.{EntryTokens, side, matrix, modulus_line, entry_line, name_of, is_row, is_row_of, is_entry}
-use Rattle.model_text.specs.ModelBounds.{Bound, names, numbers, sizes, value_of, side_of, matrix_of, ModelTokens, model_value, HasName, IsBelow, IsSmall, KeepsEntry}
-use Rattle.model_text.specs.Models.{model_kind, HasModels, HasMap, IsPlaced}
-use Rattle.model_text.specs.Written.{rows_text, side_text, sides_text, map_text, maps_text, head_text, model_text}
-use Rattle.model_text.specs.Back.{IsWritableModel, ModelsAreReadBack}
+use Rattle.model_text.proofs.Prelude.{◌≡◌, ◌<◌, ◌≤◌, ◌+◌, ◌*◌, ◌^◌, ℕ, zero, suc, Bool, true, false, List, [], ◌∷◌, ◌++◌, Option, Some, None, arith, refl, sym, ap, ◌∙◌, subst, length, map, get_or, nat_eq, nat_lt, nat_le, drop, codes, IsTrue, eq-eqb, decimal, All, flat_map, list_all, range_with_len, le-leb, lt-ltb, ne_eqb, nat_tests, append_assoc, map-append, All-nil, All-cons, All-head, All-tail, All-append, All-weaker, fill_by_all, Declaration, object_count, letter_count, object_name, letter_name, IsDeclared, Matrix, entry_at, IsSide, IsMatrix, Model, number_limit, claim_line, end_line, number_found, modulus_limit, is_number, tokens_of, is_whole, is_named, IsTextOf, no_text, text-append, text_of_tokens, name_text, decimal_text, decimal_number, text_of_number, end_is_text, line_text-append, literal, plain_name, token_read, name_token, EntryTokens, side, matrix, modulus_line, entry_line, name_of, is_row, is_row_of, is_entry, Bound, names, numbers, sizes, value_of, side_of, matrix_of, ModelTokens, model_value, HasName, IsBelow, IsSmall, KeepsEntry, model_kind, HasModels, HasMap, IsPlaced, rows_text, side_text, sides_text, map_text, maps_text, head_text, model_text, IsWritableModel, ModelsAreReadBack, IsWritten, text_of_block, are_read_back}
 use Rattle.model_text.proofs.MatricesBack.{value_back, row_tokens, later_rows, matrix_read, matrix_line, rows_count, columns_count, matrix_back}
-use Rattle.block_text.proofs.PartsBack.{IsWritten, text_of_block}
-use Rattle.block_text.proofs.TextLaws.{are_read_back}
 use Rattle.model_text.proofs.Reader.{reader}
 use Rattle.model_text.proofs.NamesApart.{Ascend, ascend_lower, ascending_apart}
 use Rattle.model_text.proofs.ObjectNames.{IsObjectName, object_is_named, IsMapName, map_is_named}

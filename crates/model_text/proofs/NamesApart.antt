@@ -1,12 +1,5 @@
 -- Names that stand for things of higher and higher ranks are pairwise different.
-use Rattle.std.proofs.Common.{◌≢◌, ◌≤◌, ◌+◌, ℕ, List, [], ◌∷◌, Option, Some, None, arith, ap}
-use Rattle.std.specs.Prelude.{⊤}
-use Rattle.std.specs.List.{All, AllPairs}
-use Rattle.std.proofs.lemmas.List.Elements.{All-nil, All-cons, All-weaker}
-use Rattle.std.proofs.lemmas.List.Kept.{AllPairs-cons}
-use Rattle.quiver.specs.declared.named.Named.{Named}
-use Rattle.quiver.specs.declared.named.Named.TheVariants.{Object, Map}
-use Rattle.quiver.specs.Declarations.{Declaration, object_count, named_in}
+use Rattle.model_text.proofs.Prelude.{◌≢◌, ◌≤◌, ◌+◌, ℕ, List, [], ◌∷◌, Option, Some, None, arith, ap, ⊤, All, AllPairs, All-nil, All-cons, All-weaker, AllPairs-cons, Named, Object, Map, Declaration, object_count, named_in}
 
 -- objects in their order, and then maps
 abbrev pub rank_of : List Declaration → Option Named → ℕ

@@ -1,13 +1,6 @@
 -- What the name of an object stands for, and that of a declared map.
-use Rattle.std.proofs.Common.{◌≡◌, ◌≢◌, ◌<◌, ◌+◌, ℕ, true, List, ◌∷◌, ◌++◌, Some, arith, sym, ap, ◌∙◌, subst, map, IsTrue}
-use Rattle.std.specs.List.{AllPairs, list_all}
-use Rattle.quiver.specs.declared.named.Named.TheVariants.{Object, Map}
-use Rattle.quiver.specs.Declarations.{Declaration, object, name_of, object_count, object_name, letter_name, named_in, IsDeclared}
-use Rattle.quiver.proofs.Found.{is_named as is_found, object_name-split}
-use Rattle.block_text.specs.Letters.{is_name}
-use Rattle.block_text.specs.Back.{is_named}
-use Rattle.block_text.proofs.LetterNames.{object_placed, apart, found, named_between, letter_is_spelled}
-use Rattle.model_text.specs.Models.{HasMap}
+use Rattle.model_text.proofs.Prelude.{◌≡◌, ◌≢◌, ◌<◌, ◌+◌, ℕ, true, List, ◌∷◌, ◌++◌, Some, arith, sym, ap, ◌∙◌, subst, map, IsTrue, AllPairs, list_all, Object, Map, Declaration, object, object_count, object_name, letter_name, named_in, IsDeclared, is_found, object_name-split, is_name, is_named, object_placed, apart, found, named_between, letter_is_spelled, HasMap}
+use Rattle.quiver.specs.Declarations.{name_of}
 
 -- the name of an object is a name, and stands for it
 pub record IsObjectName (ds : List Declaration) (v : ℕ) : Type 0 where

@@ -1,26 +1,5 @@
 -- A reader of models is a reader of blocks.
-use Rattle.std.proofs.Common.{arith, ◌≡◌, ◌≤◌, ◌&&◌, ◌∷◌, [], ℕ, List, Some, IsTrue, refl, sym, ap₂, ◌∙◌, subst, nat_le, codes}
-use Rattle.std.proofs.lemmas.Bool.{and_parts}
-use Rattle.std.proofs.lemmas.Bool.Decides.{nat_tests}
-use Rattle.std.proofs.lemmas.Option.{cond_some}
-use Rattle.quiver.specs.Declarations.{Declaration}
-use Rattle.block_text.specs.declared.fault.Flaw.TheVariants.{NumberTooLarge}
-use Rattle.block_text.specs.Letters.{is_number, number_within}
-use Rattle.block_text.specs.Lines.{Line, number_limit, is}
-use Rattle.block_text.proofs.Bounds.{bound_of}
-use Rattle.block_text.proofs.LineTrees.{is_word}
-use Rattle.block_text.proofs.Owed.{IsReader}
-use Rattle.block_text.proofs.SaidLines.{within_limit, number_found}
-use Rattle.block_lines.specs.LineKinds.{said_line}
-use Rattle.block_lines.specs.Sections.{named_lines}
-use Rattle.block_lines.proofs.NamedLines.{IsJudged, AreTokens, named_fit, named_read}
-use Rattle.block_lines.proofs.SectionBlocks.{number_read, block_read}
-use Rattle.block_lines.proofs.SectionReaders.{IsLineReader, IsSectionReader, said_reader, line_read, line_read_by, said_as_read}
-use Rattle.matrix_models.specs.Limits.{modulus_limit}
-use Rattle.model_text.specs.ModelBlocks.{modulus_line, name_of, is_modulus}
-use Rattle.model_text.specs.ModelBounds.{Bound, names, numbers, bounds, flaw_of, value_of, model_value, entry_kind}
-use Rattle.model_text.specs.Models.{other_words, model_kind}
-use Rattle.model_text.specs.Reading.{entry_tokens, entry_value, model_of, modulus_digits, modulus_of, entry_steps, model_steps}
+use Rattle.model_text.proofs.Prelude.{arith, ◌≡◌, ◌≤◌, ◌&&◌, ◌∷◌, [], ℕ, List, Some, IsTrue, refl, sym, ap₂, ◌∙◌, subst, nat_le, codes, and_parts, nat_tests, cond_some, Declaration, NumberTooLarge, is_number, number_within, Line, number_limit, is, bound_of, is_word, IsReader, within_limit, number_found, said_line, named_lines, IsJudged, AreTokens, named_fit, named_read, number_read, block_read, IsLineReader, IsSectionReader, said_reader, line_read, line_read_by, said_as_read, modulus_limit, modulus_line, name_of, is_modulus, Bound, names, numbers, bounds, flaw_of, value_of, model_value, entry_kind, other_words, model_kind, entry_tokens, entry_value, model_of, modulus_digits, modulus_of, entry_steps, model_steps}
 use Rattle.model_text.proofs.EntryLines.{entry_is, entry_read, entry_goes_on}
 use Rattle.model_text.proofs.EntryValues.{entry_judged, says_once, model_is}
 

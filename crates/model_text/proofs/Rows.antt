@@ -1,14 +1,5 @@
 -- The first ; of a line, and the rows on both sides of it.
-use Rattle.std.proofs.Common.{◌≡◌, ◌<◌, ◌+◌, ◌-◌, ◌∙◌, ℕ, suc, true, false, List, [], ◌∷◌, ◌++◌, Some, None, arith, refl, ap, length, take, drop, nat_lt, codes}
-use Rattle.std.proofs.lemmas.Bool.Decides.{nat_tests}
-use Rattle.std.proofs.lemmas.List.{take_rest}
-use Rattle.std.proofs.lemmas.Option.{cond_some}
-use Rattle.std.specs.List.{AllByRecursion, position, position_or_len}
-use Rattle.block_text.specs.Lines.{Line, is}
-use Rattle.block_text.specs.Tokens.{tokens_of}
-use Rattle.block_text.proofs.Closing.{IsSign, tokens_around, others, front_without, split_at_sign, all_without}
-use Rattle.model_text.specs.Reading.{rows_in}
-use Rattle.model_text.specs.Views.{ends_row}
+use Rattle.model_text.proofs.Prelude.{◌≡◌, ◌<◌, ◌+◌, ◌-◌, ◌∙◌, ℕ, suc, true, false, List, [], ◌∷◌, ◌++◌, Some, None, arith, refl, ap, length, take, drop, nat_lt, codes, nat_tests, take_rest, cond_some, AllByRecursion, position, position_or_len, Line, is, tokens_of, IsSign, tokens_around, others, front_without, split_at_sign, all_without, rows_in, ends_row}
 
 semicolon : IsSign 59
 semicolon = record { sign = refl; gap = refl }

@@ -1,22 +1,5 @@
 -- Numbers in rows, and their values below a modulus.
-use Rattle.std.proofs.Common.{◌≡◌, ◌<◌, ◌≤◌, ◌+◌, ◌-◌, ◌*◌, ℕ, true, List, [], ◌∷◌, ◌++◌, Option, Some, None, Ok, arith, refl, sym, ap, ap₂, ◌∙◌, subst, length, map, nat_le, nat_lt, nat_eq}
-use Rattle.std.specs.List.{All, flat_map, list_all}
-use Rattle.std.specs.Option.{option_map, option_and_then}
-use Rattle.std.proofs.lemmas.Bool.{and_parts}
-use Rattle.std.proofs.lemmas.Bool.Decides.{nat_tests}
-use Rattle.std.proofs.lemmas.List.{length-append, length-map, append_assoc, append-nil}
-use Rattle.std.proofs.lemmas.List.Elements.{All-nil, All-cons}
-use Rattle.std.proofs.lemmas.List.Folds.{list_all-append}
-use Rattle.std.proofs.lemmas.Option.{option_and_then_some, cond_some}
-use Rattle.std.proofs.Math.Nat.{mul-le-mul_left}
-use Rattle.block_text.specs.Lines.{Line}
-use Rattle.block_text.specs.Fault.{asked}
-use Rattle.block_text.specs.declared.fault.Flaw.TheVariants.{NumberTooLarge}
-use Rattle.block_text.specs.Letters.{is_number, number_within}
-use Rattle.block_text.proofs.Results.{option_map_some, asked_ok}
-use Rattle.model_text.specs.ModelBlocks.{is_row, is_row_of}
-use Rattle.model_text.specs.ModelBounds.{value_of}
-use Rattle.model_text.specs.Reading.{AreRows, after, values_below, values_in}
+use Rattle.model_text.proofs.Prelude.{◌≡◌, ◌<◌, ◌≤◌, ◌+◌, ◌-◌, ◌*◌, ℕ, true, List, [], ◌∷◌, ◌++◌, Option, Some, None, Ok, arith, refl, sym, ap, ap₂, ◌∙◌, subst, length, map, nat_le, nat_lt, nat_eq, All, flat_map, list_all, option_map, option_and_then, and_parts, nat_tests, length-append, length-map, append_assoc, append-nil, All-nil, All-cons, list_all-append, option_and_then_some, cond_some, mul-le-mul_left, Line, asked, NumberTooLarge, is_number, number_within, option_map_some, asked_ok, is_row, is_row_of, value_of, AreRows, after, values_below, values_in}
 
 -- these are the values of the numbers, and all are below the modulus
 pub record AreValues (m : ℕ) (numbers : Line) (values : List ℕ) : Type 0 where

@@ -1,23 +1,5 @@
 -- Adjoints of words and polynomials by a list of letters.
-use Rattle.std.proofs.Common.{◌≡◌, ◌≢◌, ℕ, ◌≤◌, ℤ, pos, ◌+ℤ◌, true, false, cond, inl, inr, List, [], ◌∷◌, ◌++◌, length, map, nat_le, sym, refl, ap, ap₂, subst, ◌∙◌, arith, append_assoc}
-use Rattle.std.proofs.lemmas.Bool.{cases_lt, and_from, leb-true, le-leb}
-use Rattle.std.proofs.lemmas.List.{append-nil, get_or_past, length-append}
-use Rattle.std.proofs.lemmas.List.Elements.{All-tail}
-use Rattle.std.proofs.Math.IntN.{+ℤ_comm}
-use Rattle.std.specs.List.{All, list_all}
-use Rattle.std.specs.Cmp.{both_ways}
-use Rattle.std.specs.BTreeMap.{BTreeMap, IsOrdered, btree_map_len}
-use Rattle.word_core.specs.Canonical.{word_cmp}
-use Rattle.nc_polynomial.specs.Collected.{coefficient_in}
-use Rattle.coef_int.specs.Range.{IsCoefficient}
-use Rattle.definitions.specs.Poly.{Term, word_eq, coefficient_of}
-use Rattle.definitions.specs.Quiver.{Quiver}
-use Rattle.definitions.specs.Generators.{adjoint_word, adjoint_poly}
-use Rattle.definitions.proofs.Coefficients.{at_word, coefficient_of-append}
-use Rattle.definitions.proofs.Linear.{word_eq-same, word_eq-true}
-use Rattle.nc_polynomial.specs.Ascending.{reversed}
-use Rattle.nc_polynomial.specs.Shape.{IsCanonical}
-use Rattle.nc_polynomial.specs.Adjoint.{star_in, reversed_star, IsInvolution, IsAdjoint}
+use Rattle.nc_polynomial.proofs.Prelude.{◌≡◌, ◌≢◌, ℕ, ◌≤◌, ℤ, pos, ◌+ℤ◌, true, false, cond, inl, inr, List, [], ◌∷◌, ◌++◌, length, map, nat_le, sym, refl, ap, ap₂, subst, ◌∙◌, arith, append_assoc, cases_lt, and_from, leb-true, le-leb, append-nil, get_or_past, length-append, All-tail, +ℤ_comm, All, list_all, both_ways, BTreeMap, IsOrdered, btree_map_len, word_cmp, coefficient_in, IsCoefficient, Term, word_eq, coefficient_of, Quiver, adjoint_word, adjoint_poly, at_word, coefficient_of-append, word_eq-same, word_eq-true, reversed, IsCanonical, star_in, reversed_star, IsInvolution, IsAdjoint}
 use Rattle.nc_polynomial.proofs.Shapes.{Descends, recursion_from_IsDescending}
 use Rattle.nc_polynomial.proofs.Tables.{shaped-table, descending-table, nonzero-table, coefficient_of-table, length-reversed}
 use Rattle.nc_polynomial.proofs.Distinct.{none_listed, distinct-descending, coefficient-ranged, words_listed}

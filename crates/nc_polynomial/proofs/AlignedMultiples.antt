@@ -1,15 +1,6 @@
 -- The words of two multiples side by side: those of the two lists, with each coefficient multiplied.
-use Rattle.std.proofs.Common.{◌≡◌, ℤ, pos, ◌+ℤ◌, ◌*ℤ◌, List, [], ◌∷◌, ◌++◌, map, Err, sym, refl, ap, ap₂, subst, ◌∙◌, arith}
-use Rattle.std.proofs.Math.IntN.{*ℤ-zero}
-use Rattle.std.proofs.lemmas.List.Elements.{All-tail}
-use Rattle.std.specs.List.{All, AllByRecursion}
-use Rattle.std.specs.declared.cmp.Ordering.TheVariants.{Less, Equal, Greater}
-use Rattle.coef_int.specs.Range.{IsCoefficient}
-use Rattle.coef_int.specs.Operations.{sum_of}
-use Rattle.definitions.specs.Poly.{Term, poly_multiple}
-use Rattle.word_core.specs.Canonical.{word_cmp}
+use Rattle.nc_polynomial.proofs.Prelude.{◌≡◌, ℤ, pos, ◌+ℤ◌, ◌*ℤ◌, List, [], ◌∷◌, ◌++◌, map, Err, sym, refl, ap, ap₂, subst, ◌∙◌, arith, *ℤ-zero, All-tail, All, AllByRecursion, Less, Equal, Greater, IsCoefficient, sum_of, Term, poly_multiple, word_cmp, Pair, only_right, aligned, aligned_at, by_order, keep, totals, total_operations}
 use Rattle.nc_polynomial.specs.declared.fault.PolyFault.TheVariants as fault
-use Rattle.nc_polynomial.specs.Terms.{Pair, only_right, aligned, aligned_at, by_order, keep, totals, total_operations}
 use Rattle.nc_polynomial.proofs.Shapes.{IsInRange}
 use Rattle.nc_polynomial.proofs.Checked.{join, total_from, one-fits, one-fails}
 

@@ -1,17 +1,6 @@
 -- The sum of terms in any order.
-use Rattle.std.proofs.Common.{◌≡◌, ◌≢◌, ℕ, ◌+◌, ℤ, pos, ◌+ℤ◌, Bool, true, false, cond, List, [], ◌∷◌, ◌++◌, take, drop, None, sym, refl, ap, ap₂, subst, ◌∙◌, arith}
-use Rattle.std.proofs.lemmas.Int.{ints}
-use Rattle.std.proofs.Math.IntN.{+ℤ_idr}
-use Rattle.std.specs.List.{All}
-use Rattle.std.proofs.lemmas.List.Elements.{All-nil}
-use Rattle.coef_int.specs.Range.{IsCoefficient}
-use Rattle.coef_int.specs.Operations.{sum_of, first_overflow}
-use Rattle.definitions.specs.Poly.{Term, word_eq, coefficient_of}
-use Rattle.definitions.proofs.Linear.{word_eq-true}
-use Rattle.nc_polynomial.specs.Collected.{collected, additions, collection_result}
-use Rattle.nc_polynomial.specs.Faults.{unless_overflow, sized}
+use Rattle.nc_polynomial.proofs.Prelude.{◌≡◌, ◌≢◌, ℕ, ◌+◌, ℤ, pos, ◌+ℤ◌, Bool, true, false, cond, List, [], ◌∷◌, ◌++◌, take, drop, None, sym, refl, ap, ap₂, subst, ◌∙◌, arith, ints, +ℤ_idr, All, All-nil, IsCoefficient, sum_of, first_overflow, Term, word_eq, coefficient_of, word_eq-true, collected, additions, collection_result, unless_overflow, sized, coefficient_of-append}
 use Rattle.nc_polynomial.proofs.Unique.{descending_unique}
-use Rattle.definitions.proofs.Coefficients.{coefficient_of-append}
 use Rattle.nc_polynomial.proofs.CoefficientLaws.{coefficient_of-added}
 use Rattle.nc_polynomial.proofs.Shapes.{Descends, IsNonzero, descends_one, descending-added, nonzero-added}
 

@@ -1,13 +1,6 @@
 -- The definitions at small examples that were worked out by hand.
-use Rattle.std.proofs.Common.{◌≡◌, ◌-◌, ◌^◌, ℤ, pos, negsuc, List, [], ◌∷◌, Ok, Err, refl}
-use Rattle.coef_int.specs.Operations.{product_of, sum_of}
-use Rattle.definitions.specs.Poly.{Term}
+use Rattle.nc_polynomial.proofs.Prelude.{◌≡◌, ◌-◌, ◌^◌, ℤ, pos, negsuc, List, [], ◌∷◌, Ok, Err, refl, product_of, sum_of, Term, aligned, added, sum_result, difference_result, combined, collection_result, product_result, reversed_star}
 use Rattle.nc_polynomial.specs.declared.fault.PolyFault.TheVariants as fault
-use Rattle.nc_polynomial.specs.Terms.{aligned, added}
-use Rattle.nc_polynomial.specs.Arithmetic.{sum_result, difference_result, combined}
-use Rattle.nc_polynomial.specs.Collected.{collection_result}
-use Rattle.nc_polynomial.specs.Product.{product_result}
-use Rattle.nc_polynomial.specs.Adjoint.{reversed_star}
 
 -- the letters a = 0 and b = 1, 2 a b + 3 a, and -2 a b + b
 abbrev p : List Term

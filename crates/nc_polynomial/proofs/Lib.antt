@@ -1,3 +1,4 @@
+mod Prelude
 pub mod Checked
 pub mod CoefficientLaws
 pub mod Shapes

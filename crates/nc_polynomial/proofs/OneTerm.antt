@@ -1,24 +1,7 @@
 -- Products with one term: the words stay in their order, so that each step puts its term after the sum so far.
-use Rattle.std.proofs.lemmas.Bool.{lt-ltb}
-use Rattle.std.proofs.Common.{◌≡◌, ◌≢◌, ℕ, ◌+◌, ◌<◌, ◌≤◌, pos, ◌+ℤ◌, ◌*ℤ◌, true, false, cond, ◌||◌, List, [], ◌∷◌, ◌++◌, length, get_or, map, None, Result, Ok, Err, sym, refl, ap, subst, ◌∙◌, arith, append-nil}
-use Rattle.std.proofs.lemmas.List.{length-append, length-map, map-append}
-use Rattle.std.proofs.lemmas.List.Elements.{All-nil, All-cons, All-tail, All-push, All-map}
-use Rattle.std.proofs.Math.IntN.{+ℤ_idl}
-use Rattle.std.specs.List.{All}
-use Rattle.std.specs.declared.cmp.Ordering.TheVariants.{Greater}
-use Rattle.coef_int.specs.declared.Overflow.{Overflow}
-use Rattle.coef_int.specs.Range.{IsCoefficient}
-use Rattle.coef_int.specs.Operations.{product_of, sum_of, first_overflow}
-use Rattle.word_core.specs.Canonical.{word_cmp}
-use Rattle.definitions.specs.Poly.{Term, coefficient_of, poly_between}
-use Rattle.definitions.proofs.Coefficients.{coefficient_of-append}
-use Rattle.nc_polynomial.specs.declared.fault.PolyFault.{PolyFault}
+use Rattle.nc_polynomial.proofs.Prelude.{lt-ltb, ◌≡◌, ◌≢◌, ℕ, ◌+◌, ◌<◌, ◌≤◌, pos, ◌+ℤ◌, ◌*ℤ◌, true, false, cond, ◌||◌, List, [], ◌∷◌, ◌++◌, length, get_or, map, None, Result, Ok, Err, sym, refl, ap, subst, ◌∙◌, arith, length-append, length-map, map-append, All-nil, All-cons, All-tail, All-push, All-map, +ℤ_idl, All, Greater, Overflow, IsCoefficient, product_of, sum_of, first_overflow, word_cmp, Term, coefficient_of, poly_between, coefficient_of-append, PolyFault, sum_result, Explains, checked, unless_overflow, sized, size_fault, and_then, product_step, product_from, product_result, IsShaped, IsCanonical, products, shifted, added, sums}
+use Rattle.std.proofs.Common.{append-nil}
 use Rattle.nc_polynomial.specs.declared.fault.PolyFault.TheVariants as fault
-use Rattle.nc_polynomial.specs.Arithmetic.{sum_result}
-use Rattle.nc_polynomial.specs.Faults.{Explains, checked, unless_overflow, sized, size_fault}
-use Rattle.nc_polynomial.specs.Product.{and_then, product_step, product_from, product_result}
-use Rattle.nc_polynomial.specs.Shape.{IsShaped, IsCanonical}
-use Rattle.nc_polynomial.specs.Terms.{products, shifted, added, sums}
 use Rattle.nc_polynomial.proofs.Around.{word_cmp-around}
 use Rattle.nc_polynomial.proofs.Chains.{first-fits, first-fails}
 use Rattle.nc_polynomial.proofs.Checked.{checked-fits, keep-nonzero}

@@ -1,6 +1,5 @@
 -- From what a callee returns to what its caller says of the value.
-use Rattle.std.proofs.Common.{Result, Ok, Err, IfOk, IfErr, MatchResult}
-use Rattle.std.specs.Result.{IsErrAnd}
+use Rattle.nc_polynomial.proofs.Prelude.{Result, Ok, Err, IfOk, IfErr, MatchResult, IsErrAnd}
 
 pub ok_part : {X Y : Type 0} (r : Result X Y) {P Q : X → Type 0} (F : Y → Type 0) → ((x : X) → P x → Q x) → MatchResult r P F → IfOk r Q
 ok_part (Ok x) F then m = then x m

@@ -1,21 +1,5 @@
 -- A table to which descending terms are added, as a sum of two descending lists.
-use Rattle.std.proofs.lemmas.Bool.{le-ltb, lt-ltb}
-use Rattle.std.proofs.Common.{◌≡◌, ℕ, ◌<◌, ◌≤◌, ℤ, pos, ◌+ℤ◌, true, false, cond, ◌||◌, nat_lt, List, [], ◌∷◌, ◌++◌, length, None, Ok, Err, sym, refl, ap, ap₂, subst, ◌∙◌, arith}
-use Rattle.std.specs.BTreeMap.{BTreeMap, IsOrdered}
-use Rattle.std.specs.List.{All}
-use Rattle.std.proofs.Math.IntN.{+ℤ_idl}
-use Rattle.std.proofs.lemmas.List.Elements.{All-nil, All-tail}
-use Rattle.coef_int.specs.Range.{IsCoefficient}
-use Rattle.coef_int.specs.Operations.{sum_of, first_overflow}
-use Rattle.word_core.specs.Canonical.{word_cmp}
-use Rattle.definitions.specs.Poly.{Term, coefficient_of}
-use Rattle.nc_polynomial.specs.declared.fault.PolyFault.{PolyFault}
-use Rattle.nc_polynomial.specs.Arithmetic.{sum_result}
-use Rattle.nc_polynomial.specs.Collected.{coefficient_in}
-use Rattle.nc_polynomial.specs.Faults.{Explains, checked, unless_overflow, sized, has_long_word, size_fault}
-use Rattle.nc_polynomial.specs.Running.{IsRunning, terms_in}
-use Rattle.nc_polynomial.specs.Shape.{IsShaped, IsCanonical}
-use Rattle.nc_polynomial.specs.Terms.{aligned, added, sums}
+use Rattle.nc_polynomial.proofs.Prelude.{le-ltb, lt-ltb, ◌≡◌, ℕ, ◌<◌, ◌≤◌, ℤ, pos, ◌+ℤ◌, true, false, cond, ◌||◌, nat_lt, List, [], ◌∷◌, ◌++◌, length, None, Ok, Err, sym, refl, ap, ap₂, subst, ◌∙◌, arith, BTreeMap, IsOrdered, All, +ℤ_idl, All-nil, All-tail, IsCoefficient, sum_of, first_overflow, word_cmp, Term, coefficient_of, PolyFault, sum_result, coefficient_in, Explains, checked, unless_overflow, sized, has_long_word, size_fault, IsRunning, terms_in, IsShaped, IsCanonical, aligned, added, sums}
 use Rattle.nc_polynomial.proofs.Chains.{ends, value_is, explains-first, first-fits}
 use Rattle.nc_polynomial.proofs.Shapes.{Descends, IsInRange, recursion_from_IsDescending, all-aligned, all-totals}
 use Rattle.nc_polynomial.proofs.Tables.{shaped-running, descending-table, nonzero-table, coefficient_of-table}

@@ -1,6 +1,5 @@
 -- One step of a loop over a list.
-use Rattle.std.proofs.Common.{◌≡◌, ℕ, ◌+◌, ◌<◌, List, [], ◌∷◌, ◌++◌, length, take, drop, get_or, sym, ap, ◌∙◌}
-use Rattle.std.proofs.lemmas.List.{take_more, drop_more}
+use Rattle.nc_polynomial.proofs.Prelude.{◌≡◌, ℕ, ◌+◌, ◌<◌, List, [], ◌∷◌, ◌++◌, length, take, drop, get_or, sym, ap, ◌∙◌, take_more, drop_more}
 
 module _ {X : Type 0} (xs : List X) (i : ℕ) (x : X) (inside : i < length xs) (item : x ≡ get_or xs i x) where
   pub take_next : take (i + 1) xs ≡ take i xs ++ x ∷ []

@@ -1,21 +1,5 @@
 -- Terms added to a table one by one: the first overflow and the sum are those of two descending lists.
-use Rattle.std.proofs.Common.{◌≡◌, ◌≢◌, ℕ, ℤ, pos, ◌+ℤ◌, List, [], ◌∷◌, ◌++◌, get_or, map, cond, Some, sym, refl, ap, ap₂, subst, ◌∙◌, arith}
-use Rattle.std.proofs.lemmas.Int.{ints}
-use Rattle.std.proofs.Math.IntN.{+ℤ_idr}
-use Rattle.std.specs.List.{All}
-use Rattle.std.proofs.lemmas.List.Elements.{All-nil, All-cons, All-tail}
-use Rattle.std.specs.Ordering.{is_eq}
-use Rattle.std.specs.declared.cmp.Ordering.{Ordering}
-use Rattle.std.specs.declared.cmp.Ordering.TheVariants.{Less, Equal, Greater}
-use Rattle.coef_int.specs.declared.Overflow.{Overflow}
-use Rattle.coef_int.specs.Range.{IsCoefficient, is_coefficient}
-use Rattle.coef_int.specs.Operations.{sum_of, first_overflow}
-use Rattle.word_core.specs.Canonical.{word_cmp}
-use Rattle.word_core.proofs.Order.{word_cmp-same, word_cmp-turned}
-use Rattle.definitions.specs.Poly.{Term, coefficient_of}
-use Rattle.definitions.proofs.Linear.{coefficient_other}
-use Rattle.definitions.proofs.Coefficients.{coefficient_of-append}
-use Rattle.nc_polynomial.specs.Terms.{only_right, aligned, aligned_at, total_operations, by_order, added, sums}
+use Rattle.nc_polynomial.proofs.Prelude.{◌≡◌, ◌≢◌, ℕ, ℤ, pos, ◌+ℤ◌, List, [], ◌∷◌, ◌++◌, get_or, map, cond, Some, sym, refl, ap, ap₂, subst, ◌∙◌, arith, ints, +ℤ_idr, All, All-nil, All-cons, All-tail, is_eq, Ordering, Less, Equal, Greater, Overflow, IsCoefficient, is_coefficient, sum_of, first_overflow, word_cmp, word_cmp-same, word_cmp-turned, Term, coefficient_of, coefficient_other, coefficient_of-append, only_right, aligned, aligned_at, total_operations, by_order, added, sums}
 use Rattle.nc_polynomial.proofs.Chains.{first-fits}
 use Rattle.nc_polynomial.proofs.CoefficientLaws.{coefficient_of-added}
 use Rattle.nc_polynomial.proofs.Distinct.{none_listed, first_coefficient, distinct-descending, apart-before}

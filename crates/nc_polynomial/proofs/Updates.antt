@@ -1,14 +1,5 @@
 -- one change of the table in which a sum is kept
-use Rattle.std.proofs.lemmas.Bool.{cases_Bool, cond_both}
-use Rattle.std.proofs.Common.{◌≡◌, ◌≢◌, ℕ, ℤ, pos, ◌+ℤ◌, List, [], ◌∷◌, true, false, cond, Option, Some, unwrap_or, sym, ap, ◌∙◌, subst, inl, inr}
-use Rattle.std.specs.BTreeMap.{BTreeMap, get, Updates}
-use Rattle.std.proofs.Math.IntN.{+ℤ_idr}
-use Rattle.coef_int.specs.Range.{IsCoefficient}
-use Rattle.word_core.specs.Canonical.{word_cmp}
-use Rattle.definitions.specs.Poly.{word_eq}
-use Rattle.definitions.proofs.Linear.{word_eq-true}
-use Rattle.nc_polynomial.specs.Collected.{coefficient_in}
-use Rattle.nc_polynomial.specs.Running.{IsRunning, Adds}
+use Rattle.nc_polynomial.proofs.Prelude.{cases_Bool, cond_both, ◌≡◌, ◌≢◌, ℕ, ℤ, pos, ◌+ℤ◌, List, [], ◌∷◌, true, false, cond, Option, Some, unwrap_or, sym, ap, ◌∙◌, subst, inl, inr, BTreeMap, get, Updates, +ℤ_idr, IsCoefficient, word_cmp, word_eq, word_eq-true, coefficient_in, IsRunning, Adds}
 use Rattle.nc_polynomial.proofs.Words.{word_eq-cmp}
 
 module _ (m n : BTreeMap (List ℕ) ℤ) (w : List ℕ) (v : Option ℤ) (update : Updates word_cmp m n w v) where

@@ -1,3 +1,4 @@
+mod Prelude
 pub mod PassedRules
 pub mod Tested
 pub mod Problems

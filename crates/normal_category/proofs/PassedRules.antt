@@ -1,25 +1,5 @@
 -- A pass over rules: those before the first one without the property have it.
-use Rattle.std.proofs.Common.{◌≡◌, ◌≢◌, ◌⊎◌, inl, inr, ℕ, suc, ◌+◌, ◌<◌, ◌≤◌, pos, Bool, true, false, not, ◌&&◌, ◌||◌, cond, nat_eq, List, [], ◌∷◌, length, slice_get, Option, Some, None, IfSome, IfNone, refl, sym, ap, ap₂, ◌∙◌, subst, arith, true≢false, lt-ltb}
-use Rattle.std.specs.Prelude.{is_some, nat_le}
-use Rattle.definitions.specs.Quiver.{star}
-use Rattle.std.proofs.lemmas.Bool.{cases_lt}
-use Rattle.std.proofs.lemmas.List.Sums.{AllPass-from_list_all, list_all-from_AllPass}
-use Rattle.std.proofs.lemmas.Option.{same_Some, slice_get-get_or}
-use Rattle.std.specs.List.{All, list_all, list_any}
-use Rattle.definitions.specs.Poly.{Term, coefficient_of}
-use Rattle.word_core.specs.declared.letter.Object.{Object}
-use Rattle.nc_polynomial.specs.declared.poly.Poly.{Poly}
-use Rattle.nc_polynomial.proofs.Distinct.{distinct-descending, words_listed}
-use Rattle.nc_polynomial.proofs.Shapes.{recursion_from_IsDescending}
-use Rattle.quiver.specs.Declarations.{Declaration, letter_count, object_count, quiver_of}
-use Rattle.rule_reduce.specs.declared.rule.Rule.{Rule}
-use Rattle.rule_reduce.specs.RuleLists.{rule_at}
-use Rattle.rule_reduce.specs.KeptWords.{IsPolyInPlay}
-use Rattle.rule_reduce.proofs.WordsKept.{words_with_coefficients}
-use Rattle.adjoint_rules.specs.Problem.{numbers, is_in_play}
-use Rattle.adjoint_rules.specs.declared.parts.Parts.{Parts}
-use Rattle.confluence.specs.Typed.{AreTypedInPlay}
-use Rattle.normal_category.specs.Faults.{IsFirstWithout, IsTypedIn, PlaysIn}
+use Rattle.normal_category.proofs.Prelude.{◌≡◌, ◌≢◌, ◌⊎◌, inl, inr, ℕ, suc, ◌+◌, ◌<◌, ◌≤◌, pos, Bool, true, false, not, ◌&&◌, ◌||◌, cond, nat_eq, List, [], ◌∷◌, length, slice_get, Option, Some, None, IfSome, IfNone, refl, sym, ap, ap₂, ◌∙◌, subst, arith, true≢false, lt-ltb, is_some, nat_le, star, cases_lt, AllPass-from_list_all, list_all-from_AllPass, same_Some, slice_get-get_or, All, list_all, list_any, Term, coefficient_of, Object, Poly, distinct-descending, words_listed, recursion_from_IsDescending, Declaration, letter_count, object_count, quiver_of, Rule, rule_at, IsPolyInPlay, words_with_coefficients, numbers, is_in_play, Parts, AreTypedInPlay, IsFirstWithout, IsTypedIn, PlaysIn}
 
 module _ (P : Rule → Type 0) (rules : List Rule) where
   -- the rules up to a number have the property

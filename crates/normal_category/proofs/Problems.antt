@@ -1,27 +1,5 @@
 -- The normal forms of a problem's rules.
-use Rattle.std.proofs.Common.{◌≡◌, ℕ, zero, suc, ◌≤◌, Bool, true, List, [], ◌∷◌, length, arith}
-use Rattle.std.specs.List.{All, AllByRecursion, AllZip, list_all}
-use Rattle.std.proofs.lemmas.List.{length-map}
-use Rattle.std.proofs.lemmas.List.Elements.{All-nil, All-cons, All-head, All-tail, recursion_from_All}
-use Rattle.definitions.specs.Poly.{Term, SamePolynomial}
-use Rattle.definitions.specs.Combination.{generator_at, InRationalIdeal}
-use Rattle.definitions.specs.Soundness.{HasSignature}
-use Rattle.definitions.proofs.Coefficients.{Same_trans, SamePolynomial-multiple}
-use Rattle.word_orders.specs.Specified.{asked_cmp}
-use Rattle.nc_polynomial.specs.declared.poly.Poly.{Poly}
-use Rattle.quiver.specs.Declarations.{letter_count, quiver_of}
-use Rattle.rule_reduce.specs.declared.rule.Rule.{Rule}
-use Rattle.rule_reduce.specs.RuleLists.{IsRule, polynomials_of}
-use Rattle.ambiguities.specs.Resolved.{Resolved}
-use Rattle.adjoint_rules.specs.declared.problem.Problem.{Problem}
-use Rattle.adjoint_rules.specs.Problem.{numbers, is_in_play, polynomials, generators_in, IsInPlay}
-use Rattle.adjoint_rules.proofs.Generators.{claims_have_signatures}
-use Rattle.adjoint_rules.specs.Claims.{claim_at}
-use Rattle.confluence.specs.Typed.{AreTypedInPlay}
-use Rattle.adjoint_rules.proofs.LettersInPlay.{generator_words}
-use Rattle.normal_forms.specs.NormalForms.{IsBasis}
-use Rattle.normal_forms.specs.SharpMeans.{SharpMeans}
-use Rattle.normal_forms.proofs.Basis.{Plays, plays_from_test, sharp_means}
+use Rattle.normal_category.proofs.Prelude.{◌≡◌, ℕ, zero, suc, ◌≤◌, Bool, true, List, [], ◌∷◌, length, arith, All, AllByRecursion, AllZip, list_all, length-map, All-nil, All-cons, All-head, All-tail, recursion_from_All, Term, SamePolynomial, generator_at, InRationalIdeal, HasSignature, Same_trans, SamePolynomial-multiple, asked_cmp, Poly, letter_count, quiver_of, Rule, IsRule, polynomials_of, Resolved, Problem, numbers, is_in_play, polynomials, generators_in, IsInPlay, claims_have_signatures, claim_at, AreTypedInPlay, generator_words, IsBasis, SharpMeans, Plays, plays_from_test, sharp_means}
 
 -- what holds of each holds of the one with a number
 numbered : (P : List Term → Type 0) (fs : List (List Term)) → AllByRecursion P fs → (n : ℕ) → 1 ≤ n → n ≤ length fs → P (generator_at fs n)

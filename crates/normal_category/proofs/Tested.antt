@@ -1,20 +1,5 @@
 -- The test of the polynomials of rules holds exactly where all rules are typed and in play.
-use Rattle.std.proofs.Common.{◌≡◌, ℕ, Bool, true, ◌&&◌, List, [], ◌∷◌, get_or, Option, Some, None, refl, sym, ap, ◌∙◌, subst}
-use Rattle.std.proofs.lemmas.Bool.{and_parts, and_from}
-use Rattle.std.proofs.lemmas.List.Folds.{list_all-map}
-use Rattle.std.proofs.lemmas.List.Sums.{AllPass-from_list_all, list_all-from_AllPass}
-use Rattle.std.specs.List.{All, list_all}
-use Rattle.definitions.specs.Poly.{Term, coefficient_of}
-use Rattle.definitions.specs.Quiver.{Quiver, is_path, IsTyped, signature_of}
-use Rattle.definitions.proofs.Typed.{signature_from_path}
-use Rattle.nc_polynomial.specs.declared.poly.Poly.{Poly}
-use Rattle.quiver.specs.Declarations.{quiver_of}
-use Rattle.rule_reduce.specs.declared.rule.Rule.{Rule}
-use Rattle.rule_reduce.specs.RuleLists.{polynomials_of}
-use Rattle.adjoint_rules.specs.Problem.{numbers, is_in_play}
-use Rattle.confluence.specs.Typed.{IsTypedInPlay}
-use Rattle.normal_category.specs.Tests.{are_paths, is_typed, has_letters_in_play}
-use Rattle.normal_category.specs.Laws.{SharpRulesAreTold}
+use Rattle.normal_category.proofs.Prelude.{◌≡◌, ℕ, Bool, true, ◌&&◌, List, [], ◌∷◌, get_or, Option, Some, None, refl, sym, ap, ◌∙◌, subst, and_parts, and_from, list_all-map, AllPass-from_list_all, list_all-from_AllPass, All, list_all, Term, coefficient_of, Quiver, is_path, IsTyped, signature_of, signature_from_path, Poly, quiver_of, Rule, polynomials_of, numbers, is_in_play, IsTypedInPlay, are_paths, is_typed, has_letters_in_play, SharpRulesAreTold}
 use Rattle.normal_category.proofs.PassedRules.{words_tested, words_suffice}
 
 -- types

@@ -1,16 +1,5 @@
 -- The maps of a category in pairs, one each way: a category with an involution, and the values of words and polynomials in it.
-use Rattle.std.proofs.Common.{◌≡◌, ℕ, zero, suc, ℤ, pos, negsuc, Bool, true, false, cond, List, [], ◌∷◌, ◌++◌, refl, sym, ap, ap₂, subst, ◌∙◌, true≢false}
-use Rattle.std.proofs.lemmas.Bool.{false_from_ne_true}
-use Rattle.definitions.specs.Poly.{Poly}
-use Rattle.definitions.specs.Category.{Structure, IsArrow, PreadditiveLaws, InvolutionLaws}
-use Rattle.definitions.specs.Quiver.{Quiver, IsQuiver, source, star, leads, is_path}
-use Rattle.definitions.specs.Representation.{Representation, Represents, StarRepresents, Cancels, natural_multiple, multiple, path_value, word_value, value_at}
-use Rattle.definitions.specs.Generators.{adjoint_word, adjoint_poly}
-use Rattle.definitions.proofs.Paths.{step}
-use Rattle.definitions.proofs.Rows.{path_value-append}
-use Rattle.definitions.proofs.Values.{word_value_is_arrow}
-use Rattle.definitions.proofs.Adjoints.{leads-star, is_path-adjoint_word, is_path-from_adjoint_word}
-use Rattle.normal_forms.specs.BothWays.{both_ways, exchange, both_ways_representation}
+use Rattle.normal_forms.proofs.Prelude.{◌≡◌, ℕ, zero, suc, ℤ, pos, negsuc, Bool, true, false, cond, List, [], ◌∷◌, ◌++◌, refl, sym, ap, ap₂, subst, ◌∙◌, true≢false, false_from_ne_true, Poly, Structure, IsArrow, PreadditiveLaws, InvolutionLaws, Quiver, IsQuiver, source, star, leads, is_path, Representation, Represents, StarRepresents, Cancels, natural_multiple, multiple, path_value, word_value, value_at, adjoint_word, adjoint_poly, step, path_value-append, word_value_is_arrow, leads-star, is_path-adjoint_word, is_path-from_adjoint_word, both_ways, exchange, both_ways_representation}
 
 pub both : {A B : Type 0} {a a' : A} {b b' : B} → a ≡ a' → b ≡ b' → ◌≡◌ {A = A × B} (a, b) (a', b')
 both p q = λ i. (p i, q i)

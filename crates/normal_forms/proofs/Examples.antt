@@ -1,48 +1,7 @@
 -- Objects U and V, a map x of V, and the rules [U] and x x - x: an overlap, a zero object, and an object that isn't marked.
-use Rattle.std.proofs.Common.{◌≡◌, ◌≢◌, ◌<◌, ◌+◌, ℕ, zero, suc, pos, negsuc, Bool, true, false, List, [], ◌∷◌, ◌++◌, length, Some, Ok, refl, sym, ap, ◌∙◌, subst, arith}
-use Rattle.std.proofs.lemmas.Int.{ints}
-use Rattle.std.proofs.Math.Nat.{eq-one_of_dvd-one}
-use Rattle.std.proofs.lemmas.List.{length-append}
-use Rattle.std.proofs.lemmas.List.Elements.{All-nil, All-cons}
-use Rattle.std.proofs.lemmas.List.Kept.{AllPairs-cons}
-use Rattle.std.specs.List.{All, AllPairs}
-use Rattle.definitions.specs.Poly.{Term}
-use Rattle.definitions.specs.Category.{IsArrow}
-use Rattle.definitions.specs.Quiver.{IsPath}
-use Rattle.definitions.specs.Combination.{InRationalIdeal}
-use Rattle.word_core.specs.declared.letter.Object.{Object}
-use Rattle.word_core.specs.Canonical.{word_cmp}
-use Rattle.word_core.specs.Letters.{IsOver}
-use Rattle.word_orders.specs.Admissible.{IsAdmissible}
+use Rattle.normal_forms.proofs.Prelude.{◌≡◌, ◌≢◌, ◌<◌, ◌+◌, ℕ, zero, suc, pos, negsuc, Bool, true, false, List, [], ◌∷◌, ◌++◌, length, Some, Ok, refl, sym, ap, ◌∙◌, subst, arith, ints, eq-one_of_dvd-one, length-append, All-nil, All-cons, AllPairs-cons, All, AllPairs, Term, IsArrow, IsPath, InRationalIdeal, Object, word_cmp, IsOver, IsAdmissible, rank_of, word_cmp-admissible, IsShaped, IsCanonical, Sig, Declaration, object, arrow, quiver_of, typed_from_paths, Rule, IsRule, rule_at, polynomials_of, AreInPlay, start_of, words_with_coefficients, Kind, Overlap, Inclusion, Ambiguity, MeetsAs, IsAmbiguity, s_polynomial_of, IsResolved, s_polynomials_balance, Parts, IsPosed, IsShape, IsSide, IsDeclaredMap, IsTypedOf, HasObjects, HasLettersInPlay, IsInPlay, is_in_play, generators_in, IsTypedInPlay, IsReduced, normal_forms_are_reduced, rests_of_ideal_are_zero, zero_rests_are_resolved, shaped_as_written, canonical_as_written, Fraction, NormalMap, IsBasis, normal_forms, SharpMeans}
 use Rattle.word_orders.specs.declared.any.OrderSpec.TheVariants as asked
-use Rattle.word_orders.specs.Rank.{rank_of}
-use Rattle.word_core.proofs.CanonicalLaws.{word_cmp-admissible}
-use Rattle.nc_polynomial.specs.Shape.{IsShaped, IsCanonical}
-use Rattle.quiver.specs.declared.named.Sig.{Sig}
-use Rattle.quiver.specs.Declarations.{Declaration, object, arrow, quiver_of}
-use Rattle.quiver.proofs.TypedTerms.{typed_from_paths}
-use Rattle.rule_reduce.specs.declared.rule.Rule.{Rule}
-use Rattle.rule_reduce.specs.RuleLists.{IsRule, rule_at, polynomials_of}
-use Rattle.rule_reduce.specs.KeptWords.{IsInPlay as AreInPlay}
-use Rattle.rule_reduce.specs.NormalForms.{start_of}
-use Rattle.rule_reduce.proofs.WordsKept.{words_with_coefficients}
-use Rattle.ambiguities.specs.declared.ambiguity.Kind.{Kind}
-use Rattle.ambiguities.specs.declared.ambiguity.Kind.TheVariants.{Overlap, Inclusion}
-use Rattle.ambiguities.specs.declared.ambiguity.Ambiguity.{Ambiguity}
-use Rattle.ambiguities.specs.Ambiguities.{MeetsAs, IsAmbiguity}
-use Rattle.ambiguities.specs.SPolynomials.{s_polynomial_of}
-use Rattle.ambiguities.specs.Resolved.{IsResolved, Resolved}
-use Rattle.ambiguities.proofs.Balance.{s_polynomials_balance}
-use Rattle.adjoint_rules.specs.declared.parts.Parts.{Parts}
-use Rattle.adjoint_rules.specs.Problem.{IsPosed, IsShape, IsSide, IsDeclaredMap, IsTypedOf, HasObjects, HasLettersInPlay, IsInPlay, is_in_play, generators_in}
-use Rattle.confluence.specs.Typed.{IsTypedInPlay}
-use Rattle.confluence.specs.Reductions.{IsReduced}
-use Rattle.confluence.proofs.RestLaws.{normal_forms_are_reduced, rests_of_ideal_are_zero, zero_rests_are_resolved}
-use Rattle.confluence.proofs.WrittenTerms.{shaped_as_written, canonical_as_written}
-use Rattle.normal_forms.specs.Fractions.{Fraction}
-use Rattle.normal_forms.specs.Maps.{NormalMap}
-use Rattle.normal_forms.specs.NormalForms.{IsBasis, normal_forms}
-use Rattle.normal_forms.specs.SharpMeans.{SharpMeans}
+use Rattle.ambiguities.specs.Resolved.{Resolved}
 use Rattle.normal_forms.proofs.Basis.{sharp_means}
 use Rattle.normal_forms.proofs.MapSums.{maps_are_finite_sums}
 

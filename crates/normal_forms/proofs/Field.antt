@@ -1,6 +1,5 @@
 -- Fields that the integers are in, each of whose numbers is an integer over a positive one.
-use Rattle.std.specs.Prelude.{◌≡◌, ◌≢◌, ℕ, ◌<◌, ℤ, pos, ◌+ℤ◌, ◌*ℤ◌, Bool, true, false}
-use Rattle.normal_forms.specs.Numbers.{Numbers}
+use Rattle.normal_forms.proofs.Prelude.{◌≡◌, ◌≢◌, ℕ, ◌<◌, ℤ, pos, ◌+ℤ◌, ◌*ℤ◌, Bool, true, false, Numbers}
 
 pub record Field (K : Type 0) : Type 0 where
   pub none : K

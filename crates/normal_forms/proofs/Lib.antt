@@ -1,3 +1,4 @@
+mod Prelude
 pub mod Field
 pub mod Homomorphisms
 pub mod Rationals

@@ -1,25 +1,5 @@
 -- The maps between normal forms are the finite sums of normal words.
-use Rattle.std.proofs.Common.{◌≡◌, ◌⊎◌, inl, inr, ℕ, suc, ◌<◌, Bool, true, false, cond, List, [], ◌∷◌, ◌++◌, length, map, refl, sym, ap, ap₂, subst, ◌∙◌, true≢false, eqb-true, eq-eqb, arith}
-use Rattle.std.specs.List.{All, AllByRecursion, Contains}
-use Rattle.std.proofs.lemmas.List.{length-append}
-use Rattle.std.proofs.lemmas.List.Elements.{All-weaker}
-use Rattle.std.proofs.lemmas.Map.Made.{Contains-tail}
-use Rattle.definitions.specs.Poly.{Word, word_eq}
-use Rattle.definitions.specs.Category.{IsArrow}
-use Rattle.definitions.proofs.Linear.{word_eq-true, word_eq-same}
-use Rattle.word_core.specs.Occurrence.{OccursAt, OccursNowhere}
-use Rattle.word_orders.specs.Specified.{asked_cmp}
-use Rattle.quiver.specs.Declarations.{letter_count, quiver_of}
-use Rattle.rule_reduce.specs.declared.rule.Rule.{Rule}
-use Rattle.rule_reduce.specs.RuleLists.{IsRule}
-use Rattle.rule_reduce.proofs.AtMost.{leading-all}
-use Rattle.adjoint_rules.specs.declared.parts.Parts.{Parts}
-use Rattle.adjoint_rules.specs.Problem.{numbers, is_in_play}
-use Rattle.normal_forms.specs.Fractions.{Fraction, IsLowest, is_zero, whole}
-use Rattle.normal_forms.specs.Forms.{Form}
-use Rattle.normal_forms.specs.Maps.{NormalMap, LeadsInPlay}
-use Rattle.normal_forms.specs.NormalForms.{IsNonzero, IsBasis, IsNormalMap, is_marked_in, normal_forms}
-use Rattle.normal_forms.specs.MapLaws.{fraction_at, IsNormalWord, IsListedMap, IsFiniteSum, HasOneMap, MapsAreFiniteSums}
+use Rattle.normal_forms.proofs.Prelude.{◌≡◌, ◌⊎◌, inl, inr, ℕ, suc, ◌<◌, Bool, true, false, cond, List, [], ◌∷◌, ◌++◌, length, map, refl, sym, ap, ap₂, subst, ◌∙◌, true≢false, eqb-true, eq-eqb, arith, All, AllByRecursion, Contains, length-append, All-weaker, Contains-tail, Word, word_eq, IsArrow, word_eq-true, word_eq-same, OccursAt, OccursNowhere, asked_cmp, letter_count, quiver_of, Rule, IsRule, leading-all, Parts, numbers, is_in_play, Fraction, IsLowest, is_zero, whole, Form, NormalMap, LeadsInPlay, IsNonzero, IsBasis, IsNormalMap, is_marked_in, normal_forms, fraction_at, IsNormalWord, IsListedMap, IsFiniteSum, HasOneMap, MapsAreFiniteSums}
 use Rattle.normal_forms.proofs.Homomorphisms.{mapped}
 use Rattle.normal_forms.proofs.Rationals.{Rational, rationals, zero_in_lowest, none_test, none_is_none, raw, raw-none, read, read_raw, raw_read}
 use Rattle.normal_forms.proofs.FieldLaws.{none_plus, times_none, times_one}

@@ -1,49 +1,9 @@
 -- An object U, a map a of U, the rule a, and a starred statement that assumes nothing: the normal forms tell a' from zero, but have no involution,
 -- since a goes to zero. Both ways they have one.
-use Rattle.std.proofs.Common.{◌≡◌, ◌<◌, ℕ, zero, suc, pos, Bool, true, false, List, [], ◌∷◌, length, Some, refl, sym, ap, ◌∙◌, arith}
-use Rattle.std.proofs.lemmas.Int.{ints}
-use Rattle.std.proofs.lemmas.List.{length-append}
-use Rattle.std.proofs.lemmas.List.Elements.{All-nil}
-use Rattle.std.proofs.lemmas.List.Kept.{AllPairs-cons}
-use Rattle.std.specs.List.{All, AllByRecursion}
+use Rattle.normal_forms.proofs.Prelude.{◌≡◌, ◌<◌, ℕ, zero, suc, pos, Bool, true, false, List, [], ◌∷◌, length, Some, refl, sym, ap, ◌∙◌, arith, ints, length-append, All-nil, AllPairs-cons, All, AllByRecursion, Term, InvolutionLaws, IsPath, StarRepresents, InRationalIdeal, HasSignature, HasValueZero, star_sound, Object, word_cmp, IsOver, word_cmp-admissible, IsAdmissible, rank_of, Declaration, object, arrow, quiver_of, typed_from_paths, Rule, IsRule, rule_at, polynomials_of, AreInPlay, start_of, words_with_coefficients, Kind, Overlap, Inclusion, Ambiguity, MeetsAs, IsAmbiguity, Parts, IsPosed, IsShape, IsSide, IsDeclaredMap, IsTypedOf, HasObjects, HasLettersInPlay, IsInPlay, is_in_play, posed_quiver, IsTypedInPlay, IsReduced, normal_forms_are_reduced, rests_of_ideal_are_zero, shaped_as_written, Fraction, NormalMap, IsBasis, normal_forms, forms_representation, SharpMeans, StarSharpMeans}
 use Rattle.std.specs.Prelude.{AllPairs}
-use Rattle.definitions.specs.Poly.{Term}
-use Rattle.definitions.specs.Category.{InvolutionLaws}
-use Rattle.definitions.specs.Quiver.{IsPath}
-use Rattle.definitions.specs.Representation.{StarRepresents}
-use Rattle.definitions.specs.Combination.{InRationalIdeal}
-use Rattle.definitions.specs.Soundness.{HasSignature, HasValueZero}
-use Rattle.definitions.proofs.StarSound.{star_sound}
-use Rattle.word_core.specs.declared.letter.Object.{Object}
-use Rattle.word_core.specs.Canonical.{word_cmp}
-use Rattle.word_core.specs.Letters.{IsOver}
-use Rattle.word_core.proofs.CanonicalLaws.{word_cmp-admissible}
-use Rattle.word_orders.specs.Admissible.{IsAdmissible}
 use Rattle.word_orders.specs.declared.any.OrderSpec.TheVariants as asked
-use Rattle.word_orders.specs.Rank.{rank_of}
-use Rattle.quiver.specs.Declarations.{Declaration, object, arrow, quiver_of}
-use Rattle.quiver.proofs.TypedTerms.{typed_from_paths}
-use Rattle.rule_reduce.specs.declared.rule.Rule.{Rule}
-use Rattle.rule_reduce.specs.RuleLists.{IsRule, rule_at, polynomials_of}
-use Rattle.rule_reduce.specs.KeptWords.{IsInPlay as AreInPlay}
-use Rattle.rule_reduce.specs.NormalForms.{start_of}
-use Rattle.rule_reduce.proofs.WordsKept.{words_with_coefficients}
-use Rattle.ambiguities.specs.declared.ambiguity.Kind.{Kind}
-use Rattle.ambiguities.specs.declared.ambiguity.Kind.TheVariants.{Overlap, Inclusion}
-use Rattle.ambiguities.specs.declared.ambiguity.Ambiguity.{Ambiguity}
-use Rattle.ambiguities.specs.Ambiguities.{MeetsAs, IsAmbiguity}
 use Rattle.ambiguities.specs.Resolved.{Resolved}
-use Rattle.adjoint_rules.specs.declared.parts.Parts.{Parts}
-use Rattle.adjoint_rules.specs.Problem.{IsPosed, IsShape, IsSide, IsDeclaredMap, IsTypedOf, HasObjects, HasLettersInPlay, IsInPlay, is_in_play}
-use Rattle.adjoint_rules.proofs.Generators.{posed_quiver}
-use Rattle.confluence.specs.Typed.{IsTypedInPlay}
-use Rattle.confluence.specs.Reductions.{IsReduced}
-use Rattle.confluence.proofs.RestLaws.{normal_forms_are_reduced, rests_of_ideal_are_zero}
-use Rattle.confluence.proofs.WrittenTerms.{shaped_as_written}
-use Rattle.normal_forms.specs.Fractions.{Fraction}
-use Rattle.normal_forms.specs.Maps.{NormalMap}
-use Rattle.normal_forms.specs.NormalForms.{IsBasis, normal_forms, forms_representation}
-use Rattle.normal_forms.specs.SharpMeans.{SharpMeans, StarSharpMeans}
 use Rattle.normal_forms.proofs.Basis.{basis_laws, inside_is_zero, sharp_means}
 use Rattle.normal_forms.proofs.StarSharp.{star_sharp_means}
 use Rattle.normal_forms.proofs.Examples.{one_term, at_object, all_pairs_one, alone, Differs, names_differ}

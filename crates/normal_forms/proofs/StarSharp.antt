@@ -1,28 +1,5 @@
 -- A claim of a starred statement that isn't zero isn't zero both ways: the generators have the adjoints of the assumptions.
-use Rattle.std.proofs.Common.{◌≡◌, ℕ, ◌<◌, negsuc, Bool, true, false, cond, ◌||◌, List, [], ◌∷◌, refl, sym, ap, ◌∙◌, arith}
-use Rattle.std.proofs.lemmas.Int.{ints}
-use Rattle.std.specs.List.{AllByRecursion, flat_map}
-use Rattle.definitions.specs.Poly.{Poly, SamePolynomial, poly_multiple, poly_eq}
-use Rattle.definitions.specs.Category.{Structure, PreadditiveLaws}
-use Rattle.definitions.specs.Quiver.{Quiver, IsQuiver, IsTyped}
-use Rattle.definitions.specs.Representation.{Representation, Represents}
-use Rattle.definitions.specs.Generators.{adjoint_poly, new_adjoint, units, generators_of}
-use Rattle.definitions.specs.Soundness.{HasValueZero}
-use Rattle.definitions.proofs.Coefficients.{coefficient_of-multiple, poly_eq-true}
-use Rattle.definitions.proofs.Multiples.{times, times-none}
-use Rattle.definitions.proofs.Linear.{linear-scale}
-use Rattle.definitions.proofs.Values.{group_at, value_at-linear, word_at, word_at_is_arrow}
-use Rattle.definitions.proofs.Adjoints.{typed-adjoint_poly}
-use Rattle.definitions.proofs.StarSound.{star_sound}
-use Rattle.quiver.specs.Declarations.{quiver_of}
-use Rattle.rule_reduce.specs.declared.rule.Rule.{Rule}
-use Rattle.adjoint_rules.specs.declared.parts.Parts.{Parts}
-use Rattle.adjoint_rules.specs.Problem.{IsPosed, numbers, polynomials}
-use Rattle.adjoint_rules.proofs.Generators.{posed_quiver, marked_are_objects, zero_along}
-use Rattle.normal_forms.specs.NormalForms.{normal_forms, forms_representation}
-use Rattle.normal_forms.specs.TellsFromZero.{TellsFromZero}
-use Rattle.normal_forms.specs.BothWays.{both_ways, both_ways_representation}
-use Rattle.normal_forms.specs.SharpMeans.{SharpMeans, StarSharpMeans}
+use Rattle.normal_forms.proofs.Prelude.{◌≡◌, ℕ, ◌<◌, negsuc, Bool, true, false, cond, ◌||◌, List, [], ◌∷◌, refl, sym, ap, ◌∙◌, arith, ints, AllByRecursion, flat_map, Poly, SamePolynomial, poly_multiple, poly_eq, Structure, PreadditiveLaws, Quiver, IsQuiver, IsTyped, Representation, Represents, adjoint_poly, new_adjoint, units, generators_of, HasValueZero, coefficient_of-multiple, poly_eq-true, times, times-none, linear-scale, group_at, value_at-linear, word_at, word_at_is_arrow, typed-adjoint_poly, star_sound, quiver_of, Rule, Parts, IsPosed, numbers, polynomials, posed_quiver, marked_are_objects, zero_along, normal_forms, forms_representation, TellsFromZero, both_ways, both_ways_representation, SharpMeans, StarSharpMeans}
 use Rattle.normal_forms.proofs.Forms.{all_front, all_back}
 use Rattle.normal_forms.proofs.BothWays.{both, both_ways_laws, exchange_laws, both_ways_cancels, both_ways_represents, value_there, value_back}
 

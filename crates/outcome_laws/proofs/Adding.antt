@@ -1,24 +1,5 @@
 -- What is added for a rest is appended, so that the invariant holds.
-use Rattle.std.proofs.Common.{◌≢◌, ◌<◌, ℕ, pos, Bool, List, [], ◌∷◌, length, refl, sym, ap, ◌∙◌, arith}
-use Rattle.std.specs.List.{All}
-use Rattle.std.proofs.lemmas.List.Elements.{All-head}
-use Rattle.definitions.specs.Poly.{Term, coefficient_of}
-use Rattle.definitions.specs.Quiver.{Quiver}
-use Rattle.word_core.specs.Letters.{IsOver}
-use Rattle.word_orders.specs.Admissible.{Compare}
-use Rattle.nc_polynomial.specs.Shape.{IsShaped}
-use Rattle.nc_polynomial.proofs.Distinct.{distinct-descending, words_listed, first_coefficient}
-use Rattle.nc_polynomial.proofs.Shapes.{recursion_from_IsDescending}
-use Rattle.traced_rows.specs.declared.Row.{Row}
-use Rattle.traced_rows.specs.declared.Made.{Made}
-use Rattle.rule_reduce.specs.declared.rule.Rule.{Rule}
-use Rattle.confluence.specs.Reductions.{IsNonzero}
-use Rattle.confluence.specs.Rests.{IsMadeOf, IsAppended, nothing_left, rule_made}
-use Rattle.confluence.proofs.MakingLaws.{scale_positive, pushed_rules_are_made}
-use Rattle.confluence.proofs.TypedLaws.{typed_has_no_empty_word}
-use Rattle.rule_making.specs.Making.{Recorded, rest_with, leads_negative, IsMadeFrom, Adds}
-use Rattle.outcome_laws.specs.KeptRuns.{IsGenerator}
-use Rattle.rule_making.proofs.Quotients.{quotient_words, leading_positive}
+use Rattle.outcome_laws.proofs.Prelude.{◌≢◌, ◌<◌, ℕ, pos, Bool, List, [], ◌∷◌, length, refl, sym, ap, ◌∙◌, arith, All, All-head, Term, coefficient_of, Quiver, IsOver, Compare, IsShaped, distinct-descending, words_listed, first_coefficient, recursion_from_IsDescending, Row, Made, Rule, IsNonzero, IsMadeOf, IsAppended, nothing_left, rule_made, scale_positive, pushed_rules_are_made, typed_has_no_empty_word, Recorded, rest_with, leads_negative, IsMadeFrom, Adds, IsGenerator, quotient_words, leading_positive}
 
 -- what holds of each word with a coefficient holds of each term
 listed : (P : List ℕ → Type 0) (p : List Term) → IsShaped p → ((w : List ℕ) → coefficient_of p w ≢ pos 0 → P w) → All (λ t. P t.1) p

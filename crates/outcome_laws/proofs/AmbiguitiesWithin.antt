@@ -1,33 +1,7 @@
 -- S-polynomials are within the limits, and so are their rows.
-use Rattle.std.proofs.Common.{◌≡◌, ◌≤◌, ◌<ℤ◌, ℕ, ◌+◌, ℤ, pos, int_div, List, ◌++◌, length, take, drop, Option, Some, None, Ok, refl, sym, ap, subst, arith}
-use Rattle.std.specs.List.{All}
-use Rattle.std.proofs.lemmas.List.{length-append, length-take, length-drop}
-use Rattle.coef_int.specs.declared.Overflow.{Overflow}
-use Rattle.coef_int.specs.Range.{IsCoefficient}
-use Rattle.coef_int.specs.Operations.{first_overflow}
-use Rattle.coef_int.proofs.Divisors.{gcd_of-positive}
-use Rattle.definitions.specs.Poly.{Term}
+use Rattle.outcome_laws.proofs.Prelude.{◌≡◌, ◌≤◌, ◌<ℤ◌, ℕ, ◌+◌, ℤ, pos, int_div, List, ◌++◌, length, take, drop, Option, Some, None, Ok, refl, sym, ap, subst, arith, All, length-append, length-take, length-drop, Overflow, IsCoefficient, first_overflow, gcd_of-positive, Term, scaled, products, added, sums, unless_overflow, sized, finished, combined, no_error, sized-value, in_range-added, all_two, Compare, Rule, IsRule, leading-all, rule_at-all, Kind, Overlap, Inclusion, Ambiguity, MeetsAs, IsAmbiguity, lead_at, joined_word, leading_at, shared_divisor, first_row, second_row, s_rows_of, row_multiple, s_polynomial_of, lead_at-is, leading_at-is, passed, word_limit}
 use Rattle.nc_polynomial.specs.declared.fault.PolyFault.TheVariants as fault
-use Rattle.nc_polynomial.specs.Terms.{scaled, products, added, sums}
-use Rattle.nc_polynomial.specs.Faults.{unless_overflow, sized, finished}
-use Rattle.nc_polynomial.specs.Arithmetic.{combined}
 use Rattle.nc_polynomial.specs.Product.{and_then}
-use Rattle.nc_polynomial.proofs.Chains.{no_error, sized-value}
-use Rattle.nc_polynomial.proofs.Shapes.{in_range-added}
-use Rattle.traced_rows.proofs.Lists.{all_two}
-use Rattle.word_orders.specs.Admissible.{Compare}
-use Rattle.rule_reduce.specs.declared.rule.Rule.{Rule}
-use Rattle.rule_reduce.specs.RuleLists.{IsRule}
-use Rattle.rule_reduce.proofs.AtMost.{leading-all}
-use Rattle.rule_reduce.proofs.Numbers.{rule_at-all}
-use Rattle.ambiguities.specs.declared.ambiguity.Kind.{Kind}
-use Rattle.ambiguities.specs.declared.ambiguity.Kind.TheVariants.{Overlap, Inclusion}
-use Rattle.ambiguities.specs.declared.ambiguity.Ambiguity.{Ambiguity}
-use Rattle.ambiguities.specs.Ambiguities.{MeetsAs, IsAmbiguity, lead_at, joined_word}
-use Rattle.ambiguities.specs.SPolynomials.{leading_at, shared_divisor, first_row, second_row, s_rows_of, row_multiple, s_polynomial_of}
-use Rattle.ambiguities.proofs.Joined.{lead_at-is, leading_at-is}
-use Rattle.ambiguities.proofs.Multiples.{passed}
-use Rattle.nc_polynomial.specs.Limits.{word_limit}
 use Rattle.outcome_laws.proofs.Results.{none_append}
 use Rattle.outcome_laws.proofs.EvidenceRanges.{quotient_in_range, negative_in_range}
 use Rattle.outcome_laws.proofs.ReducedWithin.{Fits, sized_short, IsShortRow}

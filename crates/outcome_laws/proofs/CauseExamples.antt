@@ -1,23 +1,7 @@
 -- Causes that are accepted and refused, worked out by hand.
-use Rattle.std.proofs.Common.{◌≡◌, ℕ, ℤ, pos, negsuc, ◌*ℤ◌, zero, suc, true, false, List, [], ◌∷◌, Option, Some, refl, sym, ap, ◌∙◌, subst, arith}
-use Rattle.std.specs.List.{range_with_len}
-use Rattle.std.proofs.lemmas.Int.{ints}
-use Rattle.coef_int.specs.declared.Overflow.{Overflow}
-use Rattle.coef_int.specs.Range.{IsCoefficient}
-use Rattle.coef_int.specs.Operations.{product_of, sum_of, exact_value}
-use Rattle.definitions.specs.Poly.{Term, coefficient_of}
-use Rattle.word_orders.specs.Admissible.{Compare}
-use Rattle.word_orders.specs.Specified.{asked_cmp}
-use Rattle.rule_reduce.specs.declared.rule.Rule.{Rule}
-use Rattle.rule_reduce.specs.RuleLists.{rule_at}
-use Rattle.cofactor_trace.specs.declared.halt.Place.{Place}
+use Rattle.outcome_laws.proofs.Prelude.{◌≡◌, ℕ, ℤ, pos, negsuc, ◌*ℤ◌, zero, suc, true, false, List, [], ◌∷◌, Option, Some, refl, sym, ap, ◌∙◌, subst, arith, range_with_len, ints, Overflow, IsCoefficient, product_of, sum_of, exact_value, Term, coefficient_of, Compare, asked_cmp, Rule, rule_at, Place, Problem, claim_at, Budget, PassesLimit, Reduced, unreduced, IsOfStep, of_multiplier, of_rest, of_taken, of_rule, of_difference, IsTooLarge, PairsAreSpent, StepsAreSpent, ClaimRecord}
 use Rattle.cofactor_trace.specs.declared.halt.Place.TheVariants as place
-use Rattle.adjoint_rules.specs.declared.problem.Problem.{Problem}
-use Rattle.adjoint_rules.specs.Claims.{claim_at}
-use Rattle.traced_completion.specs.declared.budget.Budget.{Budget}
-use Rattle.outcome_laws.specs.Certificates.{PassesLimit}
-use Rattle.outcome_laws.specs.ReductionSteps.{Reduced, unreduced, Goes, IsOfStep, of_multiplier, of_rest, of_taken, of_rule, of_difference, IsTooLarge}
-use Rattle.outcome_laws.specs.Causes.{PairsAreSpent, StepsAreSpent, ClaimRecord}
+use Rattle.outcome_laws.specs.ReductionSteps.{Goes}
 
 -- Of b a b = a b a with one pair: as many as the budget has, no fewer and no more, and between two rounds.
 abbrev one_pair : Budget

@@ -1,23 +1,5 @@
 -- Each ambiguity has a place in the square over its overlap word, and no two ambiguities of rules with distinct leading words have the same.
-use Rattle.std.proofs.Common.{◌≡◌, ◌≢◌, true, ℕ, ◌+◌, ◌-◌, ◌≤◌, ◌<◌, suc, refl, arith, subst, sym, ap, ◌∙◌, List, ◌∷◌, ◌++◌, map, length, take, drop, Some, append_assoc}
-use Rattle.std.proofs.lemmas.List.{length-append, length-map, take_at, drop_at}
-use Rattle.definitions.specs.Poly.{Word, word_eq}
-use Rattle.word_core.specs.Occurrence.{OccursAt}
-use Rattle.word_core.specs.Overlap.{OverlapsAt}
-use Rattle.rule_reduce.specs.declared.rule.Rule.{Rule}
-use Rattle.rule_reduce.specs.RuleLists.{rule_at}
-use Rattle.ambiguities.specs.declared.ambiguity.Kind.{Kind}
-use Rattle.ambiguities.specs.declared.ambiguity.Kind.TheVariants.{Overlap, Inclusion}
-use Rattle.ambiguities.specs.declared.ambiguity.Ambiguity.{Ambiguity}
-use Rattle.ambiguities.specs.Ambiguities.{MeetsAs, IsAmbiguity, lead_at, joined_word, overlap_word_of}
-use Rattle.ambiguities.proofs.Joined.{lead_at-is, overlap_word-is}
-use Rattle.outcome_laws.specs.Counts.{short_ambiguities}
-use Rattle.std.specs.List.{AllPairs, Contains}
-use Rattle.std.proofs.lemmas.Map.Made.{length-le_from_is_member, IsDistinct-from_AllPairs}
-use Rattle.std.proofs.lemmas.Map.Views.{list_any-from_Contains, Contains-from_any}
-use Rattle.definitions.proofs.Linear.{word_eq-same, word_eq-true}
-use Rattle.cofactor_checker.proofs.Words.{word_eq_equivalence}
-use Rattle.ambiguities.proofs.Ascending.{pairs-map}
+use Rattle.outcome_laws.proofs.Prelude.{◌≡◌, ◌≢◌, true, ℕ, ◌+◌, ◌-◌, ◌≤◌, ◌<◌, suc, refl, arith, subst, sym, ap, ◌∙◌, List, ◌∷◌, ◌++◌, map, length, take, drop, Some, append_assoc, length-append, length-map, take_at, drop_at, Word, word_eq, OccursAt, OverlapsAt, Rule, rule_at, Kind, Overlap, Inclusion, Ambiguity, MeetsAs, IsAmbiguity, lead_at, joined_word, overlap_word_of, lead_at-is, overlap_word-is, short_ambiguities, AllPairs, Contains, length-le_from_is_member, IsDistinct-from_AllPairs, list_any-from_Contains, Contains-from_any, word_eq-same, word_eq-true, word_eq_equivalence, pairs-map}
 use Rattle.outcome_laws.proofs.Listed.{value_of}
 use Rattle.outcome_laws.proofs.Squares.{AllIn, places, length_places, contains_places}
 

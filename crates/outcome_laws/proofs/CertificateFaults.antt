@@ -1,31 +1,10 @@
 -- Why no certificate is made of records.
-use Rattle.std.proofs.Common.{◌≡◌, ◌<◌, ◌⊎◌, inl, inr, ℕ, suc, pos, Bool, true, false, cond, ◌||◌, List, [], ◌∷◌, ◌++◌, map, length, nat_lt, Option, Some, None, Result, Ok, Err, refl, ◌∙◌, arith}
-use Rattle.std.specs.List.{Any, Contains}
-use Rattle.std.specs.BTreeMap.{insert_entry}
-use Rattle.std.specs.Ordering.{nat_cmp}
-use Rattle.std.specs.Option.{option_map}
-use Rattle.std.proofs.lemmas.Bool.Decides.{nat_tests}
-use Rattle.std.proofs.lemmas.List.Elements.{Contains-append_cases}
-use Rattle.coef_int.specs.declared.Overflow.{Overflow}
-use Rattle.coef_int.specs.Range.{IsCoefficient}
-use Rattle.coef_int.specs.Operations.{exact_value, first_overflow}
-use Rattle.nc_polynomial.specs.Limits.{word_limit}
-use Rattle.traced_rows.specs.declared.Made.{Made}
-use Rattle.traced_rows.specs.declared.certificate.CertRow.{CertRow}
-use Rattle.traced_rows.specs.declared.certificate.Cofactors.{Cofactors}
-use Rattle.traced_rows.specs.declared.evidence.Lemma.{Lemma}
-use Rattle.traced_rows.specs.declared.evidence.LemmaCertificate.{LemmaCertificate}
-use Rattle.cofactor_trace.specs.declared.fault.ExpandFault.{ExpandFault}
+use Rattle.outcome_laws.proofs.Prelude.{◌≡◌, ◌<◌, ◌⊎◌, inl, inr, ℕ, suc, pos, Bool, true, false, cond, ◌||◌, List, [], ◌∷◌, ◌++◌, map, length, nat_lt, Option, Some, None, Result, Ok, Err, refl, ◌∙◌, arith, Any, Contains, insert_entry, nat_cmp, option_map, nat_tests, Contains-append_cases, Overflow, IsCoefficient, exact_value, first_overflow, word_limit, Made, CertRow, Cofactors, Lemma, LemmaCertificate, ExpandFault, GatherFault, row_limit, letter_limit, common_denominator, denominator_products, joined_products, limit_fault, unless, overflow_in, multiple_products, record_expansion, sums_of_gathering, Numbered, Expansions, needed_rules, known_from, expansion_from, expansion_of, row_count, scale_fault, gathered_of, HasTurn, Turn, joined_at, lemmas_and_goal, IsOfCertificate, of_denominator, of_rows, of_sums, of_scales, HasLongRow, PassesLimit, HasManyRows, of_expansion, of_lemmas}
 use Rattle.cofactor_trace.specs.declared.fault.ExpandFault.TheVariants as expand
-use Rattle.cofactor_trace.specs.declared.fault.GatherFault.{GatherFault}
 use Rattle.cofactor_trace.specs.declared.fault.GatherFault.TheVariants as gather
-use Rattle.cofactor_trace.specs.Limits.{row_limit, letter_limit}
-use Rattle.cofactor_trace.specs.Expansion.{common_denominator, denominator_products, joined_products, has_long_word, letter_count, limit_fault, unless, overflow_in, multiple_products, record_expansion}
-use Rattle.cofactor_trace.specs.Gathered.{sums_of_gathering}
-use Rattle.cofactor_trace.specs.Needed.{Numbered, Expansions, needed_rules, known_from, and_then, expansion_from, expansion_of}
-use Rattle.cofactor_trace.specs.Lemmas.{row_count, scale_fault, gathered_of}
+use Rattle.cofactor_trace.specs.Expansion.{has_long_word, letter_count}
+use Rattle.cofactor_trace.specs.Needed.{and_then}
 use Rattle.cofactor_trace.specs.Lemmas as lemmas
-use Rattle.outcome_laws.specs.Certificates.{HasTurn, Turn, joined_at, lemmas_and_goal, IsOfCertificate, of_denominator, of_rows, of_sums, of_scales, HasLongRow, PassesLimit, HasManyRows, of_expansion, of_lemmas}
 use Rattle.outcome_laws.proofs.Listed.{failing}
 
 -- a fault, or none, and then what comes

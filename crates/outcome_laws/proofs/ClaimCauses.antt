@@ -1,26 +1,6 @@
 -- What the cause of a halt in the work on a claim or on its certificate says.
-use Rattle.std.proofs.Common.{◌≡◌, ◌<◌, ◌≤◌, ◌⊎◌, inl, inr, ℕ, [], length, None, Ok, Err, refl, sym, ap, subst, arith}
-use Rattle.std.proofs.lemmas.List.{length-map}
-use Rattle.confluence.proofs.Ideals.{generator_decided}
-use Rattle.word_orders.specs.Specified.{asked_cmp}
-use Rattle.word_orders.proofs.AskedOrders.{asked_rank}
-use Rattle.quiver.specs.Declarations.{letter_count}
-use Rattle.cofactor_trace.specs.declared.fault.ExpandFault.{ExpandFault}
-use Rattle.cofactor_trace.specs.declared.fault.GatherFault.{GatherFault}
-use Rattle.cofactor_trace.specs.declared.halt.Cause.{Cause}
+use Rattle.outcome_laws.proofs.Prelude.{◌≡◌, ◌<◌, ◌≤◌, ◌⊎◌, inl, inr, ℕ, [], length, None, Ok, Err, refl, sym, ap, subst, arith, length-map, generator_decided, asked_cmp, asked_rank, letter_count, ExpandFault, GatherFault, Cause, expansion_of, gathered_of, State, ReduceFault, normal_form_of, Problem, polynomials, claim_at, Budget, RunState, IsRunState, IsCauseOf, setting_of, IsCauseOfExpansion, IsCauseOfGathering, record_of, IsClaim, of_claim, ClaimRecord, in_making, in_certificate, CauseMeans}
 use Rattle.cofactor_trace.specs.declared.halt.Place.TheVariants as place
-use Rattle.cofactor_trace.specs.Needed.{expansion_of}
-use Rattle.cofactor_trace.specs.Lemmas.{gathered_of}
-use Rattle.rule_reduce.specs.declared.state.State.{State}
-use Rattle.rule_reduce.specs.declared.fault.ReduceFault.{ReduceFault}
-use Rattle.rule_reduce.specs.NormalForms.{normal_form_of}
-use Rattle.adjoint_rules.specs.declared.problem.Problem.{Problem}
-use Rattle.adjoint_rules.specs.Problem.{polynomials}
-use Rattle.adjoint_rules.specs.Claims.{claim_at}
-use Rattle.traced_completion.specs.declared.budget.Budget.{Budget}
-use Rattle.traced_completion.specs.PlainRun.{RunState, IsRunState, IsCauseOf, setting_of}
-use Rattle.claim_decider.specs.Outcomes.{IsCauseOfExpansion, IsCauseOfGathering, record_of}
-use Rattle.outcome_laws.specs.Causes.{IsClaim, of_claim, ClaimRecord, in_making, in_certificate, CauseMeans}
 use Rattle.outcome_laws.proofs.CertificateFaults.{ExpansionStops, expansion_overflows, row_too_long, too_many_rows, expansion_stops, GatheringStops, scale_overflows, too_many_lemma_rows, gathering_stops}
 use Rattle.outcome_laws.proofs.Derivations.{zero_traces}
 use Rattle.outcome_laws.proofs.OpenRuns.{claim_reduced}

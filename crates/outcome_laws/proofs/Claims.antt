@@ -1,38 +1,12 @@
 -- Each claim has an outcome, since its run is finite.
-use Rattle.std.proofs.Common.{◌≡◌, ◌⊎◌, inl, inr, ◌≤◌, ◌+◌, ℕ, zero, suc, true, List, [], ◌∷◌, length, Result, Ok, Err, refl, sym, ap, subst, arith}
-use Rattle.definitions.specs.Poly.{Term}
-use Rattle.definitions.specs.Combination.{generator_at}
-use Rattle.word_orders.specs.Admissible.{IsAdmissible}
-use Rattle.nc_polynomial.specs.Shape.{IsCanonical}
-use Rattle.nc_polynomial.specs.declared.poly.Poly.{Poly}
-use Rattle.traced_rows.specs.declared.Made.{Made}
-use Rattle.traced_rows.specs.declared.certificate.Cofactors.{Cofactors}
-use Rattle.traced_rows.specs.declared.evidence.Format.{Format}
+use Rattle.outcome_laws.proofs.Prelude.{◌≡◌, ◌⊎◌, inl, inr, ◌≤◌, ◌+◌, ℕ, zero, suc, true, List, [], ◌∷◌, length, Result, Ok, Err, refl, sym, ap, subst, arith, Term, generator_at, IsAdmissible, IsCanonical, Poly, Made, Cofactors, Format, LemmaCertificate, ExpandFault, GatherFault, Cause, Place, expansion_of, gathered_of, Rule, State, ReduceFault, normal_form_of, Setting, RunState, RoundOutcome, start, went, closed, stopped, IsCauseOf, IsRound, IsRunState, states_bounded, Outcome, IsCauseOfExpansion, IsCauseOfGathering, halted_at, IsHalted, record_of, certificate_of, Expands, Gathers, IsProved, evidence_of_zero, IsLeft, IsDoneWith, IsDoneBy, IsDone, IsOpen, IsClosedWith, GetsOutcome, at_once, after_round, by_closing, by_stop, HasRound, Gives, normal_form_gives, open_run}
 use Rattle.traced_rows.specs.declared.evidence.Format.TheVariants as format
 use Rattle.traced_rows.specs.declared.evidence.Evidence.TheVariants as evidence
-use Rattle.traced_rows.specs.declared.evidence.LemmaCertificate.{LemmaCertificate}
-use Rattle.cofactor_trace.specs.declared.fault.ExpandFault.{ExpandFault}
-use Rattle.cofactor_trace.specs.declared.fault.GatherFault.{GatherFault}
-use Rattle.cofactor_trace.specs.declared.halt.Cause.{Cause}
 use Rattle.cofactor_trace.specs.declared.halt.Cause.TheVariants as cause
-use Rattle.cofactor_trace.specs.declared.halt.Place.{Place}
 use Rattle.cofactor_trace.specs.declared.halt.Place.TheVariants as place
-use Rattle.cofactor_trace.specs.Needed.{expansion_of}
-use Rattle.cofactor_trace.specs.Lemmas.{gathered_of}
-use Rattle.rule_reduce.specs.declared.rule.Rule.{Rule}
-use Rattle.rule_reduce.specs.declared.state.State.{State}
-use Rattle.rule_reduce.specs.declared.fault.ReduceFault.{ReduceFault}
-use Rattle.rule_reduce.specs.NormalForms.{normal_form_of}
-use Rattle.traced_completion.specs.PlainRun.{Setting, RunState, Outcome as RoundOutcome, start, went, closed, stopped, IsCauseOf, IsRound, IsRunState}
-use Rattle.traced_completion.proofs.RunStates.{states_bounded}
-use Rattle.claim_decider.specs.declared.outcome.Outcome.{Outcome}
 use Rattle.claim_decider.specs.declared.outcome.Outcome.TheVariants as outcome
-use Rattle.claim_decider.specs.Outcomes.{IsCauseOfExpansion, IsCauseOfGathering, halted_at, IsHalted, record_of, certificate_of, Expands, Gathers, IsProved, evidence_of_zero, IsLeft, IsDoneWith, IsDoneBy, IsDone, IsOpen, IsClosedWith, GetsOutcome, at_once, after_round, by_closing, by_stop}
-use Rattle.outcome_laws.specs.Existence.{HasRound}
-use Rattle.confluence.proofs.ShapeLaws.{Gives, normal_form_gives}
 use Rattle.outcome_laws.proofs.CertificateFaults.{ExpansionStops, expansion_overflows, row_too_long, too_many_rows, expansion_stops, GatheringStops, scale_overflows, too_many_lemma_rows, gathering_stops}
 use Rattle.outcome_laws.proofs.Rounds.{has_cause, has_round}
-use Rattle.claim_decider.proofs.UniqueOutcomes.{open_run}
 use Rattle.outcome_laws.proofs.RoundEnds.{zero_ends}
 
 -- evidence

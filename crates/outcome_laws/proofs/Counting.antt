@@ -1,11 +1,5 @@
 -- Of what rounds take, one each is listed that is new and as asked.
-use Rattle.std.proofs.Common.{◌≡◌, ◌≢◌, get_or, ◌*◌, ◌≤◌, ◌⊎◌, inl, inr, arith, subst, sym, List, [], ◌∷◌, ◌++◌, length}
-use Rattle.std.proofs.lemmas.List.{length-append}
-use Rattle.std.proofs.lemmas.List.Elements.{Contains-get_or, Contains-append_left, Contains-append_right}
-use Rattle.std.specs.List.{AllPairs, Contains}
-use Rattle.traced_completion.specs.Limits.{round_limit}
-use Rattle.std.proofs.lemmas.List.Kept.{AllPairs-cons}
-use Rattle.ambiguities.proofs.Ascending.{contains-none, contains-cases}
+use Rattle.outcome_laws.proofs.Prelude.{◌≡◌, ◌≢◌, get_or, ◌*◌, ◌≤◌, ◌⊎◌, inl, inr, arith, subst, sym, List, [], ◌∷◌, ◌++◌, length, length-append, Contains-get_or, Contains-append_left, Contains-append_right, AllPairs, Contains, round_limit, AllPairs-cons, contains-none, contains-cases}
 
 module _ {A : Type 0} where
   -- distinct ones that were taken, each as asked, of no more than the limit of a round each time one

@@ -1,37 +1,5 @@
 -- What is made of a claim that a run reduces to zero: evidence that adds up, or a halt, and it follows in any case.
-use Rattle.std.proofs.Common.{◌≡◌, ℕ, List, [], length, Ok, sym, ap, ◌∙◌, subst, append-nil}
-use Rattle.definitions.specs.Poly.{Term, coefficient_of, poly_sum}
-use Rattle.definitions.specs.Combination.{IsCombination, InRationalIdeal}
-use Rattle.traced_rows.specs.declared.certificate.Cofactors.{Cofactors}
-use Rattle.traced_rows.specs.declared.evidence.LemmaCertificate.{LemmaCertificate}
-use Rattle.traced_rows.specs.Traces.{traced_sum}
-use Rattle.cofactor_trace.specs.Needed.{IsRecord, AreRecords, expansion_of}
-use Rattle.cofactor_trace.specs.Lemmas.{gathered_of}
-use Rattle.cofactor_trace.specs.Laws.{Traces}
-use Rattle.traced_rows.specs.Rows.{rows_of}
-use Rattle.traced_rows.specs.LemmaRows.{IsEvidenceOf}
-use Rattle.cofactor_trace.specs.GatheringLaws.{lemma_polys}
-use Rattle.cofactor_trace.proofs.GatheredParts.{parts}
-use Rattle.cofactor_trace.proofs.LemmaBalance.{gatherings_add_up}
-use Rattle.cofactor_trace.proofs.Passes.{expansions_balance}
-use Rattle.word_orders.specs.Specified.{asked_cmp}
-use Rattle.word_orders.specs.Admissible.{Compare}
-use Rattle.quiver.specs.Declarations.{letter_count}
-use Rattle.rule_reduce.specs.declared.rule.Rule.{Rule}
-use Rattle.rule_reduce.specs.declared.state.State.{State}
-use Rattle.rule_reduce.specs.RuleLists.{polynomials_of}
-use Rattle.rule_reduce.specs.NormalForms.{normal_form_of}
-use Rattle.adjoint_rules.specs.declared.problem.Problem.{Problem}
-use Rattle.adjoint_rules.specs.Problem.{polynomials}
-use Rattle.adjoint_rules.specs.Claims.{claim_at}
-use Rattle.confluence.specs.Reductions.{IsReduced}
-use Rattle.confluence.proofs.Inside.{zero_is_inside}
-use Rattle.confluence.proofs.RowSums.{traced_sum-by_rules}
-use Rattle.traced_completion.specs.declared.budget.Budget.{Budget}
-use Rattle.traced_completion.specs.PlainRun.{RunState, IsRunState, setting_of}
-use Rattle.claim_decider.specs.Outcomes.{record_of}
-use Rattle.claim_decider.proofs.Judging.{claim_record}
-use Rattle.outcome_laws.specs.KeptRuns.{done_after}
+use Rattle.outcome_laws.proofs.Prelude.{◌≡◌, ℕ, List, [], length, Ok, sym, ap, ◌∙◌, subst, append-nil, Term, coefficient_of, poly_sum, IsCombination, InRationalIdeal, Cofactors, LemmaCertificate, traced_sum, IsRecord, AreRecords, expansion_of, gathered_of, Traces, rows_of, IsEvidenceOf, lemma_polys, parts, gatherings_add_up, expansions_balance, asked_cmp, Compare, letter_count, Rule, State, polynomials_of, normal_form_of, Problem, polynomials, claim_at, IsReduced, zero_is_inside, traced_sum-by_rules, Budget, RunState, IsRunState, setting_of, record_of, claim_record, done_after}
 use Rattle.outcome_laws.proofs.LimitedRuns.{numbered_fits, records_limited}
 use Rattle.outcome_laws.proofs.OpenRuns.{claim_reduced}
 use Rattle.outcome_laws.proofs.ProblemStates.{state_kept}

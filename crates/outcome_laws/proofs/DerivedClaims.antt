@@ -1,19 +1,7 @@
 -- Evidence of a derived claim names that claim, so it adds up for the claim that it names.
-use Rattle.std.proofs.Common.{ℕ, List, sym, subst}
-use Rattle.definitions.specs.Poly.{Term}
-use Rattle.definitions.specs.Combination.{IsCombination}
-use Rattle.traced_rows.specs.declared.certificate.Certificate.{Certificate}
-use Rattle.traced_rows.specs.declared.evidence.LemmaCertificate.{LemmaCertificate}
+use Rattle.outcome_laws.proofs.Prelude.{ℕ, List, sym, subst, Term, IsCombination, Certificate, LemmaCertificate, Format, rows_of, IsEvidenceOf, Problem, polynomials, claim_at, Budget, IsOutcomeAt}
 use Rattle.traced_rows.specs.declared.evidence.Evidence.TheVariants as evidence
-use Rattle.traced_rows.specs.declared.evidence.Format.{Format}
-use Rattle.traced_rows.specs.Rows.{rows_of}
-use Rattle.traced_rows.specs.LemmaRows.{IsEvidenceOf}
-use Rattle.adjoint_rules.specs.declared.problem.Problem.{Problem}
-use Rattle.adjoint_rules.specs.Problem.{polynomials}
-use Rattle.adjoint_rules.specs.Claims.{claim_at}
-use Rattle.traced_completion.specs.declared.budget.Budget.{Budget}
 use Rattle.claim_decider.specs.declared.outcome.Outcome.TheVariants as outcome
-use Rattle.outcome_laws.specs.Meanings.{IsOutcomeAt}
 use Rattle.outcome_laws.proofs.Meanings.{derived_claims_add_up}
 
 module _ (problem : Problem) (budget : Budget) (form : Format) (number : ℕ) where

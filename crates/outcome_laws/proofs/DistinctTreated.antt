@@ -1,19 +1,5 @@
 -- No ambiguity is treated twice.
-use Rattle.std.proofs.Common.{◌≡◌, ◌≢◌, ℕ, zero, suc, List, [], ◌∷◌, ◌++◌, take, drop, get_or, sym, ap, subst, ◌∙◌, arith}
-use Rattle.std.specs.List.{AllPairs, Contains}
-use Rattle.std.proofs.lemmas.List.{take-append-drop}
-use Rattle.std.proofs.lemmas.List.Elements.{All-append, All-take, Contains-append_left, Contains-get_or}
-use Rattle.std.proofs.lemmas.List.Kept.{AllPairs-cons}
-use Rattle.ambiguities.proofs.Ascending.{contains-first, contains-rest, pairs-map, first-before, rest-pairs}
-use Rattle.ambiguities.proofs.Comparing.{not_before_itself}
-use Rattle.word_orders.specs.Admissible.{IsAdmissible}
-use Rattle.rule_reduce.specs.declared.rule.Rule.{Rule}
-use Rattle.ambiguities.specs.declared.ambiguity.Ambiguity.{Ambiguity}
-use Rattle.ambiguities.specs.Ambiguities.{overlap_word_of}
-use Rattle.ambiguities.specs.declared.waiting.Waiting.{Waiting}
-use Rattle.ambiguities.specs.Order.{IsWaitingBefore}
-use Rattle.traced_completion.specs.Pending.{IsPending, ambiguities_of}
-use Rattle.traced_completion.specs.PlainRun.{went, Setting, RunState, IsRunState, taken_count}
+use Rattle.outcome_laws.proofs.Prelude.{◌≡◌, ◌≢◌, ℕ, zero, suc, List, [], ◌∷◌, ◌++◌, take, drop, get_or, sym, ap, subst, ◌∙◌, arith, AllPairs, Contains, take-append-drop, All-append, All-take, Contains-append_left, Contains-get_or, AllPairs-cons, contains-first, contains-rest, pairs-map, first-before, rest-pairs, not_before_itself, IsAdmissible, Rule, Ambiguity, overlap_word_of, Waiting, IsWaitingBefore, IsPending, ambiguities_of, went, Setting, RunState, IsRunState, taken_count}
 use Rattle.outcome_laws.proofs.Listed.{value_of}
 use Rattle.outcome_laws.proofs.RoundEnds.{zero_ends, later_ends}
 

@@ -1,20 +1,6 @@
 -- Numbers of pairs that are counted by hand, and claims that have enough.
-use Rattle.std.proofs.Common.{◌≡◌, ◌≢◌, ℕ, ◌≤◌, pos, IsTrue, List, [], ◌∷◌, ◌++◌, length, map, take, refl, sym, ap, ◌∙◌, subst, arith, append-nil}
-use Rattle.std.proofs.lemmas.Int.{ints}
-use Rattle.std.specs.List.{range_with_len}
-use Rattle.definitions.specs.Poly.{Term, coefficient_of, poly_multiple, poly_between}
-use Rattle.definitions.specs.Combination.{generator_at}
-use Rattle.word_core.specs.Overlap.{overlap_places}
+use Rattle.outcome_laws.proofs.Prelude.{◌≡◌, ◌≢◌, ℕ, ◌≤◌, pos, IsTrue, List, [], ◌∷◌, ◌++◌, length, map, take, refl, sym, ap, ◌∙◌, subst, arith, append-nil, ints, range_with_len, Term, coefficient_of, poly_multiple, poly_between, generator_at, overlap_places, asked_cmp, between-nothing, letter_count, is_below, Problem, polynomials, claim_at, short_ambiguities, enough_pairs, HasEnough}
 use Rattle.word_orders.specs.declared.any.OrderSpec.TheVariants as asked
-use Rattle.word_orders.specs.Specified.{asked_cmp}
-use Rattle.traced_rows.proofs.Between.{between-nothing}
-use Rattle.quiver.specs.Declarations.{letter_count}
-use Rattle.ambiguities.specs.Resolved.{is_below}
-use Rattle.adjoint_rules.specs.declared.problem.Problem.{Problem}
-use Rattle.adjoint_rules.specs.Problem.{polynomials}
-use Rattle.adjoint_rules.specs.Claims.{claim_at}
-use Rattle.outcome_laws.specs.Counts.{short_ambiguities}
-use Rattle.outcome_laws.specs.Enough.{enough_pairs, HasEnough}
 
 -- one letter, at most three: 1 + 4 + 9
 one_letter : short_ambiguities 1 3 ≡ 14

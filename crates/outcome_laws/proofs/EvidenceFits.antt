@@ -1,44 +1,13 @@
 -- The evidence of derived claims is within the limits.
-use Rattle.std.proofs.Common.{◌≡◌, ◌≤◌, ◌<ℤ◌, ℕ, pos, List, length, get_or, Some, Ok, refl, sym, ap, subst, arith}
-use Rattle.std.specs.List.{All}
-use Rattle.std.proofs.lemmas.Int.{ints}
-use Rattle.std.proofs.lemmas.List.Elements.{All-nil, All-pop, All-weaker}
-use Rattle.definitions.specs.Poly.{Term}
-use Rattle.traced_rows.specs.declared.Row.{Row}
-use Rattle.traced_rows.specs.declared.Made.{Made}
-use Rattle.traced_rows.specs.declared.certificate.Cofactors.{Cofactors}
-use Rattle.traced_rows.specs.declared.evidence.LemmaRow.{LemmaRow}
-use Rattle.traced_rows.specs.declared.evidence.Lemma.{Lemma}
-use Rattle.traced_rows.specs.declared.evidence.LemmaCertificate.{LemmaCertificate}
-use Rattle.traced_rows.specs.declared.evidence.Evidence.{Evidence}
+use Rattle.outcome_laws.proofs.Prelude.{◌≡◌, ◌≤◌, ◌<ℤ◌, ℕ, pos, List, length, get_or, Some, Ok, refl, sym, ap, subst, arith, All, ints, All-nil, All-pop, All-weaker, Term, Row, Made, Cofactors, LemmaRow, Lemma, LemmaCertificate, Evidence, Format, IsUpTo, NamesUpTo, IsRecord, expansion_of, gathered_of, parts_of, IsRangedLemma, parts, gatherings_fit, lemmas_have_rows, gatherings_are_ranged, lemmas_are_named, expansions_fit, generators_are_named, Problem, letter_count, Budget, Setting, setting_of, claim_at, evidence_of_zero, record_of, certificate_of, word_limit, IsRowWithin, IsLemmaRowWithin, IsLemmaWithin, IsWithinLimits, EvidenceFits, Origin, IsByRule, rows_are_by_rules}
 use Rattle.traced_rows.specs.declared.evidence.Evidence.TheVariants as evidence
-use Rattle.traced_rows.specs.declared.evidence.Format.{Format}
 use Rattle.traced_rows.specs.declared.evidence.Format.TheVariants as format
-use Rattle.cofactor_trace.specs.Laws.{IsUpTo, NamesUpTo}
-use Rattle.cofactor_trace.specs.Needed.{IsRecord, expansion_of}
-use Rattle.cofactor_trace.specs.Lemmas.{gathered_of}
-use Rattle.cofactor_trace.specs.GatheringLaws.{parts_of, IsRangedLemma}
-use Rattle.cofactor_trace.proofs.GatheredParts.{parts, gatherings_fit, lemmas_have_rows, gatherings_are_ranged}
-use Rattle.cofactor_trace.proofs.LemmaNames.{lemmas_are_named}
-use Rattle.cofactor_trace.proofs.Limits.{expansions_fit}
-use Rattle.cofactor_trace.proofs.NamedGenerators.{generators_are_named}
-use Rattle.adjoint_rules.specs.declared.problem.Problem.{Problem}
-use Rattle.quiver.specs.Declarations.{letter_count}
-use Rattle.traced_completion.specs.declared.budget.Budget.{Budget}
-use Rattle.traced_completion.specs.PlainRun.{Setting, setting_of}
-use Rattle.adjoint_rules.specs.Claims.{claim_at}
 use Rattle.claim_decider.specs.declared.outcome.Outcome.TheVariants as outcome
-use Rattle.claim_decider.specs.Outcomes.{evidence_of_zero, record_of, certificate_of}
-use Rattle.nc_polynomial.specs.Limits.{word_limit}
-use Rattle.outcome_laws.specs.EvidenceLimits.{IsRowWithin, IsLemmaRowWithin, IsLemmaWithin, IsWithinLimits, EvidenceFits}
 use Rattle.outcome_laws.proofs.EvidenceRanges.{expansion_ranged, gathered_positive}
 use Rattle.outcome_laws.proofs.EvidenceWords.{gathered_words}
 use Rattle.outcome_laws.proofs.OutcomeWays.{Way, no_terms, expanded, gathered, left_over, given_up, with_run, way, IsProvedBy}
 use Rattle.outcome_laws.proofs.ReducedWithin.{IsShortRow}
-use Rattle.traced_rows.specs.declared.Origin.{Origin}
 use Rattle.traced_rows.specs.declared.Origin.TheVariants as origin
-use Rattle.rule_reduce.specs.Laws.{IsByRule}
-use Rattle.rule_reduce.proofs.RowsByRules.{rows_are_by_rules}
 use Rattle.outcome_laws.proofs.Derivations.{within, claim_is_record}
 use Rattle.outcome_laws.proofs.LimitedRuns.{LimitedRecords, records_limited}
 

@@ -1,29 +1,6 @@
 -- The numbers of evidence are coefficients, and its denominator and scales are positive.
-use Rattle.std.proofs.Common.{rules, ◌≡◌, ℕ, zero, suc, ℤ, pos, negsuc, neg_ℤ, ◌+ℤ◌, ◌*ℤ◌, ◌<ℤ◌, int_div, List, [], ◌∷◌, ◌++◌, map, get_or, Option, Some, None, Result, Ok, refl, subst, arith}
-use Rattle.std.proofs.lemmas.Int.{ints}
-use Rattle.std.proofs.lemmas.List.Elements.{All-nil, All-append, All-replicate, All-map}
-use Rattle.std.specs.List.{All, fold, flat_map}
-use Rattle.std.specs.Option.{option_map}
-use Rattle.coef_int.specs.declared.Overflow.{Overflow}
-use Rattle.coef_int.specs.Range.{IsCoefficient}
-use Rattle.coef_int.specs.Operations.{product_of, sum_of, first_overflow}
-use Rattle.traced_rows.specs.declared.Origin.{Origin}
-use Rattle.traced_rows.specs.declared.Row.{Row}
-use Rattle.traced_rows.specs.declared.Made.{Made}
-use Rattle.traced_rows.specs.declared.certificate.CertRow.{CertRow}
-use Rattle.traced_rows.specs.declared.certificate.Cofactors.{Cofactors}
-use Rattle.traced_rows.specs.declared.evidence.Lemma.{Lemma}
-use Rattle.traced_rows.specs.declared.evidence.LemmaCertificate.{LemmaCertificate}
-use Rattle.cofactor_trace.specs.declared.fault.ExpandFault.{ExpandFault}
+use Rattle.outcome_laws.proofs.Prelude.{rules, ◌≡◌, ℕ, zero, suc, ℤ, pos, negsuc, neg_ℤ, ◌+ℤ◌, ◌*ℤ◌, ◌<ℤ◌, int_div, List, [], ◌∷◌, ◌++◌, map, get_or, Option, Some, None, Result, Ok, refl, subst, arith, ints, All-nil, All-append, All-replicate, All-map, All, fold, flat_map, option_map, Overflow, IsCoefficient, product_of, sum_of, first_overflow, Origin, Row, Made, CertRow, Cofactors, Lemma, LemmaCertificate, ExpandFault, multiples_of, coefficients_at, total_at, kept_row, gathered, running_sums, sums_of_gathering, Known, multiple_products, denominators, common_denominator, denominator_products, joined, joined_products, limit_fault, content_of, divided_row, primitive, unless, overflow_in, record_expansion, expansion_of, gathered_of, parts_of, IsRanged, quotient_positive, product_positive, content-first, content-positive, common_multiple-positive, parts, each_part, lemma_record_each}
 use Rattle.cofactor_trace.specs.declared.fault.ExpandFault.TheVariants as fault
-use Rattle.cofactor_trace.specs.Gathered.{multiples_of, coefficients_at, total_at, kept_row, gathered, running_sums, sums_of_gathering}
-use Rattle.cofactor_trace.specs.Expansion.{Known, multiple_products, denominators, common_denominator, denominator_products, joined, joined_products, limit_fault, content_of, divided_row, primitive, unless, overflow_in, record_expansion}
-use Rattle.cofactor_trace.specs.Needed.{expansion_of}
-use Rattle.cofactor_trace.specs.Lemmas.{gathered_of}
-use Rattle.cofactor_trace.specs.GatheringLaws.{parts_of}
-use Rattle.cofactor_trace.specs.Ranges.{IsRanged}
-use Rattle.cofactor_trace.proofs.Divisors.{quotient_positive, product_positive, content-first, content-positive, common_multiple-positive}
-use Rattle.cofactor_trace.proofs.GatheredParts.{parts, each_part, lemma_record_each}
 use Rattle.outcome_laws.proofs.Results.{same_value, fits_first, none_append}
 use Rattle.outcome_laws.proofs.EvidenceWords.{expansion_is}
 

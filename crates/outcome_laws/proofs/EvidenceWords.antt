@@ -1,29 +1,7 @@
 -- What holds of the words of records, and of words put together of such, holds of the words of evidence.
-use Rattle.std.proofs.Common.{◌≡◌, refl, ℕ, suc, ℤ, ◌*ℤ◌, Bool, true, false, cond, List, [], ◌∷◌, ◌++◌, map, Some, Result, Ok, Err, unwrap_or, subst}
-use Rattle.std.proofs.lemmas.List.Elements.{All-head, All-tail, All-map, All-from_recursion}
-use Rattle.std.specs.List.{All, AllByRecursion}
-use Rattle.std.specs.Map.{lookup}
-use Rattle.std.specs.BTreeMap.{insert_entry, is_at}
-use Rattle.std.specs.Ordering.{nat_cmp, is_eq}
-use Rattle.traced_rows.specs.declared.Origin.{Origin}
+use Rattle.outcome_laws.proofs.Prelude.{◌≡◌, refl, ℕ, suc, ℤ, ◌*ℤ◌, Bool, true, false, cond, List, [], ◌∷◌, ◌++◌, map, Some, Result, Ok, Err, unwrap_or, subst, All-head, All-tail, All-map, All-from_recursion, All, AllByRecursion, lookup, insert_entry, is_at, nat_cmp, is_eq, Origin, Row, Made, CertRow, Cofactors, LemmaRow, Lemma, LemmaCertificate, ExpandFault, Known, common_denominator, joined, joined_rows, joined_row, share, record_expansion, Numbered, Expansions, none, known_from, expansion_from, expansion_of, needed_from, needed_rules, is_named, naming_of, lemma_row, gathered_of, parts_of, parts, each_part, lemma_record_each, Each, each_append, each_primitive, records_of, each_with, primitive_is}
 use Rattle.traced_rows.specs.declared.Origin.TheVariants as origin
-use Rattle.traced_rows.specs.declared.Row.{Row}
-use Rattle.traced_rows.specs.declared.Made.{Made}
-use Rattle.traced_rows.specs.declared.certificate.CertRow.{CertRow}
-use Rattle.traced_rows.specs.declared.certificate.Cofactors.{Cofactors}
-use Rattle.traced_rows.specs.declared.evidence.LemmaRow.{LemmaRow}
-use Rattle.traced_rows.specs.declared.evidence.Lemma.{Lemma}
-use Rattle.traced_rows.specs.declared.evidence.LemmaCertificate.{LemmaCertificate}
-use Rattle.cofactor_trace.specs.declared.fault.ExpandFault.{ExpandFault}
-use Rattle.cofactor_trace.specs.Expansion.{Known, common_denominator, joined, joined_rows, joined_row, share, record_expansion}
-use Rattle.cofactor_trace.specs.Needed.{Numbered, Expansions, none, known_from, and_then, expansion_from, expansion_of, needed_from, needed_rules, is_named}
-use Rattle.cofactor_trace.specs.Lemmas.{naming_of, lemma_row, gathered_of}
-use Rattle.cofactor_trace.specs.GatheringLaws.{parts_of}
-use Rattle.cofactor_trace.proofs.GatheredParts.{parts, each_part, lemma_record_each}
-use Rattle.cofactor_trace.proofs.Kept.{Each, each_append, each_primitive}
-use Rattle.cofactor_trace.proofs.NeededLaws.{records_of}
-use Rattle.cofactor_trace.proofs.Passes.{each_with}
-use Rattle.cofactor_trace.proofs.RecordLaws.{primitive_is}
+use Rattle.cofactor_trace.specs.Needed.{and_then}
 
 -- what holds of each record holds of those that are needed
 pub needed_each : (P : Made → Type 0) (target : Made) (number : ℕ) (made : List Made) → All P made → AllByRecursion (λ e. P e.1) (needed_from target number made)

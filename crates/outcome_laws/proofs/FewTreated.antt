@@ -1,44 +1,9 @@
 -- While a claim that follows below a word is open, fewer pairs were treated than are enough for the word.
-use Rattle.std.proofs.Common.{◌≡◌, ◌⊎◌, inl, inr, ◌≤◌, ◌<◌, ◌-◌, ℕ, zero, suc, List, [], ◌∷◌, ◌++◌, length, take, min, Some, Contains, refl, sym, ap, ◌∙◌, subst, arith, append-nil}
-use Rattle.std.specs.List.{All}
-use Rattle.std.specs.declared.cmp.Ordering.TheVariants.{Less}
-use Rattle.std.proofs.lemmas.Bool.{cases_lt}
-use Rattle.std.proofs.lemmas.List.{length-map, length-take}
-use Rattle.std.proofs.lemmas.List.Elements.{All-head}
-use Rattle.definitions.specs.Poly.{Term}
-use Rattle.word_core.specs.Canonical.{word_cmp}
-use Rattle.word_core.specs.Letters.{IsOver}
-use Rattle.word_core.proofs.Order.{word_cmp-cases, word_cmp-less_trans, word_cmp-length}
-use Rattle.word_orders.specs.Admissible.{Compare}
-use Rattle.word_orders.specs.Specified.{asked_cmp}
-use Rattle.quiver.specs.Declarations.{letter_count, quiver_of}
-use Rattle.rule_reduce.specs.declared.rule.Rule.{Rule}
-use Rattle.rule_reduce.specs.RuleLists.{IsRule, rule_at}
-use Rattle.rule_reduce.proofs.AtMost.{leading-all}
-use Rattle.rule_reduce.proofs.Numbers.{rule_at-all}
-use Rattle.ambiguities.specs.declared.ambiguity.Ambiguity.{Ambiguity}
-use Rattle.ambiguities.specs.Ambiguities.{IsAmbiguity, overlap_word_of}
-use Rattle.adjoint_rules.specs.declared.problem.Problem.{Problem}
-use Rattle.adjoint_rules.specs.Claims.{claim_at}
-use Rattle.confluence.specs.Kept.{AreApart}
-use Rattle.confluence.specs.Conclusions.{NothingPendingBelow}
-use Rattle.confluence.proofs.MoreAmbiguities.{ambiguity_more, overlap_word-more}
-use Rattle.confluence.proofs.TypedLaws.{overlap_in_play}
-use Rattle.traced_completion.specs.Limits.{round_limit}
-use Rattle.traced_completion.specs.declared.budget.Budget.{Budget}
-use Rattle.ambiguities.specs.declared.waiting.Waiting.{Waiting}
-use Rattle.traced_completion.specs.Pending.{AreAllPending, ambiguities_of}
-use Rattle.traced_completion.specs.PlainRun.{went, Setting, RunState, taken_count, setting_of}
-use Rattle.ambiguities.proofs.Ascending.{contains-first}
-use Rattle.traced_completion.proofs.StoreLemmas.{pending-over}
-use Rattle.claim_decider.specs.Outcomes.{IsOpen}
-use Rattle.outcome_laws.specs.KeptRuns.{done_after, IsKeptState}
+use Rattle.outcome_laws.proofs.Prelude.{◌≡◌, ◌⊎◌, inl, inr, ◌≤◌, ◌<◌, ◌-◌, ℕ, zero, suc, List, [], ◌∷◌, ◌++◌, length, take, min, Some, refl, sym, ap, ◌∙◌, subst, arith, append-nil, All, Less, cases_lt, length-map, length-take, All-head, Term, word_cmp, IsOver, word_cmp-cases, word_cmp-less_trans, word_cmp-length, Compare, asked_cmp, letter_count, quiver_of, Rule, IsRule, rule_at, leading-all, rule_at-all, Ambiguity, IsAmbiguity, overlap_word_of, Problem, claim_at, AreApart, NothingPendingBelow, ambiguity_more, overlap_word-more, overlap_in_play, round_limit, Budget, Waiting, AreAllPending, ambiguities_of, went, Setting, RunState, taken_count, setting_of, contains-first, pending-over, IsOpen, done_after, IsKeptState, asked_rank, open_run, letters_in_play, enough_pairs, IsShownBelow, OpenRunsTreatFew}
+use Rattle.std.proofs.Common.{Contains}
 use Rattle.outcome_laws.proofs.RunsKept.{BeginsWith}
 use Rattle.outcome_laws.proofs.WholeRuns.{first_is_least_pending}
-use Rattle.word_orders.proofs.AskedOrders.{asked_rank}
-use Rattle.claim_decider.proofs.UniqueOutcomes.{open_run}
 use Rattle.outcome_laws.proofs.OpenRuns.{open_not_below}
-use Rattle.outcome_laws.specs.Enough.{letters_in_play, enough_pairs, IsShownBelow, OpenRunsTreatFew}
 use Rattle.outcome_laws.proofs.Cells.{HaveDistinctLeads, IsShort, short_are_few}
 use Rattle.outcome_laws.proofs.Counting.{HasFirsts, none_taken, firsts_weaker, distinct_more, asked_more, firsts_more}
 use Rattle.outcome_laws.proofs.LettersInPlay.{problem_play, all_in}

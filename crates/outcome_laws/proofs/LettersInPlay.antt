@@ -1,20 +1,8 @@
 -- The generators of a problem have letters in play, and so have the overlap words of the rules of its runs.
-use Rattle.std.proofs.Common.{◌≡◌, ◌⊎◌, inl, inr, refl, sym, ap, subst, Contains, ℕ, Bool, true, false, cond, List, [], ◌∷◌, ◌∙◌, arith, ltb, ltb-true}
-use Rattle.std.specs.List.{All, AllZip, AllByRecursion, filter, list_all, range_with_len}
-use Rattle.std.proofs.lemmas.Bool.{and_parts}
-use Rattle.std.proofs.lemmas.List.Elements.{All-nil, All-cons, All-head, All-tail, All-from_recursion}
-use Rattle.definitions.specs.Poly.{Term, SamePolynomial}
-use Rattle.quiver.specs.Declarations.{letter_count, quiver_of}
-use Rattle.rule_reduce.specs.KeptWords.{IsInPlay as AreInPlay}
-use Rattle.rule_reduce.proofs.WordsKept.{words_with_coefficients}
-use Rattle.adjoint_rules.specs.declared.problem.Problem.{Problem}
-use Rattle.adjoint_rules.specs.Problem.{polynomials, numbers, is_in_play, generators_in}
-use Rattle.adjoint_rules.proofs.LettersInPlay.{Words, generator_words}
-use Rattle.outcome_laws.specs.KeptRuns.{IsGenerator}
+use Rattle.outcome_laws.proofs.Prelude.{◌≡◌, ◌⊎◌, inl, inr, refl, sym, ap, subst, ℕ, Bool, true, false, cond, List, [], ◌∷◌, ◌∙◌, arith, ltb, ltb-true, All, AllZip, AllByRecursion, filter, list_all, range_with_len, and_parts, All-nil, All-cons, All-head, All-tail, All-from_recursion, Term, SamePolynomial, letter_count, quiver_of, AreInPlay, words_with_coefficients, Problem, polynomials, numbers, is_in_play, generators_in, Words, generator_words, IsGenerator, letters_in_play, contains-none, contains-cases, contains-first, contains-rest}
+use Rattle.std.proofs.Common.{Contains}
 use Rattle.outcome_laws.proofs.Turns.{contains_number}
 use Rattle.outcome_laws.proofs.ProblemPolynomials.{any_letter, generators_are}
-use Rattle.outcome_laws.specs.Enough.{letters_in_play}
-use Rattle.ambiguities.proofs.Ascending.{contains-none, contains-cases, contains-first, contains-rest}
 use Rattle.outcome_laws.proofs.Squares.{AllIn}
 
 -- what is in a list and passes a test is in the filtered list

@@ -1,3 +1,4 @@
+mod Prelude
 pub use Rattle.word_orders.proofs.AskedOrders
 pub mod Adding
 pub mod RunsKept

@@ -1,34 +1,6 @@
 -- The records of a run are within the limits: their numbers are coefficients, their words are short, and they name what is there.
-use Rattle.std.proofs.Common.{◌≡◌, ◌≢◌, ◌≤◌, ◌<ℤ◌, ℕ, ℤ, pos, List, [], ◌∷◌, length, get_or, slice_get, Some, refl, subst, arith}
-use Rattle.std.specs.List.{All}
-use Rattle.std.specs.Int.RustNames.{unsigned_abs}
-use Rattle.std.proofs.lemmas.Int.{ints}
-use Rattle.std.proofs.lemmas.List.{length-map}
-use Rattle.std.proofs.lemmas.List.Elements.{All-head}
-use Rattle.std.specs.Int.{◌∣◌}
-use Rattle.std.proofs.lemmas.Nat.Gcd.{le_of_dvd}
-use Rattle.std.proofs.lemmas.Option.{get_or_from_slice_get, slice_get_within, slice_get-get_or}
-use Rattle.coef_int.specs.Range.{IsCoefficient}
-use Rattle.definitions.specs.Poly.{Term}
-use Rattle.definitions.specs.Combination.{generator_at}
-use Rattle.word_orders.specs.Specified.{asked_cmp}
-use Rattle.quiver.specs.Declarations.{letter_count}
-use Rattle.nc_polynomial.specs.declared.poly.Poly.{Poly}
-use Rattle.nc_polynomial.specs.Content.{IsContent}
-use Rattle.nc_polynomial.specs.Shape.{IsShaped}
-use Rattle.nc_polynomial.proofs.Divisors.{abs_positive, content-zero}
-use Rattle.traced_rows.specs.declared.Origin.{Origin}
+use Rattle.outcome_laws.proofs.Prelude.{◌≡◌, ◌≢◌, ◌≤◌, ◌<ℤ◌, ℕ, ℤ, pos, List, [], ◌∷◌, length, get_or, slice_get, Some, refl, subst, arith, All, unsigned_abs, ints, length-map, All-head, ◌∣◌, le_of_dvd, get_or_from_slice_get, slice_get_within, slice_get-get_or, IsCoefficient, Term, generator_at, asked_cmp, letter_count, Poly, IsContent, IsShaped, abs_positive, content-zero, Origin, Made, IsUpTo, NamesUpTo, IsAmongFirst, AreRecords, Problem, polynomials, IsRecorded, IsEarlier, normal_forms_are_shaped, s_polynomials_are_shaped, Budget, RunState, IsRunState, setting_of}
 use Rattle.traced_rows.specs.declared.Origin.TheVariants as origin
-use Rattle.traced_rows.specs.declared.Made.{Made}
-use Rattle.cofactor_trace.specs.Laws.{IsUpTo, NamesUpTo}
-use Rattle.cofactor_trace.specs.Needed.{IsAmongFirst, AreRecords}
-use Rattle.adjoint_rules.specs.declared.problem.Problem.{Problem}
-use Rattle.adjoint_rules.specs.Problem.{polynomials}
-use Rattle.confluence.specs.Kept.{IsRecorded}
-use Rattle.confluence.specs.Rests.{IsEarlier}
-use Rattle.confluence.proofs.ShapeLaws.{normal_forms_are_shaped, s_polynomials_are_shaped}
-use Rattle.traced_completion.specs.declared.budget.Budget.{Budget}
-use Rattle.traced_completion.specs.PlainRun.{RunState, IsRunState, setting_of}
 use Rattle.outcome_laws.proofs.AmbiguitiesWithin.{s_polynomial_fits, s_rows_short}
 use Rattle.outcome_laws.proofs.EvidenceRanges.{negative_in_range}
 use Rattle.outcome_laws.proofs.ProblemPolynomials.{canonical_at, generator_is}

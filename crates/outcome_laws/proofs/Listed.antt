@@ -1,21 +1,5 @@
 -- What is listed: operations of which one overflows, values of a function, and the coefficients of terms.
-use Rattle.std.proofs.Common.{◌≡◌, ◌⊎◌, inl, inr, ℕ, ℤ, Bool, true, false, cond, List, [], ◌∷◌, map, Option, Some, refl, sym, ◌∙◌, subst, arith}
-use Rattle.std.specs.List.{Contains}
-use Rattle.std.proofs.lemmas.Bool.Decides.{nat_tests}
-use Rattle.std.proofs.lemmas.List.Elements.{All-map, All-contains}
-use Rattle.std.specs.declared.cmp.Ordering.TheVariants.{Greater}
-use Rattle.ambiguities.proofs.Ascending.{contains-none, contains-cases, contains-rest, contains-map}
-use Rattle.coef_int.specs.declared.Overflow.{Overflow}
-use Rattle.coef_int.specs.Range.{IsCoefficient, is_coefficient}
-use Rattle.coef_int.specs.Operations.{sum_of, exact_value, first_overflow}
-use Rattle.definitions.specs.Poly.{Term, word_eq, coefficient_of}
-use Rattle.definitions.proofs.Linear.{coefficient_other}
-use Rattle.word_core.specs.Canonical.{word_cmp}
-use Rattle.nc_polynomial.specs.Terms.{Pair, aligned, sums}
-use Rattle.nc_polynomial.proofs.CoefficientLaws.{coefficient_of-lefts, coefficient_of-rights}
-use Rattle.nc_polynomial.proofs.Distinct.{AreDistinct, distinct-descending, first_coefficient}
-use Rattle.nc_polynomial.proofs.Words.{word_eq-turned}
-use Rattle.nc_polynomial.proofs.Shapes.{Descends, IsFalling, falling-aligned}
+use Rattle.outcome_laws.proofs.Prelude.{◌≡◌, ◌⊎◌, inl, inr, ℕ, ℤ, Bool, true, false, cond, List, [], ◌∷◌, map, Option, Some, refl, sym, ◌∙◌, subst, arith, Contains, nat_tests, All-map, All-contains, Greater, contains-none, contains-cases, contains-rest, contains-map, Overflow, IsCoefficient, is_coefficient, sum_of, exact_value, first_overflow, Term, word_eq, coefficient_of, coefficient_other, word_cmp, Pair, aligned, sums, coefficient_of-lefts, coefficient_of-rights, AreDistinct, distinct-descending, first_coefficient, word_eq-turned, Descends, IsFalling, falling-aligned}
 
 -- what a listed value is the value of
 pub record IsValueOf {X Y : Type 0} (f : X → Y) (xs : List X) (y : Y) : Type 0 where

@@ -1,29 +1,8 @@
 -- The rules of each state of the run of a problem are made one after another, and its records are theirs.
-use Rattle.std.proofs.Common.{ℕ, List, [], ◌∷◌, refl, sym, subst, arith}
-use Rattle.std.proofs.lemmas.List.{length-map}
-use Rattle.definitions.specs.Poly.{Term}
-use Rattle.definitions.specs.Combination.{generator_at}
-use Rattle.word_orders.specs.Admissible.{Compare}
-use Rattle.word_orders.specs.Specified.{asked_cmp}
-use Rattle.word_orders.proofs.AskedOrders.{asked_rank}
-use Rattle.nc_polynomial.specs.Shape.{IsShaped}
-use Rattle.quiver.specs.Declarations.{letter_count}
-use Rattle.traced_rows.specs.declared.Row.{Row}
-use Rattle.rule_reduce.specs.declared.rule.Rule.{Rule}
-use Rattle.rule_reduce.specs.declared.state.State.{State}
-use Rattle.ambiguities.specs.declared.ambiguity.Ambiguity.{Ambiguity}
-use Rattle.ambiguities.proofs.Balance.{s_polynomials_balance}
-use Rattle.adjoint_rules.specs.declared.problem.Problem.{Problem}
-use Rattle.adjoint_rules.specs.Problem.{polynomials}
-use Rattle.confluence.proofs.ShapeLaws.{normal_forms_are_shaped, s_polynomials_are_shaped}
-use Rattle.rule_making.specs.Making.{Recorded, rest_with, leads_negative, Adds}
-use Rattle.traced_completion.specs.declared.budget.Budget.{Budget}
-use Rattle.outcome_laws.specs.Causes.{IsFirstReduction, IsLeftBy, from_generator, from_ambiguity, AreMade, no_rule, one_more}
+use Rattle.outcome_laws.proofs.Prelude.{ℕ, List, [], ◌∷◌, refl, sym, subst, arith, length-map, Term, generator_at, Compare, asked_cmp, asked_rank, IsShaped, letter_count, Row, Rule, State, Ambiguity, s_polynomials_balance, Problem, polynomials, normal_forms_are_shaped, s_polynomials_are_shaped, Recorded, rest_with, leads_negative, Adds, Budget, IsFirstReduction, IsLeftBy, from_generator, from_ambiguity, AreMade, no_rule, one_more, generator_rows, second_rows, Setting, RunState, IsRunState, setting_of}
 use Rattle.outcome_laws.proofs.ProblemPolynomials.{generator_is}
 use Rattle.outcome_laws.proofs.ReductionFaults.{normal_form_leaves}
 use Rattle.outcome_laws.proofs.StepMade.{reduced_of}
-use Rattle.traced_completion.specs.Works.{generator_rows, second_rows}
-use Rattle.traced_completion.specs.PlainRun.{Setting, RunState, IsRunState, setting_of}
 use Rattle.outcome_laws.proofs.ProblemStates.{order_laws, IsKeptInRun, kept_in_run}
 use Rattle.outcome_laws.proofs.RunsKept.{BeginsWith, IsFirst, first_with}
 

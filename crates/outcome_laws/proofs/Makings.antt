@@ -1,20 +1,6 @@
 -- Each rest other than zero can be made a rule.
-use Rattle.std.proofs.Common.{◌≡◌, ◌<◌, ◌<ℤ◌, ℤ, pos, Bool, true, false, cond, List, [], ◌∷◌, length, Some, refl, ap, arith}
-use Rattle.std.specs.Option.{option_map}
-use Rattle.std.specs.Int.RustNames.{unsigned_abs, int_div}
-use Rattle.std.proofs.lemmas.List.{length-map}
-use Rattle.definitions.specs.Poly.{Term, poly_multiple}
-use Rattle.word_orders.specs.Admissible.{Compare}
-use Rattle.nc_polynomial.specs.Shape.{IsCanonical}
-use Rattle.nc_polynomial.specs.Content.{DividesEach}
-use Rattle.nc_polynomial.specs.declared.poly.Poly.{Poly}
-use Rattle.nc_polynomial.proofs.Divisors.{canonical_back}
-use Rattle.traced_rows.specs.declared.Made.{Made}
-use Rattle.rule_reduce.specs.declared.rule.Rule.{Rule}
-use Rattle.rule_reduce.specs.Leading.{greatest_from, leading_term}
-use Rattle.rule_making.specs.Making.{Rest, leads_negative, negated_rows, IsMadeFrom}
-use Rattle.rule_making.proofs.Quotients.{signed, signed_nonzero, negative_divides}
-use Rattle.confluence.proofs.Contents.{HasContent, has_content, positive_content, quotient, multiple_of_quotient}
+use Rattle.outcome_laws.proofs.Prelude.{◌≡◌, ◌<◌, ◌<ℤ◌, ℤ, pos, Bool, true, false, cond, List, [], ◌∷◌, length, Some, refl, ap, arith, option_map, unsigned_abs, length-map, Term, poly_multiple, Compare, IsCanonical, DividesEach, Poly, canonical_back, Made, Rule, greatest_from, leading_term, Rest, leads_negative, negated_rows, IsMadeFrom, signed, signed_nonzero, negative_divides, HasContent, has_content, positive_content, quotient, multiple_of_quotient}
+use Rattle.std.specs.Int.RustNames.{int_div}
 
 pub record HasRule (compare : Compare) (rest : Rest) : Type 0 where
   pub rule : Rule

@@ -1,14 +1,7 @@
 -- Meanings that are refused.
-use Rattle.std.proofs.Common.{pos, [], refl, arith}
-use Rattle.std.proofs.lemmas.Int.{ints}
-use Rattle.nc_polynomial.specs.declared.poly.Poly.{Poly}
+use Rattle.outcome_laws.proofs.Prelude.{pos, [], refl, arith, ints, Poly, Problem, Budget, EvidenceAddsUp, OutcomeMeans, Follows}
 use Rattle.traced_rows.specs.declared.evidence.Evidence.TheVariants as evidence
-use Rattle.adjoint_rules.specs.declared.problem.Problem.{Problem}
-use Rattle.traced_completion.specs.declared.budget.Budget.{Budget}
 use Rattle.claim_decider.specs.declared.outcome.Outcome.TheVariants as outcome
-use Rattle.cofactor_checker.specs.ProvedMeans.{EvidenceAddsUp}
-use Rattle.outcome_laws.specs.Meanings.{OutcomeMeans}
-use Rattle.outcome_laws.specs.Halts.{Follows}
 
 -- evidence that names another claim does not add up
 another_claim : (problem : Problem) → EvidenceAddsUp problem 2 (evidence.Plain (record { claim = 1; denominator = pos 1; rows = [] })) → ⊥

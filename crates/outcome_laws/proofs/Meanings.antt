@@ -1,33 +1,11 @@
 -- Each outcome means what it says.
-use Rattle.std.proofs.Common.{◌≡◌, ℕ, pos, [], refl, sym, subst, arith}
-use Rattle.std.proofs.lemmas.Int.{ints}
-use Rattle.std.proofs.lemmas.List.Elements.{All-replicate}
-use Rattle.std.proofs.lemmas.Nat.Gcd.{dvd_refl}
-use Rattle.definitions.specs.Combination.{IsCombination}
-use Rattle.traced_rows.specs.declared.evidence.Lemma.{Lemma}
-use Rattle.traced_rows.specs.declared.evidence.LemmaCertificate.{LemmaCertificate}
-use Rattle.traced_rows.specs.declared.evidence.Format.{Format}
+use Rattle.outcome_laws.proofs.Prelude.{◌≡◌, ℕ, pos, [], refl, sym, subst, arith, ints, All-replicate, dvd_refl, IsCombination, Lemma, LemmaCertificate, Format, Cause, IsEvidenceOf, IsShareOf, lemma_polys, polynomials_of, Problem, polynomials, claim_at, Budget, setting_of, Outcome, halted_at, record_of, evidence_of_zero, EvidenceAddsUp, OutcomeMeans, DerivedClaimsAddUp, ClosedClaimsAreOutside, LeastWordsBoundDerivations, HaltedCertificatesAreInside, OutcomesMeanWhatTheySay, open_run, Place}
 use Rattle.traced_rows.specs.declared.evidence.Format.TheVariants as format
-use Rattle.cofactor_trace.specs.declared.halt.Cause.{Cause}
-use Rattle.traced_rows.specs.LemmaRows.{IsEvidenceOf, IsShareOf}
-use Rattle.cofactor_trace.specs.GatheringLaws.{lemma_polys}
-use Rattle.rule_reduce.specs.RuleLists.{polynomials_of}
-use Rattle.adjoint_rules.specs.declared.problem.Problem.{Problem}
-use Rattle.adjoint_rules.specs.Problem.{polynomials}
-use Rattle.adjoint_rules.specs.Claims.{claim_at}
-use Rattle.traced_completion.specs.declared.budget.Budget.{Budget}
-use Rattle.traced_completion.specs.PlainRun.{setting_of}
-use Rattle.claim_decider.specs.declared.outcome.Outcome.{Outcome}
 use Rattle.claim_decider.specs.declared.outcome.Outcome.TheVariants as outcome
-use Rattle.claim_decider.specs.Outcomes.{halted_at, record_of, evidence_of_zero}
-use Rattle.cofactor_checker.specs.ProvedMeans.{EvidenceAddsUp}
-use Rattle.outcome_laws.specs.Meanings.{OutcomeMeans, DerivedClaimsAddUp, ClosedClaimsAreOutside, LeastWordsBoundDerivations, HaltedCertificatesAreInside, OutcomesMeanWhatTheySay}
-use Rattle.claim_decider.proofs.UniqueOutcomes.{open_run}
 use Rattle.outcome_laws.proofs.OpenRuns.{closed_outside, stop_means}
 use Rattle.outcome_laws.proofs.RoundCauses.{stop_says}
 use Rattle.outcome_laws.proofs.ClaimCauses.{claim_named, claim_stop_means, expansion_means, gathering_means}
 use Rattle.outcome_laws.proofs.Derivations.{follows, expansion_adds_up, gathering_adds_up, gathering_names}
-use Rattle.cofactor_trace.specs.declared.halt.Place.{Place}
 use Rattle.outcome_laws.proofs.OutcomeWays.{GivesUp, at_claim, at_expansion, at_gathering, Way, no_terms, expanded, gathered, left_over, given_up, with_run, way}
 
 -- the certificate with lemmas of a claim without terms

@@ -1,39 +1,12 @@
 -- What holds of a run while a claim is open, where it closes, and where it stops.
-use Rattle.std.proofs.Common.{◌≡◌, ◌<◌, ℕ, zero, suc, List, [], ◌∷◌, length, Some, None, Ok, sym, ap, ◌∙◌, subst, arith}
-use Rattle.definitions.specs.Poly.{Term}
-use Rattle.definitions.specs.Combination.{InRationalIdeal}
-use Rattle.nc_polynomial.specs.Shape.{IsShaped}
-use Rattle.cofactor_trace.specs.declared.halt.Halt.{Halt}
-use Rattle.cofactor_trace.specs.declared.halt.Place.{Place}
+use Rattle.outcome_laws.proofs.Prelude.{◌≡◌, ◌<◌, ℕ, zero, suc, List, [], ◌∷◌, length, Some, None, Ok, sym, ap, ◌∙◌, subst, arith, Term, InRationalIdeal, IsShaped, Halt, Place, Compare, IsAdmissible, asked_cmp, letter_count, quiver_of, Rule, State, normal_form_of, ComesBelow, Problem, polynomials, claim_at, IsNonzero, IsReduced, normal_forms_are_reduced, NothingPendingBelow, nonzero_is_outside, nonzero_is_not_below, normal_forms_are_shaped, Budget, Waiting, AreAllPending, Setting, RunState, closed, stopped, IsRound, IsRunState, setting_of, IsLeft, IsOpen, asked_rank, open_run}
 use Rattle.cofactor_trace.specs.declared.halt.Place.TheVariants as place
-use Rattle.word_orders.specs.Admissible.{Compare, IsAdmissible}
-use Rattle.word_orders.specs.Specified.{asked_cmp}
-use Rattle.quiver.specs.Declarations.{letter_count, quiver_of}
-use Rattle.rule_reduce.specs.declared.rule.Rule.{Rule}
-use Rattle.rule_reduce.specs.declared.state.State.{State}
-use Rattle.rule_reduce.specs.NormalForms.{normal_form_of}
-use Rattle.ambiguities.specs.Resolved.{ComesBelow}
-use Rattle.adjoint_rules.specs.declared.problem.Problem.{Problem}
-use Rattle.adjoint_rules.specs.Problem.{polynomials}
-use Rattle.adjoint_rules.specs.Claims.{claim_at}
-use Rattle.confluence.specs.Reductions.{IsNonzero, IsReduced}
-use Rattle.confluence.proofs.RestLaws.{normal_forms_are_reduced}
-use Rattle.confluence.specs.Conclusions.{NothingPendingBelow}
-use Rattle.confluence.proofs.OutsideIdeals.{nonzero_is_outside, nonzero_is_not_below}
-use Rattle.confluence.proofs.ShapeLaws.{normal_forms_are_shaped}
-use Rattle.traced_completion.specs.declared.budget.Budget.{Budget}
-use Rattle.ambiguities.specs.declared.waiting.Waiting.{Waiting}
-use Rattle.traced_completion.specs.Pending.{AreAllPending}
-use Rattle.traced_completion.specs.PlainRun.{Setting, RunState, closed, stopped, IsRound, IsRunState, setting_of}
-use Rattle.claim_decider.specs.Outcomes.{IsLeft, IsOpen}
 use Rattle.outcome_laws.proofs.Adding.{nonzero}
 use Rattle.outcome_laws.proofs.RunsKept.{letters_below}
 use Rattle.outcome_laws.proofs.ProblemPolynomials.{any_letter, generators_are, claim_is, claim_letters, all_have_turns}
-use Rattle.word_orders.proofs.AskedOrders.{asked_rank}
 use Rattle.outcome_laws.proofs.ProblemStates.{order_laws, state_kept}
 use Rattle.outcome_laws.proofs.RoundEnds.{StopsLater, pairs_spent, gives_up, zero_ends, later_ends}
 use Rattle.outcome_laws.proofs.WholeRuns.{closed_is_nothing_pending, first_is_least_pending}
-use Rattle.claim_decider.proofs.UniqueOutcomes.{open_run}
 
 -- a sorted list with a term isn't zero
 pub some_nonzero : (p : List Term) → IsShaped p → 0 < length p → IsNonzero p

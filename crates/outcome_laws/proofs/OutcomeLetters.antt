@@ -1,41 +1,12 @@
 -- The letters of outcomes and of last rules are letters of the quiver.
-use Rattle.std.proofs.Common.{◌≡◌, ◌<◌, ℕ, List, Option, Some, None, Ok, refl, sym, subst}
-use Rattle.std.specs.List.{All}
-use Rattle.std.proofs.lemmas.List.Elements.{All-nil, All-append, All-map, All-pop, All-weaker}
-use Rattle.definitions.specs.Poly.{Term}
-use Rattle.word_core.specs.Letters.{IsOver}
-use Rattle.traced_rows.specs.declared.certificate.Cofactors.{Cofactors}
-use Rattle.traced_rows.specs.declared.certificate.CertRow.{CertRow}
-use Rattle.traced_rows.specs.declared.evidence.LemmaRow.{LemmaRow}
-use Rattle.traced_rows.specs.declared.evidence.Lemma.{Lemma}
-use Rattle.traced_rows.specs.declared.evidence.LemmaCertificate.{LemmaCertificate}
+use Rattle.outcome_laws.proofs.Prelude.{◌≡◌, ◌<◌, ℕ, List, Option, Some, None, Ok, refl, sym, subst, All, All-nil, All-append, All-map, All-pop, All-weaker, Term, IsOver, Cofactors, CertRow, LemmaRow, Lemma, LemmaCertificate, Format, expansion_of, gathered_of, parts_of, Rule, IsRule, Declaration, letter_count, Problem, claim_at, IsRowOver, IsLemmaRowOver, IsLemmaOver, IsEvidenceOver, Budget, Setting, RunState, IsRunState, setting_of, Outcome, evidence_of_zero, record_of, certificate_of, IsPolyOver, IsLeastOver, IsOutcomeOver, OutcomesHaveLetters, LastRulesHaveLetters, IsOverRow, reduced_over, open_run}
 use Rattle.traced_rows.specs.declared.evidence.Evidence.TheVariants as evidence
-use Rattle.traced_rows.specs.declared.evidence.Format.{Format}
 use Rattle.traced_rows.specs.declared.evidence.Format.TheVariants as format
-use Rattle.cofactor_trace.specs.Needed.{expansion_of}
-use Rattle.cofactor_trace.specs.Lemmas.{gathered_of}
-use Rattle.cofactor_trace.specs.GatheringLaws.{parts_of}
-use Rattle.rule_reduce.specs.declared.rule.Rule.{Rule}
-use Rattle.rule_reduce.specs.RuleLists.{IsRule}
-use Rattle.quiver.specs.Declarations.{Declaration, letter_count}
-use Rattle.adjoint_rules.specs.declared.problem.Problem.{Problem}
-use Rattle.adjoint_rules.specs.Claims.{claim_at}
-use Rattle.certificate_text.specs.Evidence.{IsRowOver, IsLemmaRowOver}
-use Rattle.certificate_text.specs.Written.{IsLemmaOver, IsEvidenceOver}
-use Rattle.traced_completion.specs.declared.budget.Budget.{Budget}
-use Rattle.traced_completion.specs.PlainRun.{Setting, RunState, IsRunState, setting_of}
-use Rattle.claim_decider.specs.declared.outcome.Outcome.{Outcome}
-use Rattle.claim_decider.specs.Outcomes.{evidence_of_zero, record_of, certificate_of}
-use Rattle.quiver.specs.Over.{IsPolyOver}
-use Rattle.report_text.specs.Report.{IsLeastOver}
-use Rattle.outcome_laws.specs.OutcomeLetters.{IsOutcomeOver, OutcomesHaveLetters, LastRulesHaveLetters}
 use Rattle.outcome_laws.proofs.EvidenceWords.{expanded_words, gathered_words}
 use Rattle.outcome_laws.proofs.OutcomeWays.{Way, no_terms, expanded, gathered, left_over, given_up, with_run, way, IsProvedBy}
-use Rattle.ambiguities.proofs.OverLetters.{IsOverRow, reduced_over}
 use Rattle.outcome_laws.proofs.OverRuns.{records_over, least_over}
 use Rattle.outcome_laws.proofs.ProblemPolynomials.{claim_is}
 use Rattle.outcome_laws.proofs.ProblemStates.{state_kept}
-use Rattle.claim_decider.proofs.UniqueOutcomes.{open_run}
 
 -- the problem
 module _ (problem : Problem) (budget : Budget) where

@@ -1,28 +1,9 @@
 -- In what ways a claim gets its outcome: each with the state of the run by whose rules and records it comes.
-use Rattle.std.proofs.Common.{◌≡◌, ◌<◌, length, ℕ, suc, List, [], ◌∷◌, Result, Ok, Err, refl}
-use Rattle.definitions.specs.Poly.{Term}
-use Rattle.nc_polynomial.specs.declared.poly.Poly.{Poly}
-use Rattle.traced_rows.specs.declared.certificate.Cofactors.{Cofactors}
+use Rattle.outcome_laws.proofs.Prelude.{◌≡◌, ◌<◌, length, ℕ, suc, List, [], ◌∷◌, Result, Ok, Err, refl, Term, Poly, Cofactors, Format, LemmaCertificate, ExpandFault, GatherFault, Cause, Place, Halt, expansion_of, gathered_of, State, ReduceFault, normal_form_of, Setting, RunState, closed, stopped, IsCauseOf, IsRound, IsRunState, Outcome, halted_at, IsCauseOfExpansion, IsCauseOfGathering, IsOpen, record_of, certificate_of, Expands, Gathers, IsProved, evidence_of_zero, IsLeft, IsDoneWith, IsDoneBy, IsDone, GetsOutcome, at_once, after_round, by_closing, by_stop, open_run, open_claim}
 use Rattle.traced_rows.specs.declared.evidence.Evidence.TheVariants as evidence
-use Rattle.traced_rows.specs.declared.evidence.Format.{Format}
 use Rattle.traced_rows.specs.declared.evidence.Format.TheVariants as format
-use Rattle.traced_rows.specs.declared.evidence.LemmaCertificate.{LemmaCertificate}
-use Rattle.cofactor_trace.specs.declared.fault.ExpandFault.{ExpandFault}
-use Rattle.cofactor_trace.specs.declared.fault.GatherFault.{GatherFault}
-use Rattle.cofactor_trace.specs.declared.halt.Cause.{Cause}
-use Rattle.cofactor_trace.specs.declared.halt.Place.{Place}
 use Rattle.cofactor_trace.specs.declared.halt.Place.TheVariants as place
-use Rattle.cofactor_trace.specs.declared.halt.Halt.{Halt}
-use Rattle.cofactor_trace.specs.Needed.{expansion_of}
-use Rattle.cofactor_trace.specs.Lemmas.{gathered_of}
-use Rattle.rule_reduce.specs.declared.state.State.{State}
-use Rattle.rule_reduce.specs.declared.fault.ReduceFault.{ReduceFault}
-use Rattle.rule_reduce.specs.NormalForms.{normal_form_of}
-use Rattle.traced_completion.specs.PlainRun.{Setting, RunState, closed, stopped, IsCauseOf, IsRound, IsRunState}
-use Rattle.claim_decider.specs.declared.outcome.Outcome.{Outcome}
 use Rattle.claim_decider.specs.declared.outcome.Outcome.TheVariants as outcome
-use Rattle.claim_decider.specs.Outcomes.{halted_at, IsCauseOfExpansion, IsCauseOfGathering, IsOpen, record_of, certificate_of, Expands, Gathers, IsProved, evidence_of_zero, IsLeft, IsDoneWith, IsDoneBy, IsDone, GetsOutcome, at_once, after_round, by_closing, by_stop}
-use Rattle.claim_decider.proofs.UniqueOutcomes.{open_run, open_claim}
 
 -- The claim has terms, and is reduced to zero by the rules of a state.
 pub record IsProvedBy (setting : Setting) (claim : List Term) : Type 0 where

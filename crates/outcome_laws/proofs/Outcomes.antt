@@ -1,18 +1,6 @@
 -- With enough pairs a claim that follows below a word is derived, or halted with another cause than the budget of pairs.
-use Rattle.std.proofs.Common.{ℕ, zero, suc, List, [], ◌∷◌, sym, subst, arith}
-use Rattle.definitions.specs.Poly.{Term}
-use Rattle.traced_rows.specs.declared.evidence.Format.{Format}
-use Rattle.cofactor_trace.specs.declared.halt.Cause.{Cause}
-use Rattle.cofactor_trace.specs.declared.halt.Place.{Place}
-use Rattle.cofactor_trace.specs.declared.halt.Halt.{Halt}
-use Rattle.adjoint_rules.specs.declared.problem.Problem.{Problem}
-use Rattle.adjoint_rules.specs.Claims.{claim_at}
-use Rattle.traced_completion.specs.declared.budget.Budget.{Budget}
-use Rattle.traced_completion.specs.PlainRun.{Setting, RunState, stopped, IsRound, setting_of}
-use Rattle.claim_decider.specs.declared.outcome.Outcome.{Outcome}
-use Rattle.claim_decider.specs.Outcomes.{IsOpen}
+use Rattle.outcome_laws.proofs.Prelude.{ℕ, zero, suc, List, [], ◌∷◌, sym, subst, arith, Term, Format, Cause, Place, Halt, Problem, claim_at, Budget, Setting, RunState, stopped, IsRound, setting_of, Outcome, IsOpen, HasEnough, PairsSuffice, PairsAreEnough, PairsAreEnoughForEach}
 use Rattle.outcome_laws.proofs.OpenRuns.{closed_outside}
-use Rattle.outcome_laws.specs.Enough.{HasEnough, PairsSuffice, PairsAreEnough, PairsAreEnoughForEach}
 use Rattle.outcome_laws.proofs.FewTreated.{open_runs_treat_few}
 use Rattle.outcome_laws.proofs.Stops.{NotPairs, fault_not_pairs, expansion_not_pairs, gathering_not_pairs, zero_not_pairs, later_not_pairs}
 use Rattle.outcome_laws.proofs.OutcomeWays.{GivesUp, at_claim, at_expansion, at_gathering, Way, no_terms, expanded, gathered, left_over, given_up, with_run, way}

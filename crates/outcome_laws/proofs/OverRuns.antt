@@ -1,20 +1,5 @@
 -- The letters of records are letters of the problem, and so are those of the least overlap word.
-use Rattle.std.proofs.Common.{◌≡◌, ◌<◌, ℕ, zero, suc, List, ◌∷◌, Some, sym, ap, ◌∙◌, subst}
-use Rattle.std.specs.List.{All}
-use Rattle.std.proofs.lemmas.List.Elements.{All-nil, All-head}
-use Rattle.word_core.specs.Letters.{IsOver}
-use Rattle.word_orders.specs.Specified.{asked_cmp}
-use Rattle.quiver.specs.Declarations.{letter_count}
-use Rattle.traced_rows.specs.declared.Made.{Made}
-use Rattle.cofactor_trace.specs.declared.halt.Halt.{Halt}
-use Rattle.ambiguities.proofs.Words.{words_over, s_words}
-use Rattle.ambiguities.proofs.OverLetters.{AreOver, IsOverRow, reduced_over, s_rows_over}
-use Rattle.ambiguities.specs.declared.waiting.Waiting.{Waiting}
-use Rattle.adjoint_rules.specs.declared.problem.Problem.{Problem}
-use Rattle.traced_completion.specs.declared.budget.Budget.{Budget}
-use Rattle.traced_completion.specs.Pending.{AreAllPending}
-use Rattle.traced_completion.specs.PlainRun.{RunState, stopped, IsRound, IsRunState, setting_of}
-use Rattle.traced_completion.proofs.StoreLemmas.{pending-over}
+use Rattle.outcome_laws.proofs.Prelude.{◌≡◌, ◌<◌, ℕ, zero, suc, List, ◌∷◌, Some, sym, ap, ◌∙◌, subst, All, All-nil, All-head, IsOver, asked_cmp, letter_count, Made, Halt, words_over, s_words, AreOver, IsOverRow, reduced_over, s_rows_over, Waiting, Problem, Budget, AreAllPending, RunState, stopped, IsRound, IsRunState, setting_of, pending-over}
 use Rattle.outcome_laws.proofs.ProblemPolynomials.{generator_is}
 use Rattle.outcome_laws.proofs.ProblemStates.{state_kept}
 use Rattle.outcome_laws.proofs.RoundEnds.{StopsLater, pairs_spent, gives_up, zero_ends, later_ends}

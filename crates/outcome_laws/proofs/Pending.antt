@@ -1,22 +1,5 @@
 -- All pending ambiguities of any rules can be listed in the order of the store.
-use Rattle.std.proofs.Common.{◌≡◌, inl, inr, ℕ, List, map, refl, sym, ap, ◌∙◌, subst}
-use Rattle.std.specs.Cmp.{IsTotalOrder}
-use Rattle.std.specs.List.{Contains}
-use Rattle.std.specs.declared.cmp.Ordering.{Ordering}
-use Rattle.std.specs.declared.cmp.Ordering.TheVariants.{Less, Equal, Greater}
-use Rattle.std.proofs.lemmas.Cmp.{tied_itself}
-use Rattle.word_orders.specs.Admissible.{Compare}
-use Rattle.rule_reduce.specs.declared.rule.Rule.{Rule}
-use Rattle.ambiguities.specs.declared.ambiguity.Ambiguity.{Ambiguity}
-use Rattle.ambiguities.specs.declared.waiting.Waiting.{Waiting}
-use Rattle.ambiguities.specs.Ambiguities.{IsAmbiguity, overlap_word_of}
-use Rattle.ambiguities.specs.Order.{IsWaitingBefore, waiting_of}
-use Rattle.ambiguities.proofs.Ascending.{contains-map}
-use Rattle.ambiguities.proofs.Candidates.{ambiguity_decided, candidates, in_candidates}
-use Rattle.ambiguities.proofs.Comparing.{before_trans, before_compared}
-use Rattle.ambiguities.proofs.Sorted.{Decided, listing}
-use Rattle.confluence.proofs.OutsideIdeals.{listed_or_not}
-use Rattle.traced_completion.specs.Pending.{IsPending, AreAllPending}
+use Rattle.outcome_laws.proofs.Prelude.{◌≡◌, inl, inr, ℕ, List, map, refl, sym, ap, ◌∙◌, subst, IsTotalOrder, Contains, Ordering, Less, Equal, Greater, tied_itself, Compare, Rule, Ambiguity, Waiting, IsAmbiguity, overlap_word_of, IsWaitingBefore, waiting_of, contains-map, ambiguity_decided, candidates, in_candidates, before_trans, before_compared, Decided, listing, listed_or_not, IsPending, AreAllPending}
 
 -- in the order of the store
 pub record HasStore (compare : Compare) (rules : List Rule) (treated : List Ambiguity) : Type 0 where

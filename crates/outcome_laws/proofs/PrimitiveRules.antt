@@ -1,18 +1,5 @@
 -- The rules of the run of a problem are primitive.
-use Rattle.std.proofs.Common.{ℕ, pos, List, [], ◌∷◌, sym, subst}
-use Rattle.std.specs.List.{All}
-use Rattle.std.proofs.lemmas.List.Elements.{All-push, All-nil}
-use Rattle.definitions.specs.Poly.{Term}
-use Rattle.word_orders.specs.Specified.{asked_cmp}
-use Rattle.nc_polynomial.specs.Content.{IsContent}
-use Rattle.traced_rows.specs.declared.Row.{Row}
-use Rattle.rule_reduce.specs.declared.rule.Rule.{Rule}
-use Rattle.rule_making.specs.Making.{Recorded, rest_with, leads_negative, Adds}
-use Rattle.rule_making.proofs.Quotients.{quotient_primitive}
-use Rattle.adjoint_rules.specs.declared.problem.Problem.{Problem}
-use Rattle.traced_completion.specs.declared.budget.Budget.{Budget}
-use Rattle.traced_completion.specs.Works.{generator_rows, second_rows}
-use Rattle.traced_completion.specs.PlainRun.{RunState, IsRunState, setting_of}
+use Rattle.outcome_laws.proofs.Prelude.{ℕ, pos, List, [], ◌∷◌, sym, subst, All, All-push, All-nil, Term, asked_cmp, IsContent, Row, Rule, Recorded, rest_with, leads_negative, Adds, quotient_primitive, Problem, Budget, generator_rows, second_rows, RunState, IsRunState, setting_of}
 use Rattle.outcome_laws.proofs.ProblemStates.{IsKeptInRun, kept_in_run}
 use Rattle.outcome_laws.proofs.RunsKept.{first_with}
 

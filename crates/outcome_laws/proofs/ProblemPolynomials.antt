@@ -1,35 +1,7 @@
 -- The generators and the claims of a problem are sorted and typed, and their letters are its letters.
-use Rattle.std.proofs.Common.{◌≡◌, ◌≢◌, ◌≤◌, ◌<◌, ℕ, pos, Bool, true, IsTrue, List, [], ◌∷◌, length, refl, sym, subst, arith, get_or}
-use Rattle.std.specs.List.{All, AllByRecursion, list_all}
-use Rattle.std.proofs.lemmas.List.{length-map}
-use Rattle.std.proofs.lemmas.List.Elements.{All-nil, All-cons, All-map}
-use Rattle.coef_int.specs.Range.{IsCoefficient}
-use Rattle.definitions.specs.Poly.{Term}
-use Rattle.definitions.specs.Combination.{generator_at}
-use Rattle.definitions.specs.Quiver.{Quiver, letters, source, leads, is_path}
-use Rattle.definitions.specs.Soundness.{HasSignature}
-use Rattle.definitions.proofs.Paths.{step}
-use Rattle.word_core.specs.Letters.{IsOver}
-use Rattle.nc_polynomial.specs.declared.poly.Poly.{Poly}
-use Rattle.nc_polynomial.proofs.Distinct.{distinct-descending, words_listed}
-use Rattle.nc_polynomial.proofs.Shapes.{IsDescending-from_recursion, recursion_from_IsDescending}
-use Rattle.quiver.specs.Declarations.{letter_count, quiver_of}
-use Rattle.quiver.proofs.Counts.{letters-quiver_of}
-use Rattle.adjoint_rules.specs.declared.problem.Problem.{Problem}
-use Rattle.adjoint_rules.specs.Problem.{polynomials}
-use Rattle.adjoint_rules.specs.Parts.{units_in}
-use Rattle.adjoint_rules.proofs.Generators.{claims_have_signatures, generators_have_signatures}
-use Rattle.confluence.specs.Reductions.{HasLettersBelow}
-use Rattle.confluence.specs.Conclusions.{AreAllDone}
-use Rattle.traced_completion.specs.UnitsFirst.{units_first}
-use Rattle.adjoint_rules.proofs.Counted.{few_units_closed}
-use Rattle.adjoint_rules.specs.Claims.{claim_at}
-use Rattle.rule_reduce.proofs.WordsKept.{words_with_coefficients}
-use Rattle.outcome_laws.specs.KeptRuns.{IsGenerator}
+use Rattle.outcome_laws.proofs.Prelude.{◌≡◌, ◌≢◌, ◌≤◌, ◌<◌, ℕ, pos, Bool, true, IsTrue, List, [], ◌∷◌, length, refl, sym, subst, arith, get_or, All, AllByRecursion, list_all, length-map, All-nil, All-cons, All-map, IsCoefficient, Term, generator_at, Quiver, letters, source, leads, is_path, HasSignature, step, IsOver, Poly, distinct-descending, words_listed, IsDescending-from_recursion, recursion_from_IsDescending, letter_count, quiver_of, letters-quiver_of, Problem, polynomials, units_in, claims_have_signatures, generators_have_signatures, HasLettersBelow, AreAllDone, units_first, few_units_closed, claim_at, words_with_coefficients, IsGenerator, word_limit, IsCanonical}
 use Rattle.outcome_laws.proofs.Results.{generator_all}
 use Rattle.outcome_laws.proofs.Turns.{each_generator_has_its_turn}
-use Rattle.nc_polynomial.specs.Limits.{word_limit}
-use Rattle.nc_polynomial.specs.Shape.{IsCanonical}
 
 -- polynomials by their numbers
 zero_is_canonical : IsCanonical []

@@ -1,26 +1,6 @@
 -- The run of a problem satisfies the premises of the laws of runs.
-use Rattle.std.proofs.Common.{◌⊎◌, inl, inr, ℕ, suc, List, Contains, ◌++◌, Result, Ok, arith, refl}
-use Rattle.std.proofs.lemmas.List.{length-map}
-use Rattle.std.proofs.lemmas.List.Elements.{All-contains}
-use Rattle.word_orders.specs.Admissible.{Compare, IsAdmissible}
-use Rattle.word_orders.specs.Specified.{asked_cmp}
-use Rattle.word_orders.proofs.AskedOrders.{asked_rank, asked_cmp-admissible}
-use Rattle.quiver.specs.Declarations.{letter_count, quiver_of}
-use Rattle.definitions.specs.Combination.{generator_at}
-use Rattle.ambiguities.specs.declared.ambiguity.Ambiguity.{Ambiguity}
-use Rattle.ambiguities.specs.Ambiguities.{IsAmbiguity}
-use Rattle.adjoint_rules.specs.declared.problem.Problem.{Problem}
-use Rattle.adjoint_rules.specs.Problem.{polynomials}
-use Rattle.confluence.specs.Kept.{IsReached}
-use Rattle.confluence.proofs.Inside.{rules_are_inside}
-use Rattle.confluence.proofs.OutsideIdeals.{listed_or_not, resolved_where_closed, resolved_below_pending}
-use Rattle.traced_completion.specs.declared.budget.Budget.{Budget}
-use Rattle.rule_reduce.specs.declared.rule.Rule.{Rule}
-use Rattle.rule_reduce.specs.declared.fault.ReduceFault.{ReduceFault}
-use Rattle.rule_making.specs.Making.{Recorded}
-use Rattle.traced_completion.specs.PlainRun.{Setting, RunState, recorded, setting_of, IsRunState}
-use Rattle.outcome_laws.specs.KeptRuns.{IsKeptState, done_after}
-use Rattle.outcome_laws.specs.ProblemStates.{IsTreatedOrPending, StatesAreKept, GeneratorsAreReached}
+use Rattle.outcome_laws.proofs.Prelude.{◌⊎◌, inl, inr, ℕ, suc, List, ◌++◌, Result, Ok, arith, refl, length-map, All-contains, Compare, IsAdmissible, asked_cmp, asked_rank, asked_cmp-admissible, letter_count, quiver_of, generator_at, Ambiguity, IsAmbiguity, Problem, polynomials, IsReached, rules_are_inside, listed_or_not, resolved_where_closed, resolved_below_pending, Budget, Rule, ReduceFault, Recorded, Setting, RunState, recorded, setting_of, IsRunState, IsKeptState, done_after, IsTreatedOrPending, StatesAreKept, GeneratorsAreReached}
+use Rattle.std.proofs.Common.{Contains}
 use Rattle.outcome_laws.proofs.LettersInPlay.{problem_play, generators_in_play}
 use Rattle.outcome_laws.proofs.ProblemPolynomials.{turns_in_range, all_have_turns}
 use Rattle.outcome_laws.proofs.RoundEnds.{Takes, ZeroTurns, LaterTurns, taken_by, Treats}

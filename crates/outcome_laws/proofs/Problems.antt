@@ -1,19 +1,5 @@
 -- Rounds, claims and problems have outcomes.
-use Rattle.std.proofs.Common.{◌≡◌, ◌⊎◌, inl, inr, ◌<◌, ◌≤◌, ℕ, List, [], ◌∷◌, refl, arith}
-use Rattle.std.specs.List.{All}
-use Rattle.std.proofs.lemmas.Bool.{cases_lt}
-use Rattle.std.proofs.lemmas.List.Elements.{All-nil, All-cons, All-weaker}
-use Rattle.word_orders.proofs.AskedOrders.{asked_rank, asked_cmp-admissible}
-use Rattle.traced_rows.specs.declared.evidence.Format.{Format}
-use Rattle.adjoint_rules.specs.declared.problem.Problem.{Problem}
-use Rattle.adjoint_rules.specs.Claims.{claim_at, claim_numbers}
-use Rattle.traced_completion.specs.declared.budget.Budget.{Budget}
-use Rattle.traced_completion.specs.PlainRun.{Setting, RunState, start, setting_of, IsRunState}
-use Rattle.ambiguities.proofs.Ascending.{contains-first, contains-rest}
-use Rattle.traced_completion.proofs.RunStates.{states_bounded}
-use Rattle.claim_decider.specs.declared.outcome.Outcome.{Outcome}
-use Rattle.claim_decider.specs.Decided.{AreOutcomesOf, GetsOutcomeBy, OneGetsOutcomeAt, polynomials_in}
-use Rattle.outcome_laws.specs.Existence.{EachStateHasARound, EachClaimHasAnOutcome, EachProblemHasOutcomes}
+use Rattle.outcome_laws.proofs.Prelude.{◌≡◌, ◌⊎◌, inl, inr, ◌<◌, ◌≤◌, ℕ, List, [], ◌∷◌, refl, arith, All, cases_lt, All-nil, All-cons, All-weaker, asked_rank, asked_cmp-admissible, Format, Problem, claim_at, claim_numbers, Budget, Setting, RunState, start, setting_of, IsRunState, contains-first, contains-rest, states_bounded, Outcome, AreOutcomesOf, GetsOutcomeBy, OneGetsOutcomeAt, polynomials_in, EachStateHasARound, EachClaimHasAnOutcome, EachProblemHasOutcomes}
 use Rattle.outcome_laws.proofs.Rounds.{has_round}
 use Rattle.outcome_laws.proofs.Claims.{Got, got, run_of}
 use Rattle.outcome_laws.proofs.ProblemPolynomials.{canonical_at}

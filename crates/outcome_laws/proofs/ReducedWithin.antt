@@ -1,31 +1,5 @@
 -- What a reduction of a polynomial within the limits leaves is within them, and so are its multiplier and its rows.
-use Rattle.std.proofs.Common.{◌≡◌, ◌≤◌, ℕ, ◌+◌, ℤ, ◌*ℤ◌, ◌||◌, Bool, true, false, cond, List, [], ◌∷◌, ◌++◌, length, map, nat_lt, Some, None, Result, Ok, Err, refl, sym, subst, arith}
-use Rattle.std.specs.List.{All}
-use Rattle.std.proofs.lemmas.Bool.Decides.{nat_tests}
-use Rattle.std.proofs.lemmas.Int.{ints}
-use Rattle.std.proofs.lemmas.List.{length-take, length-drop}
-use Rattle.std.proofs.lemmas.List.Elements.{All-nil, All-cons, All-head, All-tail, All-push, All-contains}
-use Rattle.coef_int.specs.Range.{IsCoefficient}
-use Rattle.coef_int.specs.Operations.{product_of, first_overflow}
-use Rattle.coef_int.proofs.Divisors.{gcd_of-positive_right}
-use Rattle.definitions.specs.Poly.{Term}
-use Rattle.nc_polynomial.specs.Terms.{multiplied, multiplications, negated, shifted, products, sums}
-use Rattle.nc_polynomial.specs.Faults.{has_long_word, size_fault, sized}
-use Rattle.nc_polynomial.proofs.Chains.{no_error}
-use Rattle.nc_polynomial.proofs.Shapes.{in_range-added}
-use Rattle.word_orders.specs.Admissible.{Compare}
-use Rattle.traced_rows.specs.declared.Row.{Row}
-use Rattle.rule_reduce.specs.declared.rule.Rule.{Rule}
-use Rattle.rule_reduce.specs.declared.state.State.{State}
-use Rattle.rule_reduce.specs.declared.state.Choice.{Choice}
-use Rattle.rule_reduce.specs.RuleLists.{IsRule, rule_at, entries_of}
-use Rattle.rule_reduce.specs.Choices.{choice_of}
-use Rattle.rule_reduce.specs.Steps.{Move, move_row, multiplied_row, row_operations, state_operations, less_operations, moved, move_of}
-use Rattle.rule_reduce.specs.NormalForms.{start_of, normal_form_of}
-use Rattle.rule_reduce.proofs.Chosen.{found}
-use Rattle.rule_reduce.proofs.Numbers.{rule_at-all}
-use Rattle.nc_polynomial.specs.Limits.{word_limit, term_limit}
-use Rattle.rule_reduce.specs.declared.fault.ReduceFault.{ReduceFault}
+use Rattle.outcome_laws.proofs.Prelude.{◌≡◌, ◌≤◌, ℕ, ◌+◌, ℤ, ◌*ℤ◌, ◌||◌, Bool, true, false, cond, List, [], ◌∷◌, ◌++◌, length, map, nat_lt, Some, None, Result, Ok, Err, refl, sym, subst, arith, All, nat_tests, ints, length-take, length-drop, All-nil, All-cons, All-head, All-tail, All-push, All-contains, IsCoefficient, product_of, first_overflow, gcd_of-positive_right, Term, multiplied, multiplications, negated, shifted, products, sums, has_long_word, size_fault, sized, no_error, in_range-added, Compare, Row, Rule, State, Choice, IsRule, rule_at, entries_of, choice_of, Move, move_row, multiplied_row, row_operations, state_operations, less_operations, moved, move_of, start_of, normal_form_of, found, rule_at-all, word_limit, term_limit, ReduceFault}
 use Rattle.outcome_laws.proofs.ReductionWalks.{MoveGoes, move_goes, reduction_ends}
 use Rattle.outcome_laws.proofs.Results.{fits_first, none_append}
 use Rattle.outcome_laws.proofs.EvidenceRanges.{quotient_in_range}

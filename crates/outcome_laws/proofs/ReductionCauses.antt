@@ -1,23 +1,8 @@
 -- What the faults of a reduction and of an S-polynomial say at their places.
-use Rattle.std.proofs.Common.{◌≡◌, ℕ, suc, List, Option, refl, sym, ap, subst, ◌∙◌}
-use Rattle.word_orders.specs.Specified.{asked_cmp}
-use Rattle.nc_polynomial.specs.declared.fault.PolyFault.{PolyFault}
-use Rattle.nc_polynomial.specs.Faults.{size_fault}
-use Rattle.cofactor_trace.specs.declared.halt.Cause.{Cause}
+use Rattle.outcome_laws.proofs.Prelude.{◌≡◌, ℕ, suc, List, Option, refl, sym, ap, subst, ◌∙◌, asked_cmp, PolyFault, size_fault, Cause, Place, Rule, ReduceFault, halt_of, Ambiguity, IsAmbiguity, Problem, Budget, IsCauseOf, unreduced, AreRulesOf, Reduction, CauseMeans, in_reduction, in_sum, after_step, in_multiple, in_s_polynomial}
 use Rattle.cofactor_trace.specs.declared.halt.Cause.TheVariants as cause
-use Rattle.cofactor_trace.specs.declared.halt.Place.{Place}
 use Rattle.cofactor_trace.specs.declared.halt.Place.TheVariants as place
-use Rattle.rule_reduce.specs.declared.rule.Rule.{Rule}
-use Rattle.rule_reduce.specs.declared.fault.ReduceFault.{ReduceFault}
 use Rattle.rule_reduce.specs.declared.fault.ReduceFault.TheVariants as fault
-use Rattle.rule_reduce.specs.NormalForms.{halt_of}
-use Rattle.ambiguities.specs.declared.ambiguity.Ambiguity.{Ambiguity}
-use Rattle.ambiguities.specs.Ambiguities.{IsAmbiguity}
-use Rattle.adjoint_rules.specs.declared.problem.Problem.{Problem}
-use Rattle.traced_completion.specs.declared.budget.Budget.{Budget}
-use Rattle.traced_completion.specs.PlainRun.{IsCauseOf}
-use Rattle.outcome_laws.specs.ReductionSteps.{unreduced}
-use Rattle.outcome_laws.specs.Causes.{AreRulesOf, Reduction, CauseMeans, in_reduction, in_sum, after_step, in_multiple, in_s_polynomial}
 use Rattle.outcome_laws.proofs.ReductionFaults.{Stops, steps_spent, overflow, size}
 use Rattle.outcome_laws.proofs.SPolynomialFaults.{SPolynomialStops, sum_overflows, multiple_passes, sum_passes}
 

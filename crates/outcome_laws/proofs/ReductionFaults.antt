@@ -1,28 +1,7 @@
 -- Why a reduction stops, step by step, and what it leaves where it doesn't.
-use Rattle.std.proofs.Common.{◌≡◌, ℕ, suc, Bool, true, false, cond, ◌||◌, List, [], ◌∷◌, length, nat_lt, Option, Some, None, Result, Ok, Err, refl, ap, ◌∙◌, subst, arith}
-use Rattle.std.proofs.lemmas.Bool.Decides.{nat_tests}
-use Rattle.coef_int.specs.declared.Overflow.{Overflow}
-use Rattle.coef_int.specs.Range.{IsCoefficient}
-use Rattle.coef_int.specs.Operations.{exact_value, first_overflow}
-use Rattle.definitions.specs.Poly.{Term}
-use Rattle.word_orders.specs.Admissible.{Compare, IsAdmissible}
-use Rattle.nc_polynomial.specs.declared.fault.PolyFault.{PolyFault}
+use Rattle.outcome_laws.proofs.Prelude.{◌≡◌, ℕ, suc, Bool, true, false, cond, ◌||◌, List, [], ◌∷◌, length, nat_lt, Option, Some, None, Result, Ok, Err, refl, ap, ◌∙◌, subst, arith, nat_tests, Overflow, IsCoefficient, exact_value, first_overflow, Term, Compare, IsAdmissible, PolyFault, word_limit, term_limit, unless_overflow, has_long_word, size_fault, sized, IsShaped, Rule, State, Choice, ReduceFault, rule_at, entries_of, choice_of, IsChoice, Move, moved, move_operations, if_sized, move_result, move_of, halt_of, reduction, start_of, normal_form_of, choices_are_exact, irreducible_where_none, Reduced, unreduced, IsStep, HasOneMore, IsOfReduction, IsTooLarge, GetsTooLarge, Leaves}
 use Rattle.nc_polynomial.specs.declared.fault.PolyFault.TheVariants as fault
-use Rattle.nc_polynomial.specs.Limits.{word_limit, term_limit}
-use Rattle.nc_polynomial.specs.Faults.{unless_overflow, has_long_word, size_fault, sized}
-use Rattle.nc_polynomial.specs.Shape.{IsShaped}
-use Rattle.rule_reduce.specs.declared.rule.Rule.{Rule}
-use Rattle.rule_reduce.specs.declared.state.State.{State}
-use Rattle.rule_reduce.specs.declared.state.Choice.{Choice}
-use Rattle.rule_reduce.specs.declared.fault.ReduceFault.{ReduceFault}
 use Rattle.rule_reduce.specs.declared.fault.ReduceFault.TheVariants as halt
-use Rattle.rule_reduce.specs.RuleLists.{rule_at, entries_of}
-use Rattle.rule_reduce.specs.Choices.{choice_of, IsChoice}
-use Rattle.rule_reduce.specs.Steps.{Move, moved, move_operations, if_sized, move_result, move_of}
-use Rattle.rule_reduce.specs.NormalForms.{halt_of, reduction, start_of, normal_form_of}
-use Rattle.rule_reduce.proofs.Chosen.{choices_are_exact}
-use Rattle.rule_reduce.proofs.Irreducible.{irreducible_where_none}
-use Rattle.outcome_laws.specs.ReductionSteps.{Reduced, unreduced, IsStep, HasOneMore, IsOfReduction, IsTooLarge, GetsTooLarge, Leaves}
 use Rattle.outcome_laws.proofs.Listed.{failing}
 use Rattle.outcome_laws.proofs.ReductionWalks.{move_goes, reduction_ends}
 use Rattle.outcome_laws.proofs.StepMade.{reduced_of, next_step, step_made, of_step}

@@ -1,22 +1,6 @@
 -- What the steps of a reduction keep holds of how it ends, with what is left or with a fault.
-use Rattle.std.proofs.Common.{◌≡◌, ℕ, zero, suc, List, Option, Some, None, Result, Ok, Err, refl, sym, ap}
-use Rattle.coef_int.specs.declared.Overflow.{Overflow}
-use Rattle.coef_int.specs.Operations.{first_overflow}
-use Rattle.definitions.specs.Poly.{Term}
-use Rattle.word_orders.specs.Admissible.{Compare}
-use Rattle.nc_polynomial.specs.declared.fault.PolyFault.{PolyFault}
-use Rattle.nc_polynomial.specs.Faults.{unless_overflow, sized}
-use Rattle.rule_reduce.specs.declared.rule.Rule.{Rule}
-use Rattle.rule_reduce.specs.declared.state.State.{State}
-use Rattle.rule_reduce.specs.declared.state.Choice.{Choice}
-use Rattle.rule_reduce.specs.declared.fault.ReduceFault.{ReduceFault}
+use Rattle.outcome_laws.proofs.Prelude.{◌≡◌, ℕ, zero, suc, List, Option, Some, None, Result, Ok, Err, refl, sym, ap, Overflow, first_overflow, Term, Compare, PolyFault, unless_overflow, sized, Rule, State, Choice, ReduceFault, rule_at, entries_of, choice_of, Move, moved, move_operations, if_sized, move_result, move_of, step_by, step_result, halt_of, then_next, at_limit, one_step, reduction, found, Matched}
 use Rattle.rule_reduce.specs.declared.fault.ReduceFault.TheVariants as halt
-use Rattle.rule_reduce.specs.RuleLists.{rule_at, entries_of}
-use Rattle.rule_reduce.specs.Choices.{choice_of}
-use Rattle.rule_reduce.specs.Steps.{Move, moved, move_operations, if_sized, move_result, move_of, step_by, step_result}
-use Rattle.rule_reduce.specs.NormalForms.{halt_of, then_next, at_limit, one_step, reduction}
-use Rattle.rule_reduce.proofs.Chosen.{found}
-use Rattle.rule_reduce.proofs.Matched.{Matched}
 
 -- a move without a fault: none of its operations overflows, and what it leaves is not too large
 pub record MoveGoes (m : Move) (s t : State) : Type 0 where

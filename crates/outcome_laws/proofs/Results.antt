@@ -1,22 +1,7 @@
 -- Results that are values or faults, and operations of which none overflows.
-use Rattle.std.proofs.Common.{◌≡◌, ◌<◌, ℕ, zero, suc, List, [], ◌∷◌, ◌++◌, length, Bool, true, false, cond, Option, Some, None, Result, Ok, Err, refl, ap, ◌∙◌, arith}
-use Rattle.std.specs.List.{All}
-use Rattle.std.proofs.lemmas.List.Elements.{All-head, All-tail}
-use Rattle.std.proofs.lemmas.Bool.Decides.{nat_tests}
-use Rattle.definitions.specs.Poly.{Term}
-use Rattle.definitions.specs.Combination.{generator_at}
-use Rattle.coef_int.specs.declared.Overflow.{Overflow}
-use Rattle.coef_int.specs.Range.{IsCoefficient, is_coefficient}
-use Rattle.coef_int.specs.Operations.{exact_value, first_overflow}
-use Rattle.nc_polynomial.specs.declared.fault.PolyFault.{PolyFault}
-use Rattle.nc_polynomial.proofs.Chains.{first-fits}
-use Rattle.rule_reduce.specs.declared.state.State.{State}
-use Rattle.rule_reduce.specs.declared.fault.ReduceFault.{ReduceFault}
+use Rattle.outcome_laws.proofs.Prelude.{◌≡◌, ◌<◌, ℕ, zero, suc, List, [], ◌∷◌, ◌++◌, length, Bool, true, false, cond, Option, Some, None, Result, Ok, Err, refl, ap, ◌∙◌, arith, All, All-head, All-tail, nat_tests, Term, generator_at, Overflow, IsCoefficient, is_coefficient, exact_value, first_overflow, PolyFault, first-fits, State, ReduceFault, halt_of, Rest, rest_with, and_then, halted, First, rows_operations, second_rows, second_rest}
 use Rattle.rule_reduce.specs.declared.fault.ReduceFault.TheVariants as fault
-use Rattle.rule_reduce.specs.NormalForms.{halt_of}
-use Rattle.rule_making.specs.Making.{Rest, rest_with}
-use Rattle.traced_completion.specs.Results.{and_then, halted, unless_overflow}
-use Rattle.traced_completion.specs.Works.{First, rows_operations, second_rows, second_rest}
+use Rattle.traced_completion.specs.Results.{unless_overflow}
 
 module _ {A E : Type 0} where
   pub no_value : (e : E) (x : A) → ◌≡◌ {A = Result A E} (Err e) (Ok x) → ⊥

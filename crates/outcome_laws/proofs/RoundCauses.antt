@@ -1,44 +1,8 @@
 -- What the cause of a round that stops says.
-use Rattle.std.proofs.Common.{◌≡◌, ◌⊎◌, inl, inr, ◌≤◌, ℕ, zero, suc, List, ◌∷◌, length, Option, Some, None, Err, refl, sym, ap, ◌∙◌, subst, arith}
-use Rattle.std.specs.List.{Contains}
-use Rattle.std.proofs.lemmas.List.{length-map}
-use Rattle.std.proofs.lemmas.List.Elements.{Contains-append_cases}
-use Rattle.coef_int.specs.declared.Overflow.{Overflow}
-use Rattle.coef_int.specs.Operations.{product_of}
-use Rattle.definitions.specs.Poly.{Term}
-use Rattle.definitions.specs.Combination.{generator_at}
-use Rattle.word_orders.specs.Admissible.{Compare}
-use Rattle.word_orders.specs.Specified.{asked_cmp}
-use Rattle.quiver.specs.Declarations.{letter_count}
-use Rattle.traced_rows.specs.declared.Row.{Row}
-use Rattle.cofactor_trace.specs.declared.halt.Cause.{Cause}
+use Rattle.outcome_laws.proofs.Prelude.{◌≡◌, ◌⊎◌, inl, inr, ◌≤◌, ℕ, zero, suc, List, ◌∷◌, length, Option, Some, None, Err, refl, sym, ap, ◌∙◌, subst, arith, Contains, length-map, Contains-append_cases, Overflow, product_of, Term, generator_at, Compare, asked_cmp, letter_count, Row, Cause, Halt, Place, Rule, State, ReduceFault, row_operations, Ambiguity, s_polynomials_balance, Problem, polynomials, Kept, NothingPendingBelow, rules_are_inside, s_polynomials_are_shaped, Recorded, Budget, Waiting, First, first_rows, rows_operations, AreAllPending, Setting, RunState, stopped, IsCauseOf, recorded, IsRound, IsRunState, setting_of, states_bounded, asked_rank, done_after, AreMade, AreRulesOf, of_generator, of_ambiguity, of_first_rest, IsOfRows, of_first, of_second, in_rows, CauseMeans}
 use Rattle.cofactor_trace.specs.declared.halt.Cause.TheVariants as cause
-use Rattle.cofactor_trace.specs.declared.halt.Halt.{Halt}
-use Rattle.cofactor_trace.specs.declared.halt.Place.{Place}
 use Rattle.cofactor_trace.specs.declared.halt.Place.TheVariants as place
-use Rattle.rule_reduce.specs.declared.rule.Rule.{Rule}
-use Rattle.rule_reduce.specs.declared.state.State.{State}
-use Rattle.rule_reduce.specs.declared.fault.ReduceFault.{ReduceFault}
 use Rattle.rule_reduce.specs.declared.fault.ReduceFault.TheVariants as fault
-use Rattle.rule_reduce.specs.Steps.{row_operations}
-use Rattle.ambiguities.specs.declared.ambiguity.Ambiguity.{Ambiguity}
-use Rattle.ambiguities.proofs.Balance.{s_polynomials_balance}
-use Rattle.adjoint_rules.specs.declared.problem.Problem.{Problem}
-use Rattle.adjoint_rules.specs.Problem.{polynomials}
-use Rattle.confluence.specs.Kept.{Kept}
-use Rattle.confluence.specs.Conclusions.{NothingPendingBelow}
-use Rattle.confluence.proofs.Inside.{rules_are_inside}
-use Rattle.confluence.proofs.ShapeLaws.{s_polynomials_are_shaped}
-use Rattle.rule_making.specs.Making.{Recorded}
-use Rattle.traced_completion.specs.declared.budget.Budget.{Budget}
-use Rattle.ambiguities.specs.declared.waiting.Waiting.{Waiting}
-use Rattle.traced_completion.specs.Works.{First, first_rows, rows_operations}
-use Rattle.traced_completion.specs.Pending.{AreAllPending}
-use Rattle.traced_completion.specs.PlainRun.{Setting, RunState, stopped, IsCauseOf, recorded, IsRound, IsRunState, setting_of}
-use Rattle.traced_completion.proofs.RunStates.{states_bounded}
-use Rattle.word_orders.proofs.AskedOrders.{asked_rank}
-use Rattle.outcome_laws.specs.KeptRuns.{done_after}
-use Rattle.outcome_laws.specs.Causes.{AreMade, AreRulesOf, of_generator, of_ambiguity, of_first_rest, IsOfRows, of_first, of_second, in_rows, CauseMeans}
 use Rattle.outcome_laws.proofs.DistinctTreated.{distinct_treated}
 use Rattle.outcome_laws.proofs.Listed.{failing, value_of}
 use Rattle.outcome_laws.proofs.ReductionCauses.{reduction_means, s_polynomial_means, by_cause}

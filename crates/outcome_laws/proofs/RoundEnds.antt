@@ -1,23 +1,8 @@
 -- How a round ends: with rules, closed, or stopped.
-use Rattle.std.proofs.Common.{◌≡◌, ◌<◌, ◌≤◌, ℕ, Bool, true, false, List, [], ◌∷◌, ◌++◌, map, length, take, nat_le, Option, Some, None, Result, Ok, Err, refl, sym, subst}
-use Rattle.std.specs.List.{All}
-use Rattle.std.proofs.lemmas.Bool.{leb-true, leb-false}
-use Rattle.std.proofs.lemmas.List.Elements.{All-map, All-take}
-use Rattle.rule_reduce.specs.declared.fault.ReduceFault.{ReduceFault}
-use Rattle.ambiguities.specs.declared.ambiguity.Ambiguity.{Ambiguity}
-use Rattle.ambiguities.specs.Ambiguities.{IsAmbiguity}
-use Rattle.ambiguities.specs.declared.waiting.Waiting.{Waiting}
-use Rattle.cofactor_trace.specs.declared.halt.Cause.{Cause}
+use Rattle.outcome_laws.proofs.Prelude.{◌≡◌, ◌<◌, ◌≤◌, ℕ, Bool, true, false, List, [], ◌∷◌, ◌++◌, map, length, take, nat_le, Option, Some, None, Result, Ok, Err, refl, sym, subst, All, leb-true, leb-false, All-map, All-take, ReduceFault, Ambiguity, IsAmbiguity, Waiting, Cause, Halt, Place, Recorded, each_in_turn, generator_work, first_of, InTurn, InTwoPasses, AreAllPending, ambiguities_of, Setting, RunState, went, closed, stopped, recorded, IsCauseOf, Ends, taken_count, IsRoundZero, IsLaterRound, TreatsFirst, TreatsPending, pending-all}
 use Rattle.cofactor_trace.specs.declared.halt.Cause.TheVariants as cause
-use Rattle.cofactor_trace.specs.declared.halt.Halt.{Halt}
-use Rattle.cofactor_trace.specs.declared.halt.Place.{Place}
 use Rattle.cofactor_trace.specs.declared.halt.Place.TheVariants as place
-use Rattle.rule_making.specs.Making.{Recorded}
-use Rattle.traced_completion.specs.Results.{each_in_turn}
-use Rattle.traced_completion.specs.Works.{generator_work, first_of, InTurn, InTwoPasses}
-use Rattle.traced_completion.specs.Pending.{AreAllPending, ambiguities_of}
-use Rattle.traced_completion.specs.PlainRun.{Setting, RunState, Outcome, went, closed, stopped, recorded, IsCauseOf, Ends, taken_count, IsRoundZero, IsLaterRound, TreatsFirst, TreatsPending}
-use Rattle.traced_completion.proofs.StoreLemmas.{pending-all}
+use Rattle.traced_completion.specs.PlainRun.{Outcome}
 
 -- works with a fault, which gives up a round
 pub record GivesUp (Turns : Result Recorded ReduceFault → Type 0) (at : Place) (least : Option (List ℕ)) (h : Halt) : Type 0 where

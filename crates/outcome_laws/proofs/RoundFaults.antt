@@ -1,23 +1,7 @@
 -- Where a round that stops has its fault: in the reduction of a generator, of an S-polynomial, or of what is left of one.
-use Rattle.std.proofs.Common.{◌≡◌, ℕ, List, [], ◌∷◌, Option, Some, None, Result, Ok, Err, refl, sym, ap, subst}
-use Rattle.std.specs.List.{All}
-use Rattle.std.proofs.lemmas.List.Elements.{All-head, All-tail}
-use Rattle.coef_int.specs.declared.Overflow.{Overflow}
-use Rattle.coef_int.specs.Operations.{first_overflow}
-use Rattle.definitions.specs.Poly.{Term}
-use Rattle.word_orders.specs.Admissible.{Compare}
-use Rattle.nc_polynomial.specs.declared.fault.PolyFault.{PolyFault}
-use Rattle.rule_reduce.specs.declared.rule.Rule.{Rule}
-use Rattle.rule_reduce.specs.declared.state.State.{State}
-use Rattle.rule_reduce.specs.declared.fault.ReduceFault.{ReduceFault}
+use Rattle.outcome_laws.proofs.Prelude.{◌≡◌, ℕ, List, [], ◌∷◌, Option, Some, None, Result, Ok, Err, refl, sym, ap, subst, All, All-head, All-tail, Overflow, first_overflow, Term, Compare, PolyFault, Rule, State, ReduceFault, halt_of, normal_form_of, Ambiguity, IsAmbiguity, s_rows_of, s_polynomial_of, rest_with, and_then, halted, each_in_turn, First, first_of, rows_operations, second_rows, second_rest, second_reduction, second_work}
 use Rattle.rule_reduce.specs.declared.fault.ReduceFault.TheVariants as fault
-use Rattle.rule_reduce.specs.NormalForms.{halt_of, normal_form_of}
-use Rattle.ambiguities.specs.declared.ambiguity.Ambiguity.{Ambiguity}
-use Rattle.ambiguities.specs.Ambiguities.{IsAmbiguity}
-use Rattle.ambiguities.specs.SPolynomials.{s_rows_of, s_polynomial_of}
-use Rattle.rule_making.specs.Making.{rest_with}
-use Rattle.traced_completion.specs.Results.{and_then, halted, unless_overflow, each_in_turn}
-use Rattle.traced_completion.specs.Works.{First, first_of, rows_operations, second_rows, second_rest, second_reduction, second_work}
+use Rattle.traced_completion.specs.Results.{unless_overflow}
 use Rattle.outcome_laws.proofs.Results.{failed_first, halted_value}
 
 -- the first result has the fault, or the next one

@@ -1,24 +1,9 @@
 -- Each round has an outcome, from whatever state.
-use Rattle.std.proofs.Common.{ℕ, zero, suc, ◌++◌, Bool, true, false, leb, List, [], ◌∷◌, length, map, take, Option, Some, None, Result, Ok, Err, refl}
-use Rattle.std.specs.List.{AllByRecursion}
-use Rattle.definitions.specs.Combination.{generator_at}
-use Rattle.word_orders.specs.Admissible.{IsAdmissible}
-use Rattle.nc_polynomial.specs.Shape.{IsCanonical}
-use Rattle.cofactor_trace.specs.declared.halt.Cause.{Cause}
+use Rattle.outcome_laws.proofs.Prelude.{ℕ, zero, suc, ◌++◌, Bool, true, false, leb, List, [], ◌∷◌, length, map, take, Option, Some, None, Result, Ok, Err, refl, AllByRecursion, generator_at, IsAdmissible, IsCanonical, Cause, ReduceFault, IsMemory, Ambiguity, Waiting, each_in_turn, Recorded, generator_work, first_of, ambiguities_of, Setting, RunState, went, closed, stopped, IsCauseOf, Ends, recorded, IsTreated, TreatsFirst, TreatsPending, taken_count, IsRoundZero, IsLaterRound, HasRound, Gives}
 use Rattle.cofactor_trace.specs.declared.halt.Cause.TheVariants as cause
 use Rattle.cofactor_trace.specs.declared.halt.Place.TheVariants as place
-use Rattle.rule_reduce.specs.declared.fault.ReduceFault.{ReduceFault}
 use Rattle.rule_reduce.specs.declared.fault.ReduceFault.TheVariants as fault
-use Rattle.rule_reduce.specs.NormalForms.{IsMemory}
-use Rattle.ambiguities.specs.declared.ambiguity.Ambiguity.{Ambiguity}
-use Rattle.ambiguities.specs.declared.waiting.Waiting.{Waiting}
-use Rattle.traced_completion.specs.Results.{each_in_turn}
-use Rattle.rule_making.specs.Making.{Recorded}
-use Rattle.traced_completion.specs.Works.{generator_work, first_of}
-use Rattle.traced_completion.specs.Pending.{ambiguities_of}
-use Rattle.traced_completion.specs.PlainRun.{Setting, RunState, Outcome, went, closed, stopped, IsCauseOf, Ends, recorded, IsTreated, TreatsFirst, TreatsPending, taken_count, IsRoundZero, IsLaterRound}
-use Rattle.outcome_laws.specs.Existence.{HasRound}
-use Rattle.confluence.proofs.ShapeLaws.{Gives}
+use Rattle.traced_completion.specs.PlainRun.{Outcome}
 use Rattle.outcome_laws.proofs.Works.{IsFitWork, fit_generator, fit_firsts, has_turn, has_passes}
 use Rattle.outcome_laws.proofs.Pending.{has_store}
 

@@ -1,33 +1,7 @@
 -- What holds of polynomials and rows after reductions and S-polynomials holds of the records of a run.
-use Rattle.std.proofs.Common.{◌≡◌, ◌<◌, ◌≤◌, ℕ, ℤ, ◌*ℤ◌, List, [], ◌∷◌, map, length, Bool, true, false, cond, None, Ok, sym, subst, arith}
-use Rattle.std.specs.List.{All}
-use Rattle.std.proofs.lemmas.List.{length-append, length-map}
-use Rattle.std.proofs.lemmas.List.Elements.{All-nil, All-cons, All-head, All-tail, All-weaker, All-append, All-push, All-map}
-use Rattle.coef_int.specs.Range.{IsCoefficient}
-use Rattle.coef_int.specs.Operations.{product_of, first_overflow}
-use Rattle.definitions.specs.Poly.{Term}
-use Rattle.definitions.specs.Combination.{generator_at}
+use Rattle.outcome_laws.proofs.Prelude.{◌≡◌, ◌<◌, ◌≤◌, ℕ, ℤ, ◌*ℤ◌, List, [], ◌∷◌, map, length, Bool, true, false, cond, None, Ok, sym, subst, arith, All, length-append, length-map, All-nil, All-cons, All-head, All-tail, All-weaker, All-append, All-push, All-map, IsCoefficient, product_of, first_overflow, Term, generator_at, Row, Made, Rule, State, IsRule, multiplied_row, row_operations, normal_form_of, Ambiguity, IsAmbiguity, s_rows_of, s_polynomial_of, Recorded, Rest, rest_with, negated_row, negated_rows, leads_negative, IsMadeFrom, Adds, First, generator_rows, less_rows, first_rows, second_rows, rows_operations, RunState, IsRunState, setting_of, Compare, asked_cmp, letter_count, Problem, polynomials, Budget}
 use Rattle.traced_rows.specs.declared.Origin.TheVariants as origin
-use Rattle.traced_rows.specs.declared.Row.{Row}
-use Rattle.traced_rows.specs.declared.Made.{Made}
-use Rattle.rule_reduce.specs.declared.rule.Rule.{Rule}
-use Rattle.rule_reduce.specs.declared.state.State.{State}
-use Rattle.rule_reduce.specs.RuleLists.{IsRule}
-use Rattle.rule_reduce.specs.Steps.{multiplied_row, row_operations}
-use Rattle.rule_reduce.specs.NormalForms.{normal_form_of}
-use Rattle.ambiguities.specs.declared.ambiguity.Ambiguity.{Ambiguity}
-use Rattle.ambiguities.specs.Ambiguities.{IsAmbiguity}
-use Rattle.ambiguities.specs.SPolynomials.{s_rows_of, s_polynomial_of}
-use Rattle.rule_making.specs.Making.{Recorded, Rest, rest_with, negated_row, negated_rows, leads_negative, IsMadeFrom, Adds}
-use Rattle.traced_completion.specs.Works.{First, generator_rows, less_rows, first_rows, second_rows, rows_operations}
-use Rattle.traced_completion.specs.PlainRun.{RunState, IsRunState, setting_of}
 use Rattle.outcome_laws.proofs.Results.{fits_first, none_append}
-use Rattle.word_orders.specs.Admissible.{Compare}
-use Rattle.word_orders.specs.Specified.{asked_cmp}
-use Rattle.quiver.specs.Declarations.{letter_count}
-use Rattle.adjoint_rules.specs.declared.problem.Problem.{Problem}
-use Rattle.adjoint_rules.specs.Problem.{polynomials}
-use Rattle.traced_completion.specs.declared.budget.Budget.{Budget}
 use Rattle.outcome_laws.proofs.ProblemStates.{IsKeptInRun, kept_in_run}
 use Rattle.outcome_laws.proofs.RunsKept.{all_front, first_with}
 

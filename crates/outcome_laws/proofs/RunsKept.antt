@@ -1,35 +1,5 @@
 -- The invariant of a run holds after one more generator, and after one more ambiguity.
-use Rattle.std.proofs.Common.{◌≡◌, ◌≤◌, ℕ, zero, suc, Bool, List, [], ◌∷◌, ◌++◌, length, take, Ok, refl, sym, ap, ◌∙◌, subst, arith, append_assoc, Option, Some, None}
-use Rattle.std.specs.List.{All}
-use Rattle.std.proofs.lemmas.List.Elements.{All-weaker, All-get_or, All-take}
-use Rattle.std.proofs.Math.Seq.{take-append_seam}
-use Rattle.definitions.specs.Poly.{Term, coefficient_of}
-use Rattle.definitions.specs.Combination.{generator_at}
-use Rattle.definitions.specs.Quiver.{Quiver}
-use Rattle.word_core.specs.Letters.{IsOver}
-use Rattle.word_orders.specs.Admissible.{Compare, IsAdmissible}
-use Rattle.rule_reduce.specs.declared.rule.Rule.{Rule}
-use Rattle.rule_reduce.specs.declared.state.State.{State}
-use Rattle.rule_reduce.specs.RuleLists.{IsRule}
-use Rattle.rule_reduce.specs.NormalForms.{normal_form_of}
-use Rattle.rule_reduce.proofs.WordsKept.{words_with_coefficients}
-use Rattle.ambiguities.specs.declared.ambiguity.Ambiguity.{Ambiguity}
-use Rattle.ambiguities.specs.Ambiguities.{IsAmbiguity}
-use Rattle.ambiguities.specs.SPolynomials.{s_rows_of, s_polynomial_of}
-use Rattle.ambiguities.proofs.Balance.{s_polynomials_balance}
-use Rattle.ambiguities.proofs.Bounds.{over_terms}
-use Rattle.confluence.specs.Reductions.{HasLettersBelow, IsReduced}
-use Rattle.confluence.specs.Rests.{IsAppended}
-use Rattle.confluence.specs.Kept.{HaveLettersBelow, Kept}
-use Rattle.confluence.specs.Typed.{IsTypedInPlay, AreTypedInPlay}
-use Rattle.confluence.proofs.RestLaws.{normal_forms_are_reduced}
-use Rattle.confluence.proofs.ShapeLaws.{normal_forms_are_shaped, rests_have_letters_below, s_polynomials_are_shaped}
-use Rattle.confluence.proofs.Steps.{generators_are_kept, ambiguities_are_kept, resolved_at_once_is_kept}
-use Rattle.confluence.proofs.TypedLaws.{normal_forms_stay_typed, rules_stay_typed, s_polynomials_stay_typed}
-use Rattle.rule_making.specs.Making.{Recorded, Rest, rest_with, Adds}
-use Rattle.traced_completion.specs.Works.{generator_rows, First, second_rows}
-use Rattle.traced_completion.specs.PlainRun.{Setting}
-use Rattle.outcome_laws.specs.KeptRuns.{IsGenerator}
+use Rattle.outcome_laws.proofs.Prelude.{◌≡◌, ◌≤◌, ℕ, zero, suc, Bool, List, [], ◌∷◌, ◌++◌, length, take, Ok, refl, sym, ap, ◌∙◌, subst, arith, append_assoc, Option, Some, None, All, All-weaker, All-get_or, All-take, take-append_seam, Term, coefficient_of, generator_at, Quiver, IsOver, Compare, IsAdmissible, Rule, State, IsRule, normal_form_of, words_with_coefficients, Ambiguity, IsAmbiguity, s_rows_of, s_polynomial_of, s_polynomials_balance, over_terms, HasLettersBelow, IsReduced, IsAppended, HaveLettersBelow, Kept, IsTypedInPlay, AreTypedInPlay, normal_forms_are_reduced, normal_forms_are_shaped, rests_have_letters_below, s_polynomials_are_shaped, generators_are_kept, ambiguities_are_kept, resolved_at_once_is_kept, normal_forms_stay_typed, rules_stay_typed, s_polynomials_stay_typed, Recorded, Rest, rest_with, Adds, generator_rows, First, second_rows, Setting, IsGenerator}
 use Rattle.outcome_laws.proofs.Adding.{appended}
 use Rattle.outcome_laws.proofs.Results.{generator_all}
 

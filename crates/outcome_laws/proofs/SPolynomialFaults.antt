@@ -1,34 +1,7 @@
 -- Why an S-polynomial is not made.
-use Rattle.std.proofs.Common.{◌≡◌, ◌⊎◌, inl, inr, ℕ, ℤ, ◌+ℤ◌, Bool, List, [], ◌++◌, Option, Some, None, Result, Ok, Err, refl, sym, ap, ap₂, ◌∙◌, subst, arith}
-use Rattle.std.specs.List.{Contains}
-use Rattle.std.proofs.lemmas.List.Elements.{Contains-append_cases}
-use Rattle.std.proofs.Math.IntN.{+ℤ_idr}
-use Rattle.coef_int.specs.declared.Overflow.{Overflow}
-use Rattle.coef_int.specs.Range.{IsCoefficient}
-use Rattle.coef_int.specs.Operations.{product_of, sum_of, exact_value, first_overflow}
-use Rattle.definitions.specs.Poly.{Term, coefficient_of, SamePolynomial, poly_multiple, poly_between}
-use Rattle.definitions.specs.Combination.{generator_at}
-use Rattle.definitions.proofs.Coefficients.{coefficient_of-append, coefficient_of-multiple}
-use Rattle.nc_polynomial.specs.declared.fault.PolyFault.{PolyFault}
+use Rattle.outcome_laws.proofs.Prelude.{◌≡◌, ◌⊎◌, inl, inr, ℕ, ℤ, ◌+ℤ◌, Bool, List, [], ◌++◌, Option, Some, None, Result, Ok, Err, refl, sym, ap, ap₂, ◌∙◌, subst, arith, Contains, Contains-append_cases, +ℤ_idr, Overflow, IsCoefficient, product_of, sum_of, exact_value, first_overflow, Term, coefficient_of, SamePolynomial, poly_multiple, poly_between, generator_at, coefficient_of-append, coefficient_of-multiple, PolyFault, scaled, products, added, sums, checked, unless_overflow, size_fault, sized, IsShaped, combined, shaped-between, sized-value, shaped_scale, shaped_add, coefficient_of-added, coefficient_of-scaled, recursion_from_IsDescending, descending-scaled, Row, Rule, rule_at, polynomials_of, rule_at-polynomial, Ambiguity, IsAmbiguity, first_row, second_row, s_rows_of, row_multiple, s_polynomial_of, s_sum, IsTooLarge, row_words, IsOfSum, of_left, of_right, of_both}
 use Rattle.nc_polynomial.specs.declared.fault.PolyFault.TheVariants as fault
-use Rattle.nc_polynomial.specs.Terms.{scaled, products, added, sums}
-use Rattle.nc_polynomial.specs.Faults.{checked, unless_overflow, size_fault, sized}
-use Rattle.nc_polynomial.specs.Shape.{IsShaped}
-use Rattle.nc_polynomial.specs.Arithmetic.{combined}
 use Rattle.nc_polynomial.specs.Product.{and_then}
-use Rattle.nc_polynomial.proofs.Around.{shaped-between}
-use Rattle.nc_polynomial.proofs.Chains.{sized-value, shaped_scale, shaped_add}
-use Rattle.nc_polynomial.proofs.CoefficientLaws.{coefficient_of-added, coefficient_of-scaled}
-use Rattle.nc_polynomial.proofs.Shapes.{recursion_from_IsDescending, descending-scaled}
-use Rattle.traced_rows.specs.declared.Row.{Row}
-use Rattle.rule_reduce.specs.declared.rule.Rule.{Rule}
-use Rattle.rule_reduce.specs.RuleLists.{rule_at, polynomials_of}
-use Rattle.rule_reduce.proofs.Numbers.{rule_at-polynomial}
-use Rattle.ambiguities.specs.declared.ambiguity.Ambiguity.{Ambiguity}
-use Rattle.ambiguities.specs.Ambiguities.{IsAmbiguity}
-use Rattle.ambiguities.specs.SPolynomials.{first_row, second_row, s_rows_of, row_multiple, s_polynomial_of}
-use Rattle.ambiguities.specs.Resolved.{s_sum}
-use Rattle.outcome_laws.specs.ReductionSteps.{IsTooLarge, row_words, IsOfSum, of_left, of_right, of_both}
 use Rattle.outcome_laws.proofs.Listed.{failing, value_of, sum_at}
 use Rattle.outcome_laws.proofs.Results.{none_append}
 use Rattle.outcome_laws.proofs.ReductionFaults.{too_large}

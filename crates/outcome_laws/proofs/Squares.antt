@@ -1,15 +1,6 @@
 -- The places in the squares over short words, as the words of the place's two numbers and the word's letters.
-use Rattle.std.proofs.Common.{◌≡◌, ℕ, ◌+◌, ◌*◌, ◌^◌, ◌≤◌, ◌<◌, zero, suc, ◌⊎◌, inl, inr, refl, arith, subst, sym, ap, ◌∙◌, List, [], ◌∷◌, ◌++◌, map, length}
-use Rattle.std.proofs.lemmas.Bool.{cases_lt}
-use Rattle.std.proofs.lemmas.List.{length-append, length-map}
-use Rattle.std.proofs.lemmas.List.FromFn.{length-range_with_len}
-use Rattle.std.proofs.Math.Nat.{pow-zero, pow-suc}
-use Rattle.std.specs.List.{Contains, flat_map, range_with_len}
-use Rattle.definitions.specs.Poly.{Word}
+use Rattle.outcome_laws.proofs.Prelude.{◌≡◌, ℕ, ◌+◌, ◌*◌, ◌^◌, ◌≤◌, ◌<◌, zero, suc, ◌⊎◌, inl, inr, refl, arith, subst, sym, ap, ◌∙◌, List, [], ◌∷◌, ◌++◌, map, length, cases_lt, length-append, length-map, length-range_with_len, pow-zero, pow-suc, Contains, flat_map, range_with_len, Word, short_ambiguities, Contains-append_left, Contains-append_right, contains-none, contains-cases, contains-first, contains-map}
 use Rattle.outcome_laws.proofs.Turns.{contains_number}
-use Rattle.outcome_laws.specs.Counts.{short_ambiguities}
-use Rattle.std.proofs.lemmas.List.Elements.{Contains-append_left, Contains-append_right}
-use Rattle.ambiguities.proofs.Ascending.{contains-none, contains-cases, contains-first, contains-map}
 
 -- what is listed for an item is listed for all
 contains_flat_map : {A B : Type 0} (f : A → List B) (x : A) (y : B) (xs : List A) → Contains xs x → Contains (f x) y → Contains (flat_map f xs) y

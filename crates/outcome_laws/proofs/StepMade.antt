@@ -1,36 +1,5 @@
 -- A step that is computed is a step, and its operations are those of one.
-use Rattle.std.proofs.Common.{◌≡◌, ◌≢◌, ◌⊎◌, inl, inr, ℕ, ℤ, pos, neg_ℤ, ◌+ℤ◌, ◌*ℤ◌, Bool, true, false, cond, List, [], ◌∷◌, ◌++◌, Some, None, Ok, refl, sym, ap, ap₂, ◌∙◌, subst, arith}
-use Rattle.std.specs.List.{Contains, All}
-use Rattle.std.proofs.lemmas.Int.{ints}
-use Rattle.std.proofs.lemmas.List.Elements.{All-map, Contains-append_cases}
-use Rattle.std.proofs.lemmas.Option.{same_Some}
-use Rattle.std.proofs.Math.IntN.{*ℤ_comm}
-use Rattle.coef_int.specs.declared.Overflow.{Overflow}
-use Rattle.coef_int.specs.Operations.{product_of, sum_of, first_overflow}
-use Rattle.coef_int.specs.Divisor.{gcd_of}
-use Rattle.coef_int.proofs.Divisors.{divisors_are_greatest}
-use Rattle.definitions.specs.Poly.{Term, word_eq, coefficient_of, poly_multiple, poly_between}
-use Rattle.definitions.proofs.Coefficients.{coefficient_of-append, coefficient_of-multiple}
-use Rattle.word_core.specs.Occurrence.{IsFirstPlace}
-use Rattle.word_orders.specs.Admissible.{Compare}
-use Rattle.nc_polynomial.specs.Terms.{IsDescending, keep, scaled, multiplied, multiplications, negated, shifted, products, sums}
-use Rattle.nc_polynomial.specs.Faults.{checked, unless_overflow}
-use Rattle.nc_polynomial.specs.Shape.{IsShaped}
-use Rattle.nc_polynomial.proofs.Around.{shaped-between}
-use Rattle.nc_polynomial.proofs.Chains.{ranged_multiply, shaped_add}
-use Rattle.nc_polynomial.proofs.CoefficientLaws.{coefficient_of-added, coefficient_of-scaled}
-use Rattle.nc_polynomial.proofs.Divisors.{quotient_times}
-use Rattle.nc_polynomial.proofs.Products.{scaled-between, shaped_shift}
-use Rattle.nc_polynomial.proofs.Shapes.{Descends, IsBelow, IsDescending-from_recursion, recursion_from_IsDescending, descending-scaled, nonzero-scaled, shaped-negated}
-use Rattle.traced_rows.specs.declared.Row.{Row}
-use Rattle.rule_reduce.specs.declared.rule.Rule.{Rule}
-use Rattle.rule_reduce.specs.declared.state.State.{State}
-use Rattle.rule_reduce.specs.declared.state.Choice.{Choice}
-use Rattle.rule_reduce.specs.RuleLists.{rule_at}
-use Rattle.rule_reduce.specs.Choices.{IsChoice}
-use Rattle.rule_reduce.specs.Steps.{Move, row_operations, state_operations, less_operations, moved, move_operations, move_of}
-use Rattle.outcome_laws.specs.ReductionSteps.{Reduced, Next, IsStep, IsOfStep, of_multiplier, of_rest, of_taken, of_rule, of_difference}
-use Rattle.ambiguities.proofs.Ascending.{contains-cases}
+use Rattle.outcome_laws.proofs.Prelude.{◌≡◌, ◌≢◌, ◌⊎◌, inl, inr, ℕ, ℤ, pos, neg_ℤ, ◌+ℤ◌, ◌*ℤ◌, Bool, true, false, cond, List, [], ◌∷◌, ◌++◌, Some, None, Ok, refl, sym, ap, ap₂, ◌∙◌, subst, arith, Contains, All, ints, All-map, Contains-append_cases, same_Some, *ℤ_comm, Overflow, product_of, sum_of, first_overflow, gcd_of, divisors_are_greatest, Term, word_eq, coefficient_of, poly_multiple, poly_between, coefficient_of-append, coefficient_of-multiple, IsFirstPlace, Compare, IsDescending, keep, scaled, multiplied, multiplications, negated, shifted, products, sums, checked, unless_overflow, IsShaped, shaped-between, ranged_multiply, shaped_add, coefficient_of-added, coefficient_of-scaled, quotient_times, scaled-between, shaped_shift, Descends, IsBelow, IsDescending-from_recursion, recursion_from_IsDescending, descending-scaled, nonzero-scaled, shaped-negated, Row, Rule, State, Choice, rule_at, IsChoice, Move, row_operations, state_operations, less_operations, moved, move_operations, move_of, Reduced, Next, IsStep, IsOfStep, of_multiplier, of_rest, of_taken, of_rule, of_difference, contains-cases}
 use Rattle.outcome_laws.proofs.Listed.{value_of, sum_at}
 use Rattle.outcome_laws.proofs.Results.{fits_first, none_append}
 

@@ -1,18 +1,9 @@
 -- Causes of halts, and the rounds that stop.
-use Rattle.std.proofs.Common.{◌≢◌, ◌<◌, ℕ, suc, List, length, Option, Some, None, Result, sym, ap, subst, arith}
-use Rattle.cofactor_trace.specs.declared.fault.ExpandFault.{ExpandFault}
+use Rattle.outcome_laws.proofs.Prelude.{◌≢◌, ◌<◌, ℕ, suc, List, length, Option, Some, None, Result, sym, ap, subst, arith, ExpandFault, GatherFault, Cause, Halt, ReduceFault, Recorded, Setting, RunState, stopped, IsCauseOf, IsRound, IsCauseOfExpansion, IsCauseOfGathering, Place}
 use Rattle.cofactor_trace.specs.declared.fault.ExpandFault.TheVariants as expand
-use Rattle.cofactor_trace.specs.declared.fault.GatherFault.{GatherFault}
 use Rattle.cofactor_trace.specs.declared.fault.GatherFault.TheVariants as gather
-use Rattle.cofactor_trace.specs.declared.halt.Cause.{Cause}
 use Rattle.cofactor_trace.specs.declared.halt.Cause.TheVariants as cause
-use Rattle.cofactor_trace.specs.declared.halt.Halt.{Halt}
-use Rattle.rule_reduce.specs.declared.fault.ReduceFault.{ReduceFault}
 use Rattle.rule_reduce.specs.declared.fault.ReduceFault.TheVariants as fault
-use Rattle.rule_making.specs.Making.{Recorded}
-use Rattle.traced_completion.specs.PlainRun.{Setting, RunState, stopped, IsCauseOf, IsRound}
-use Rattle.claim_decider.specs.Outcomes.{IsCauseOfExpansion, IsCauseOfGathering}
-use Rattle.cofactor_trace.specs.declared.halt.Place.{Place}
 use Rattle.cofactor_trace.specs.declared.halt.Place.TheVariants as place
 use Rattle.outcome_laws.proofs.RoundEnds.{GivesUp, ZeroTurns, LaterTurns, StopsLater, pairs_spent, gives_up, zero_ends, later_ends}
 

@@ -1,11 +1,6 @@
 -- Round 0 takes each generator.
-use Rattle.std.proofs.Common.{◌≡◌, ◌⊎◌, inl, inr, ◌≤◌, ◌<◌, ◌+◌, ◌-◌, ℕ, suc, length, get_or, Contains, ◌∙◌, arith}
-use Rattle.std.proofs.lemmas.Bool.{cases_lt}
-use Rattle.std.proofs.lemmas.List.Elements.{All-append, All-from_get_or, Contains-append_left, Contains-append_right}
-use Rattle.std.proofs.lemmas.List.FromFn.{length-range_with_len, get_or-range_with_len}
-use Rattle.std.specs.List.{All, range_with_len}
-use Rattle.traced_completion.specs.UnitsFirst.{units_first}
-use Rattle.outcome_laws.specs.KeptRuns.{EachGeneratorHasItsTurn}
+use Rattle.outcome_laws.proofs.Prelude.{◌≡◌, ◌⊎◌, inl, inr, ◌≤◌, ◌<◌, ◌+◌, ◌-◌, ℕ, suc, length, get_or, ◌∙◌, arith, cases_lt, All-append, All-from_get_or, Contains-append_left, Contains-append_right, length-range_with_len, get_or-range_with_len, All, range_with_len, units_first, EachGeneratorHasItsTurn}
+use Rattle.std.proofs.Common.{Contains}
 
 pub contains_number : (a n k : ℕ) → a ≤ k → k < a + n → Contains (range_with_len a n) k
 contains_number a n k above below =

@@ -1,26 +1,5 @@
 -- What each step of a run keeps holds in all its states, and before a step with a fault.
-use Rattle.std.proofs.Common.{◌≡◌, ◌≤◌, ◌<◌, ℕ, zero, suc, Bool, List, [], ◌∷◌, ◌++◌, map, length, Option, None, Result, Ok, Err, refl, sym, subst, append-nil, append_assoc}
-use Rattle.std.specs.List.{All}
-use Rattle.std.proofs.lemmas.List.Elements.{All-nil, All-head, All-tail}
-use Rattle.coef_int.specs.Operations.{first_overflow}
-use Rattle.definitions.specs.Poly.{Term}
-use Rattle.definitions.specs.Combination.{generator_at}
-use Rattle.definitions.specs.Quiver.{Quiver}
-use Rattle.word_orders.specs.Admissible.{Compare, IsAdmissible}
-use Rattle.rule_reduce.specs.declared.rule.Rule.{Rule}
-use Rattle.rule_reduce.specs.declared.state.State.{State}
-use Rattle.rule_reduce.specs.declared.fault.ReduceFault.{ReduceFault}
-use Rattle.rule_reduce.specs.NormalForms.{normal_form_of}
-use Rattle.ambiguities.specs.declared.ambiguity.Ambiguity.{Ambiguity}
-use Rattle.ambiguities.specs.Ambiguities.{IsAmbiguity}
-use Rattle.ambiguities.specs.SPolynomials.{s_polynomial_of}
-use Rattle.confluence.specs.Typed.{IsTypedInPlay}
-use Rattle.confluence.proofs.Steps.{start_is_kept}
-use Rattle.rule_making.specs.Making.{Recorded, Rest, rest_with, Adds}
-use Rattle.traced_completion.specs.Results.{and_then, halted, each_in_turn}
-use Rattle.traced_completion.specs.Works.{Work, generator_rows, generator_work, First, first_of, rows_operations, second_rows, second_rest, second_reduction, second_work, Goes, InTurn, InTwoPasses}
-use Rattle.traced_completion.specs.PlainRun.{Setting, RunState, went, start, recorded, IsRunState}
-use Rattle.outcome_laws.specs.KeptRuns.{IsGenerator, done_after}
+use Rattle.outcome_laws.proofs.Prelude.{◌≡◌, ◌≤◌, ◌<◌, ℕ, zero, suc, Bool, List, [], ◌∷◌, ◌++◌, map, length, Option, None, Result, Ok, Err, refl, sym, subst, append-nil, append_assoc, All, All-nil, All-head, All-tail, first_overflow, Term, generator_at, Quiver, Compare, IsAdmissible, Rule, State, ReduceFault, normal_form_of, Ambiguity, IsAmbiguity, s_polynomial_of, IsTypedInPlay, start_is_kept, Recorded, Rest, rest_with, Adds, and_then, halted, each_in_turn, Work, generator_rows, generator_work, First, first_of, rows_operations, second_rows, second_rest, second_reduction, second_work, Goes, InTurn, InTwoPasses, Setting, RunState, went, start, recorded, IsRunState, IsGenerator, done_after}
 use Rattle.outcome_laws.proofs.Results.{same_value, went_on, halted_value, second_value, failed_first}
 use Rattle.outcome_laws.proofs.RoundEnds.{Takes, ZeroTurns, LaterTurns, taken_by, taken_are, zero_ends, later_ends}
 use Rattle.outcome_laws.proofs.RunsKept.{BeginsWith, begins_with, IsFirst, first_with, KeptNow, generator_kept, at_once_kept, ambiguity_kept}

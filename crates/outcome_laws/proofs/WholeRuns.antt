@@ -1,17 +1,6 @@
 -- The invariant of whole runs, and what is pending.
-use Rattle.std.proofs.Common.{◌≡◌, inl, inr, zero, suc, List, [], ◌∷◌, Contains, refl, sym, ap, ◌∙◌, subst, arith}
-use Rattle.std.proofs.lemmas.Cmp.{tied_itself}
-use Rattle.std.specs.declared.cmp.Ordering.TheVariants.{Less}
-use Rattle.word_orders.specs.Admissible.{Compare}
-use Rattle.rule_reduce.specs.declared.rule.Rule.{Rule}
-use Rattle.ambiguities.specs.declared.ambiguity.Ambiguity.{Ambiguity}
-use Rattle.ambiguities.specs.Ambiguities.{overlap_word_of}
-use Rattle.ambiguities.specs.declared.waiting.Waiting.{Waiting}
-use Rattle.ambiguities.specs.Order.{IsWaitingBefore}
-use Rattle.confluence.specs.Conclusions.{NothingPending}
-use Rattle.traced_completion.specs.Pending.{AreAllPending}
-use Rattle.traced_completion.specs.PlainRun.{closed}
-use Rattle.outcome_laws.specs.KeptRuns.{RunsAreKept, ClosedIsNothingPending, FirstIsLeastPending}
+use Rattle.outcome_laws.proofs.Prelude.{◌≡◌, inl, inr, zero, suc, List, [], ◌∷◌, refl, sym, ap, ◌∙◌, subst, arith, tied_itself, Less, Compare, Rule, Ambiguity, overlap_word_of, Waiting, IsWaitingBefore, NothingPending, AreAllPending, closed, RunsAreKept, ClosedIsNothingPending, FirstIsLeastPending}
+use Rattle.std.proofs.Common.{Contains}
 use Rattle.outcome_laws.proofs.RoundEnds.{later_ends}
 use Rattle.outcome_laws.proofs.Walks.{nothing_kept, run}
 

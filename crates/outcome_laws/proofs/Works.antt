@@ -1,25 +1,7 @@
 -- Works that are done in order end with rules, or with a fault that isn't want of memory.
-use Rattle.std.proofs.Common.{◌<◌, ℕ, List, [], ◌∷◌, ◌++◌, length, map, Option, Some, None, Result, Ok, Err, refl, arith}
-use Rattle.std.specs.List.{AllByRecursion}
-use Rattle.coef_int.specs.declared.Overflow.{Overflow}
-use Rattle.coef_int.specs.Operations.{first_overflow}
-use Rattle.definitions.specs.Poly.{Term}
-use Rattle.definitions.specs.Combination.{generator_at}
-use Rattle.word_orders.specs.Admissible.{Compare}
-use Rattle.nc_polynomial.specs.declared.fault.PolyFault.{PolyFault}
+use Rattle.outcome_laws.proofs.Prelude.{◌<◌, ℕ, List, [], ◌∷◌, ◌++◌, length, map, Option, Some, None, Result, Ok, Err, refl, arith, AllByRecursion, Overflow, first_overflow, Term, generator_at, Compare, PolyFault, IsCanonical, Row, Rule, State, ReduceFault, normal_form_of, Ambiguity, s_rows_of, s_polynomial_of, and_then, halted, each_in_turn, Recorded, Rest, rest_with, Adds, Work, generator_rows, generator_work, First, first_of, second_rows, rows_operations, second_rest, second_reduction, second_work, Goes, InTurn, InTwoPasses, Makes, Gives, s_polynomial_makes, normal_form_gives}
 use Rattle.nc_polynomial.specs.declared.fault.PolyFault.TheVariants as polynomial
-use Rattle.nc_polynomial.specs.Shape.{IsCanonical}
-use Rattle.traced_rows.specs.declared.Row.{Row}
-use Rattle.rule_reduce.specs.declared.rule.Rule.{Rule}
-use Rattle.rule_reduce.specs.declared.state.State.{State}
-use Rattle.rule_reduce.specs.declared.fault.ReduceFault.{ReduceFault}
-use Rattle.rule_reduce.specs.NormalForms.{normal_form_of}
-use Rattle.ambiguities.specs.declared.ambiguity.Ambiguity.{Ambiguity}
-use Rattle.ambiguities.specs.SPolynomials.{s_rows_of, s_polynomial_of}
-use Rattle.traced_completion.specs.Results.{and_then, halted, unless_overflow, each_in_turn}
-use Rattle.rule_making.specs.Making.{Recorded, Rest, rest_with, Adds}
-use Rattle.traced_completion.specs.Works.{Work, generator_rows, generator_work, First, first_of, second_rows, rows_operations, second_rest, second_reduction, second_work, Goes, InTurn, InTwoPasses}
-use Rattle.confluence.proofs.ShapeLaws.{Makes, Gives, s_polynomial_makes, normal_form_gives}
+use Rattle.traced_completion.specs.Results.{unless_overflow}
 use Rattle.outcome_laws.proofs.Makings.{has_rule}
 
 -- results one after another

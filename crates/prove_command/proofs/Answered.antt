@@ -1,44 +1,6 @@
 -- What `prove` and `bench` owe: one ending, its status, and what its verdicts mean.
-use Rattle.std.proofs.Common.{◌≡◌, ◌≤◌, ℕ, zero, suc, ◌+◌, List, [], ◌∷◌, length, refl, sym, ap, subst, ◌∙◌, arith}
-use Rattle.std.specs.List.{AllZip, range_with_len}
-use Rattle.std.proofs.lemmas.List.{length-map}
-use Rattle.definitions.specs.Category.{Structure, PreadditiveLaws}
-use Rattle.definitions.specs.Soundness.{IsSound}
-use Rattle.nc_polynomial.specs.declared.poly.Poly.{Poly}
-use Rattle.cofactor_trace.specs.declared.halt.Halt.{Halt}
-use Rattle.adjoint_rules.specs.declared.problem.Problem.{Problem}
-use Rattle.adjoint_rules.specs.Problem.{polynomials}
-use Rattle.adjoint_rules.specs.Claims.{claim_at, claim_numbers}
-use Rattle.traced_completion.specs.PlainRun.{setting_of}
-use Rattle.claim_decider.specs.declared.outcome.Outcome.{Outcome}
+use Rattle.prove_command.proofs.Prelude.{◌≡◌, ◌≤◌, ℕ, zero, suc, ◌+◌, List, [], ◌∷◌, length, refl, sym, ap, subst, ◌∙◌, arith, AllZip, range_with_len, length-map, Structure, PreadditiveLaws, IsSound, Poly, Halt, Problem, polynomials, claim_at, claim_numbers, setting_of, Outcome, IsOutcomeOf, AreOutcomesOf, AreLastRules, outcomes_unique, last_rules_unique, IsEvidenceSound, IsClaimNumber, least_means, OutcomeMeans, HaltMeans, asked_rank, asked_cmp-admissible, outcomes_mean_what_they_say, each_problem_has_outcomes, proved_means, Verdict, report_of, status_of, Ending, OverStatement, IsStated, Asked, Print, AreVerdictsOn, AnswersClaims, VerdictMeans, PrintsMeant, SaysDecided, ReportsMeant, SaysReported, OwesEnding, OwesOver, owed_over, over_stated, over_statement, verdicts_status, AllZip-unique, IsItsOwnEvidence, declared_names_are_names}
 use Rattle.claim_decider.specs.declared.outcome.Outcome.TheVariants as outcome
-use Rattle.claim_decider.specs.Outcomes.{IsOutcomeOf}
-use Rattle.claim_decider.specs.Decided.{AreOutcomesOf, AreLastRules}
-use Rattle.claim_decider.proofs.UniqueOutcomes.{outcomes_unique}
-use Rattle.claim_decider.proofs.UniqueRules.{last_rules_unique}
-use Rattle.representations.specs.Evidence.{IsEvidenceSound}
-use Rattle.model_checker.specs.Models.{IsClaimNumber}
-use Rattle.model_search.proofs.LeastBreaking.{least_means}
-use Rattle.outcome_laws.specs.Meanings.{OutcomeMeans}
-use Rattle.outcome_laws.specs.Halts.{HaltMeans}
-use Rattle.outcome_laws.proofs.AskedOrders.{asked_rank, asked_cmp-admissible}
-use Rattle.outcome_laws.proofs.Meanings.{outcomes_mean_what_they_say}
-use Rattle.outcome_laws.proofs.Problems.{each_problem_has_outcomes}
-use Rattle.cofactor_checker.proofs.ProvedMeans.{proved_means}
-use Rattle.report_text.specs.declared.verdict.Verdict.{Verdict}
-use Rattle.report_text.specs.Report.{report_of, status_of}
-use Rattle.command_shape.specs.Ending.{Ending}
-use Rattle.stated_problem.specs.Statement.{OverStatement}
-use Rattle.stated_problem.specs.Stated.{IsStated}
-use Rattle.prove_command.specs.declared.prove.Asked.{Asked}
-use Rattle.prove_command.specs.Answers.{Print, AreVerdictsOn, AnswersClaims}
-use Rattle.prove_command.specs.Says.{VerdictMeans, PrintsMeant, SaysDecided, ReportsMeant, SaysReported}
-use Rattle.stated_problem.proofs.Owed.{OwesEnding, OwesOver, owed_over}
-use Rattle.stated_problem.proofs.Over.{over_stated, over_statement}
-use Rattle.report_text.proofs.Statuses.{verdicts_status}
-use Rattle.lists.proofs.Zips.{AllZip-unique}
-use Rattle.report_readback.specs.OwnEvidence.{IsItsOwnEvidence}
-use Rattle.report_readback.proofs.Declared.{declared_names_are_names}
 use Rattle.prove_command.proofs.OwnEvidence.{decided_is_evidence}
 use Rattle.prove_command.proofs.Outcomes.{OnHalted, broken, left, OnOutcome, by_outcome, verdicts_once, verdicts_end, verdicts_follow}
 

@@ -1,11 +1,5 @@
 -- The statement of `bench` is within the limit of statements.
-use Rattle.std.proofs.Common.{◌≤◌, ◌<◌, ℕ, zero, suc, ◌+◌, ◌-◌, ◌*◌, List, ◌++◌, length, codes, decimal, arith}
-use Rattle.std.specs.List.{flat_map, range_with_len}
-use Rattle.std.proofs.lemmas.List.{length-append}
-use Rattle.std.proofs.lemmas.Fmt.{length-decimal-le}
-use Rattle.report_text.specs.Bench.{numbered, maps_of_step, assumption_of_step, there_and_back, bench_statement}
-use Rattle.command_shape.specs.Limits.{size_limit}
-use Rattle.command_shape.specs.FileWords.{statement_limit}
+use Rattle.prove_command.proofs.Prelude.{◌≤◌, ◌<◌, ℕ, zero, suc, ◌+◌, ◌-◌, ◌*◌, List, ◌++◌, length, codes, decimal, arith, flat_map, range_with_len, length-append, length-decimal-le, numbered, maps_of_step, assumption_of_step, there_and_back, bench_statement, size_limit, statement_limit}
 
 -- at most this many bytes
 record IsShort (most : ℕ) (bytes : List ℕ) : Type 0 where

@@ -1,3 +1,4 @@
+mod Prelude
 mod Outcomes
 mod Said
 mod Writing

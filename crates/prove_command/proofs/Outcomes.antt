@@ -1,18 +1,7 @@
 -- What is said of claims by their outcomes.
-use Rattle.std.proofs.Common.{◌≡◌, ◌⊎◌, inl, inr, ℕ, Bool, true, false, List, [], ◌∷◌, refl, sym, ap, subst, ◌∙◌}
-use Rattle.std.specs.List.{AllZip}
-use Rattle.cofactor_trace.specs.declared.halt.Halt.{Halt}
-use Rattle.matrix_models.specs.declared.model.Model.{Model}
-use Rattle.adjoint_rules.specs.declared.problem.Problem.{Problem}
-use Rattle.claim_decider.specs.declared.outcome.Outcome.{Outcome}
+use Rattle.prove_command.proofs.Prelude.{◌≡◌, ◌⊎◌, inl, inr, ℕ, Bool, true, false, List, [], ◌∷◌, refl, sym, ap, subst, ◌∙◌, AllZip, Halt, Model, Problem, Outcome, NoneBreaks, LeastBreaks, least_once, none_least, least_or_none, Verdict, Asked, IsVerdictOn, proved, not_derivable, refuted, undecided, AreVerdictsOn}
 use Rattle.claim_decider.specs.declared.outcome.Outcome.TheVariants as outcome
-use Rattle.model_candidates.specs.Candidates.{NoneBreaks}
-use Rattle.model_search.specs.LeastBreaking.{LeastBreaks}
-use Rattle.model_search.proofs.LeastBreaking.{least_once, none_least, least_or_none}
-use Rattle.report_text.specs.declared.verdict.Verdict.{Verdict}
 use Rattle.report_text.specs.declared.verdict.Verdict.TheVariants as verdict
-use Rattle.prove_command.specs.declared.prove.Asked.{Asked}
-use Rattle.prove_command.specs.Answers.{IsVerdictOn, proved, not_derivable, refuted, undecided, AreVerdictsOn}
 
 -- one claim
 module _ (problem : Problem) (asked : Asked) (claim : ℕ) where

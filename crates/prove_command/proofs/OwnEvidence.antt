@@ -1,27 +1,6 @@
 -- The report of `prove` is its own evidence.
-use Rattle.std.proofs.Common.{◌≡◌, inl, inr, ℕ, List, [], ◌∷◌, sym, subst, IsTrue}
-use Rattle.std.specs.List.{All, list_all}
-use Rattle.std.proofs.lemmas.List.Elements.{All-nil, All-cons, All-weaker}
-use Rattle.nc_polynomial.specs.declared.poly.Poly.{Poly}
-use Rattle.matrix_models.specs.declared.model.Model.{Model}
-use Rattle.adjoint_rules.specs.declared.problem.Problem.{Problem}
-use Rattle.adjoint_rules.specs.Claims.{claim_numbers}
-use Rattle.claim_decider.specs.declared.outcome.Outcome.{Outcome}
-use Rattle.model_checker.specs.Models.{Refutes}
-use Rattle.model_search.specs.LeastBreaking.{LeastBreaks}
-use Rattle.model_search.proofs.LeastBreaking.{least_refutes}
-use Rattle.block_text.specs.Back.{is_named}
-use Rattle.model_text.specs.Back.{IsWritableModel}
-use Rattle.report_text.specs.declared.verdict.Verdict.{Verdict}
+use Rattle.prove_command.proofs.Prelude.{◌≡◌, inl, inr, ℕ, List, [], ◌∷◌, sym, subst, IsTrue, All, list_all, All-nil, All-cons, All-weaker, Poly, Model, Problem, claim_numbers, Outcome, Refutes, LeastBreaks, least_refutes, is_named, IsWritableModel, Verdict, report_of, IsVerdictOf, AreVerdictsOf, refuted_in, IsItsOwnEvidence, breaking_candidates_are_writable, run_is_evidence, Asked, IsVerdictOn, proved, not_derivable, refuted, undecided, AreVerdictsOn, Decides}
 use Rattle.report_text.specs.declared.verdict.Verdict.TheVariants as verdict
-use Rattle.report_text.specs.Report.{report_of}
-use Rattle.report_readback.specs.ReadBack.{IsVerdictOf, AreVerdictsOf}
-use Rattle.report_readback.specs.ModelsReadBack.{refuted_in}
-use Rattle.report_readback.specs.OwnEvidence.{IsItsOwnEvidence}
-use Rattle.report_readback.proofs.WritableCandidates.{breaking_candidates_are_writable}
-use Rattle.report_readback.proofs.OwnEvidence.{run_is_evidence}
-use Rattle.prove_command.specs.declared.prove.Asked.{Asked}
-use Rattle.prove_command.specs.Answers.{IsVerdictOn, proved, not_derivable, refuted, undecided, AreVerdictsOn, Decides}
 
 module _ (problem : Problem) (asked : Asked) (names : IsTrue (list_all is_named problem.parts.quiver)) where
   -- a model that can be written, and that refutes its claim

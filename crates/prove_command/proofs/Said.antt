@@ -1,26 +1,7 @@
 -- The verdicts on claims, one after another, by their outcomes and by what was found for those for which a model is searched.
-use Rattle.std.proofs.Common.{◌≡◌, ◌≤◌, ◌<◌, ◌+◌, ℕ, suc, Bool, true, false, true≢false, refl, sym, ap, subst, ◌∙◌, arith}
-use Rattle.std.proofs.Common.{List, [], ◌∷◌, ◌++◌, length, take, get_or, append_assoc, append-nil, Option, Some, None, IfSome, IfNone, IsSome}
-use Rattle.std.specs.List.{All, AllZip, range_with_len}
-use Rattle.std.specs.Option.{option_flatten, option_to_list}
-use Rattle.std.proofs.lemmas.List.{take_more, length-take-le}
-use Rattle.std.proofs.lemmas.List.Elements.{All-nil, All-cons}
-use Rattle.std.proofs.lemmas.Slice.Zip.{AllZip-long}
-use Rattle.adjoint_rules.specs.declared.problem.Problem.{Problem}
-use Rattle.adjoint_rules.specs.Claims.{claim_numbers}
-use Rattle.claim_decider.specs.declared.outcome.Outcome.{Outcome}
+use Rattle.prove_command.proofs.Prelude.{◌≡◌, ◌≤◌, ◌<◌, ◌+◌, ℕ, suc, Bool, true, false, true≢false, refl, sym, ap, subst, ◌∙◌, arith, List, [], ◌∷◌, ◌++◌, length, take, get_or, append_assoc, append-nil, Option, Some, None, IfSome, IfNone, IsSome, All, AllZip, range_with_len, option_flatten, option_to_list, take_more, length-take-le, All-nil, All-cons, AllZip-long, Problem, claim_numbers, Outcome, Evidence, Halt, IsLeastBreaking, NoneBreaks, IsClaimNumber, Found, Poly, Verdict, Asked, IsVerdictOn, proved, not_derivable, refuted, undecided, AreVerdictsOn, halted_from, searched_from}
 use Rattle.claim_decider.specs.declared.outcome.Outcome.TheVariants as outcome
-use Rattle.traced_rows.specs.declared.evidence.Evidence.{Evidence}
-use Rattle.cofactor_trace.specs.declared.halt.Halt.{Halt}
-use Rattle.model_candidates.specs.Candidates.{IsLeastBreaking, NoneBreaks}
-use Rattle.model_checker.specs.Models.{IsClaimNumber}
-use Rattle.model_search.specs.declared.found.Found.{Found}
-use Rattle.nc_polynomial.specs.declared.poly.Poly.{Poly}
-use Rattle.report_text.specs.declared.verdict.Verdict.{Verdict}
 use Rattle.report_text.specs.declared.verdict.Verdict.TheVariants as verdict
-use Rattle.prove_command.specs.declared.prove.Asked.{Asked}
-use Rattle.prove_command.specs.Answers.{IsVerdictOn, proved, not_derivable, refuted, undecided, AreVerdictsOn}
-use Rattle.prove_command.specs.Searched.{halted_from, searched_from}
 
 -- the numbers of claims that halted, with one more outcome
 halted_push : (claim : ℕ) (os : List Outcome) (o : Outcome)

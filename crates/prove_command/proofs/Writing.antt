@@ -1,23 +1,7 @@
 -- Verdicts that can be written: their letters are letters of the quiver.
-use Rattle.std.proofs.Common.{ℕ, List, sym, subst}
-use Rattle.std.specs.List.{All}
-use Rattle.adjoint_rules.specs.declared.problem.Problem.{Problem}
-use Rattle.adjoint_rules.specs.Claims.{claim_at}
-use Rattle.traced_completion.specs.PlainRun.{setting_of}
-use Rattle.cofactor_trace.specs.declared.halt.Halt.{Halt}
-use Rattle.claim_decider.specs.declared.outcome.Outcome.{Outcome}
+use Rattle.prove_command.proofs.Prelude.{ℕ, List, sym, subst, All, Problem, claim_at, setting_of, Halt, Outcome, IsOutcomeOf, AreOutcomesOf, least_refutes, IsOutcomeOver, outcomes_have_letters, Verdict, IsVerdictOver, Asked, IsVerdictOn, AreVerdictsOn, zip_right}
 use Rattle.claim_decider.specs.declared.outcome.Outcome.TheVariants as outcome
-use Rattle.claim_decider.specs.Outcomes.{IsOutcomeOf}
-use Rattle.claim_decider.specs.Decided.{AreOutcomesOf}
-use Rattle.model_search.proofs.LeastBreaking.{least_refutes}
-use Rattle.outcome_laws.specs.OutcomeLetters.{IsOutcomeOver}
-use Rattle.outcome_laws.proofs.OutcomeLetters.{outcomes_have_letters}
-use Rattle.report_text.specs.declared.verdict.Verdict.{Verdict}
-use Rattle.report_text.specs.Report.{IsVerdictOver}
-use Rattle.prove_command.specs.declared.prove.Asked.{Asked}
-use Rattle.prove_command.specs.Answers.{IsVerdictOn, AreVerdictsOn}
 use Rattle.prove_command.proofs.Outcomes.{OnHalted, broken, left, OnOutcome, by_outcome, verdicts_follow}
-use Rattle.lists.proofs.Zips.{zip_right}
 
 module _ (problem : Problem) (asked : Asked) where
   abbrev Over : Verdict → Type 0

@@ -1,15 +1,7 @@
 -- The fields of a quiver with one declaration more.
-use Rattle.std.proofs.Common.{◌≡◌, List, [], ◌∷◌, ◌++◌, map, None, sym, ap, ap₂, subst, ◌∙◌, string_bytes, Global, String}
-use Rattle.std.specs.String.{string_eq}
-use Rattle.std.proofs.lemmas.List.{map-append}
-use Rattle.indexmap.specs.IndexMap.{insert_entry}
-use Rattle.indexmap.proofs.CallerLemmas.{insert_entry-new}
-use Rattle.quiver.specs.declared.named.Named.{Named}
-use Rattle.quiver.specs.declared.quiver.Quiver.TheInside.{Inside}
+use Rattle.quiver.proofs.Prelude.{◌≡◌, List, [], ◌∷◌, ◌++◌, map, None, sym, ap, ap₂, subst, ◌∙◌, string_bytes, Global, String, string_eq, map-append, insert_entry, insert_entry-new, Named, Inside, Declaration, name_of, named_by, named_in, objects_made, letters_made, object_table, letter_table, naming_table, IsDeclared, object_entry, letter_entry, objects_in, letters_in, names_in, declarations_by, declarations, IsKept}
 use Rattle.quiver.specs.declared.quiver.ObjectEntry as code_object
 use Rattle.quiver.specs.declared.quiver.LetterEntry as code_letter
-use Rattle.quiver.specs.Declarations.{Declaration, name_of, named_by, named_in, objects_made, letters_made, object_table, letter_table, naming_table, IsDeclared}
-use Rattle.quiver.specs.Tables.{object_entry, letter_entry, objects_in, letters_in, names_in, declarations_by, declarations, IsKept}
 use Rattle.quiver.proofs.Fields.{named_in-names}
 use Rattle.quiver.proofs.Growth.{next_turn, object_table-more, letter_table-more, naming_table-append, declarations_by-tables}
 

@@ -1,7 +1,5 @@
 -- The signature of a word, read letter by letter from the left.
-use Rattle.std.proofs.Common.{◌≡◌, ◌≢◌, ℕ, ◌+◌, ◌<◌, ◌≤◌, length, drop, get_or, Bool, true, false, cond, ◌&&◌, List, [], ◌∷◌, Option, Some, None, option_map, sym, refl, ap, ◌∙◌, nat_eq, lt-ltb, eq-eqb, ne_eqb}
-use Rattle.std.proofs.lemmas.List.{drop_more, drop_all}
-use Rattle.definitions.specs.Quiver.{Quiver, letters, source, target, signature_of}
+use Rattle.quiver.proofs.Prelude.{◌≡◌, ◌≢◌, ℕ, ◌+◌, ◌<◌, ◌≤◌, length, drop, get_or, Bool, true, false, cond, ◌&&◌, List, [], ◌∷◌, Option, Some, None, option_map, sym, refl, ap, ◌∙◌, nat_eq, lt-ltb, eq-eqb, ne_eqb, drop_more, drop_all, Quiver, letters, source, target, signature_of}
 
 -- the signature of the word whose beginning has these ends, and whose rest this is
 abbrev pub continued : Quiver → ℕ × ℕ → List ℕ → Option (ℕ × ℕ)

@@ -1,19 +1,5 @@
 -- What holds of the declarations of a quiver holds with one more that is not refused.
-use Rattle.std.proofs.Common.{◌≡◌, ◌≢◌, ℕ, zero, suc, ◌+◌, ◌<◌, ◌≤◌, Bool, true, false, cond, ◌&&◌, ◌||◌, not, nat_eq, nat_le, List, [], ◌∷◌, ◌++◌, length, map, get_or, Option, Some, None, is_some, AllPairs, sym, refl, ap, subst, ◌∙◌, arith, lt-ltb, leb-false, true≢false}
-use Rattle.std.specs.List.{list_all}
-use Rattle.std.specs.Map.{lookup}
-use Rattle.std.specs.Str.{bytes_eq}
-use Rattle.std.proofs.lemmas.Bool.{and_parts, and_from}
-use Rattle.std.proofs.lemmas.Cmp.{nat_list_eq_equiv}
-use Rattle.std.proofs.lemmas.List.{map-append}
-use Rattle.std.proofs.lemmas.List.Folds.{list_all-append}
-use Rattle.std.proofs.lemmas.List.Quantifiers.{all_pairs_push}
-use Rattle.quiver.specs.declared.named.Named.{Named}
-use Rattle.quiver.specs.declared.fault.QuiverFault.{QuiverFault}
-use Rattle.quiver.specs.declared.fault.QuiverFault.TheVariants.{DoubleName, TooMany, NotSquare}
-use Rattle.quiver.specs.Declarations.{Declaration, object, arrow, name_of, objects_of, letters_of, object_count, map_count, turns_from, named_by, naming_table, named_in, has_ends, IsDeclared}
-use Rattle.quiver.specs.Limits.{object_limit, map_limit}
-use Rattle.quiver.specs.Refusals.{is_named, object_fault, map_fault}
+use Rattle.quiver.proofs.Prelude.{◌≡◌, ◌≢◌, ℕ, zero, suc, ◌+◌, ◌<◌, ◌≤◌, Bool, true, false, cond, ◌&&◌, ◌||◌, not, nat_eq, nat_le, List, [], ◌∷◌, ◌++◌, length, map, get_or, Option, Some, None, is_some, AllPairs, sym, refl, ap, subst, ◌∙◌, arith, lt-ltb, leb-false, true≢false, list_all, lookup, bytes_eq, and_parts, and_from, nat_list_eq_equiv, map-append, list_all-append, all_pairs_push, Named, QuiverFault, DoubleName, TooMany, NotSquare, Declaration, object, arrow, name_of, objects_of, letters_of, object_count, map_count, turns_from, named_by, naming_table, named_in, has_ends, IsDeclared, object_limit, map_limit, is_named, object_fault, map_fault}
 use Rattle.quiver.proofs.Counts.{object_count-append, map_count-append}
 use Rattle.quiver.proofs.Letters.{ends_of}
 

@@ -1,10 +1,5 @@
 -- The definitions at a small quiver that was worked out by hand.
-use Rattle.std.proofs.Common.{◌≡◌, true, false, List, [], ◌∷◌, map, Some, None, refl}
-use Rattle.definitions.specs.Quiver.{signature_of, star}
-use Rattle.quiver.specs.declared.named.Named.TheVariants.{Object, Map}
-use Rattle.quiver.specs.declared.fault.QuiverFault.TheVariants.{DoubleName, NotSquare}
-use Rattle.quiver.specs.Declarations.{Declaration, object, arrow, quiver_of, named_in, object_count, map_count, letter_count, identity_in, object_name, letter_name, objects_first}
-use Rattle.quiver.specs.Refusals.{object_fault, map_fault}
+use Rattle.quiver.proofs.Prelude.{◌≡◌, true, false, List, [], ◌∷◌, map, Some, None, refl, signature_of, star, Object, Map, DoubleName, NotSquare, Declaration, object, arrow, quiver_of, named_in, object_count, map_count, letter_count, identity_in, object_name, letter_name, objects_first, object_fault, map_fault}
 
 -- the objects U and V, a map a : U -> V and a map p : V -> V that is its own adjoint: the letters are
 -- [U] = 0, [V] = 1, a = 2, a' = 3, p = 4. The names are the bytes of U, V, a and p.

@@ -1,16 +1,7 @@
 -- What the fields of a quiver say of its declarations.
-use Rattle.std.proofs.Common.{◌≡◌, ℕ, ◌<◌, List, [], ◌∷◌, length, map, get_or, Some, option_map, cond, slice_get, sym, refl, ap, subst, ap₂, ◌∙◌, string_bytes, Global, String}
-use Rattle.std.specs.Map.{lookup}
-use Rattle.std.specs.Str.{bytes_eq}
-use Rattle.std.proofs.lemmas.List.{length-map, get_or-map}
-use Rattle.std.proofs.lemmas.Option.{get_or_from_slice_get, slice_get-map}
-use Rattle.quiver.specs.declared.named.Named.{Named}
-use Rattle.quiver.specs.declared.named.Named.TheVariants.{Object, Map}
-use Rattle.quiver.specs.declared.quiver.Quiver.TheInside.{Inside}
+use Rattle.quiver.proofs.Prelude.{◌≡◌, ℕ, ◌<◌, List, [], ◌∷◌, length, map, get_or, Some, option_map, cond, slice_get, sym, refl, ap, subst, ap₂, ◌∙◌, string_bytes, Global, String, lookup, bytes_eq, length-map, get_or-map, get_or_from_slice_get, slice_get-map, Named, Object, Map, Inside, Declaration, name_of, object_count, letter_count, LetterEntry, no_object, no_letter, object_at, letter_at, name_at, named_in, IsDeclared, object_entry, letter_entry, names_in, letters_in, declared_as, declarations_by, declarations, IsKept}
 use Rattle.quiver.specs.declared.quiver.ObjectEntry as code_object
 use Rattle.quiver.specs.declared.quiver.LetterEntry as code_letter
-use Rattle.quiver.specs.Declarations.{Declaration, name_of, object_count, letter_count, LetterEntry, no_object, no_letter, object_at, letter_at, name_at, named_in, IsDeclared}
-use Rattle.quiver.specs.Tables.{object_entry, letter_entry, names_in, letters_in, declared_as, declarations_by, declarations, IsKept}
 use Rattle.quiver.proofs.Counts.{length-object_table, length-letter_table}
 
 name_declared : (letters : List LetterEntry) (name : List ℕ) (named : Named) → name_of (declared_as letters name named) ≡ name

@@ -1,12 +1,5 @@
 -- What a name stands for is an object or a letter of the quiver, with this name.
-use Rattle.std.proofs.Common.{◌≡◌, ℕ, zero, suc, ◌+◌, ◌<◌, Bool, true, false, cond, List, [], ◌∷◌, ◌++◌, length, map, get_or, Option, Some, sym, refl, ap, ◌∙◌, arith, subst}
-use Rattle.std.specs.Map.{lookup}
-use Rattle.std.specs.Str.{bytes_eq}
-use Rattle.std.proofs.lemmas.List.{map-append, length-map, get_or-append-add}
-use Rattle.std.proofs.lemmas.Slice.Eq.{bytes_eq-Decides}
-use Rattle.std.proofs.Math.Seq.{get_or-append_seam}
-use Rattle.quiver.specs.declared.named.Named.{Named}
-use Rattle.quiver.specs.Declarations.{Declaration, object, arrow, name_of, objects_of, letters_of, object_count, letter_count, named_by, object_table, letter_table, no_object, no_letter, object_at, letter_at, name_at, object_name, letter_name, named_in, IsNamed}
+use Rattle.quiver.proofs.Prelude.{◌≡◌, ℕ, zero, suc, ◌+◌, ◌<◌, Bool, true, false, cond, List, [], ◌∷◌, ◌++◌, length, map, get_or, Option, Some, sym, refl, ap, ◌∙◌, arith, subst, lookup, bytes_eq, map-append, length-map, get_or-append-add, bytes_eq-Decides, get_or-append_seam, Named, Declaration, object, arrow, name_of, objects_of, letters_of, object_count, letter_count, named_by, object_table, letter_table, no_object, no_letter, object_at, letter_at, name_at, object_name, letter_name, named_in, IsNamed}
 use Rattle.quiver.proofs.Counts.{object_count-append, letter_count-append, length-object_table, length-letter_table}
 use Rattle.quiver.proofs.Growth.{turn, names_from, objects_from, letters_from, object_table-append, letter_table-append}
 

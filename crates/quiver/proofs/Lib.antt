@@ -1,3 +1,4 @@
+mod Prelude
 mod Examples
 pub mod Counts
 pub mod Growth

@@ -1,9 +1,5 @@
 -- A signature that is found is the given one where both its objects are.
-use Rattle.std.proofs.Common.{◌≡◌, ℕ, Bool, true, ◌&&◌, nat_eq, Option, Some, None, option_map, ap, ap₂, eqb-true, eq-eqb}
-use Rattle.std.specs.Option.{option_eq}
-use Rattle.std.proofs.lemmas.Bool.{and_parts, and_from}
-use Rattle.quiver.specs.declared.named.Sig.{Sig}
-use Rattle.quiver.specs.Signatures.{ends_of}
+use Rattle.quiver.proofs.Prelude.{◌≡◌, ℕ, Bool, true, ◌&&◌, nat_eq, Option, Some, None, option_map, ap, ap₂, eqb-true, eq-eqb, option_eq, and_parts, and_from, Sig, ends_of}
 
 abbrev pub sig_eq : Sig → Sig → Bool
 sig_eq s t = nat_eq s.source.0 t.source.0 && nat_eq s.target.0 t.target.0

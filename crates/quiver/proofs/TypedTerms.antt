@@ -1,13 +1,5 @@
 -- Polynomials all of whose words are paths of one signature.
-use Rattle.std.proofs.Common.{◌≡◌, ◌≢◌, ℕ, ◌<◌, ℤ, List, [], length, get_or, Option, Some, None, IfNone, sym, subst, ◌∙◌}
-use Rattle.std.specs.List.{All}
-use Rattle.std.proofs.lemmas.List.Elements.{recursion_from_All}
-use Rattle.definitions.specs.Quiver.{Quiver, IsPath, IsTyped}
-use Rattle.definitions.proofs.Typed.{signature_from_path, typed_from_terms}
-use Rattle.nc_polynomial.specs.Shape.{IsShaped}
-use Rattle.nc_polynomial.proofs.Shapes.{recursion_from_IsDescending}
-use Rattle.nc_polynomial.proofs.Distinct.{words_listed, distinct-descending}
-use Rattle.quiver.specs.Signatures.{HasPaths}
+use Rattle.quiver.proofs.Prelude.{◌≡◌, ◌≢◌, ℕ, ◌<◌, ℤ, List, [], length, get_or, Option, Some, None, IfNone, sym, subst, ◌∙◌, All, recursion_from_All, Quiver, IsPath, IsTyped, signature_from_path, typed_from_terms, IsShaped, recursion_from_IsDescending, words_listed, distinct-descending, HasPaths}
 
 pub if_none : {A P : Type 0} (o : Option A) → P → IfNone o P
 if_none None p = p

@@ -1,27 +1,7 @@
 -- What `refute` owes: one ending, its status, and what its verdicts mean.
-use Rattle.std.proofs.Common.{◌≡◌, ◌⊎◌, inl, inr, ℕ, List, [], refl, sym, ap, subst, ◌∙◌}
-use Rattle.std.specs.List.{All, AllZip}
-use Rattle.matrix_models.specs.declared.model.Model.{Model}
-use Rattle.adjoint_rules.specs.declared.problem.Problem.{Problem}
-use Rattle.adjoint_rules.specs.Claims.{claim_numbers}
-use Rattle.model_candidates.specs.Candidates.{all_candidate_count, NoneBreaks}
-use Rattle.model_search.specs.LeastBreaking.{LeastBreaks}
-use Rattle.model_search.proofs.LeastBreaking.{least_once, none_least, least_or_none, least_refutes, least_means}
-use Rattle.report_text.specs.declared.verdict.Verdict.{Verdict}
+use Rattle.refute_command.proofs.Prelude.{◌≡◌, ◌⊎◌, inl, inr, ℕ, List, [], refl, sym, ap, subst, ◌∙◌, All, AllZip, Model, Problem, claim_numbers, all_candidate_count, NoneBreaks, LeastBreaks, least_once, none_least, least_or_none, least_refutes, least_means, Verdict, report_of, status_of, IsVerdictOver, Ending, OverStatement, IsStated, IsItsOwnEvidence, declared_names_are_names, IsSearchedOn, refuted, not_refuted, AnswersSearch, SearchMeans, PrintsSearched, SaysSearched, OwesEnding, owed_over, over_stated, verdicts_status, AllZip-unique, zip_ends, AllZip-weaker, zip_right}
 use Rattle.report_text.specs.declared.verdict.Verdict.TheVariants as verdict
-use Rattle.report_text.specs.Report.{report_of, status_of, IsVerdictOver}
-use Rattle.command_shape.specs.Ending.{Ending}
-use Rattle.stated_problem.specs.Statement.{OverStatement}
-use Rattle.stated_problem.specs.Stated.{IsStated}
-use Rattle.report_readback.specs.OwnEvidence.{IsItsOwnEvidence}
-use Rattle.report_readback.proofs.Declared.{declared_names_are_names}
 use Rattle.refute_command.proofs.OwnEvidence.{searched_is_evidence}
-use Rattle.refute_command.specs.Answers.{IsSearchedOn, refuted, not_refuted, AnswersSearch}
-use Rattle.refute_command.specs.Says.{SearchMeans, PrintsSearched, SaysSearched}
-use Rattle.stated_problem.proofs.Owed.{OwesEnding, owed_over}
-use Rattle.stated_problem.proofs.Over.{over_stated}
-use Rattle.report_text.proofs.Statuses.{verdicts_status}
-use Rattle.lists.proofs.Zips.{AllZip-unique, zip_ends, AllZip-weaker, zip_right}
 
 -- one verdict on each claim
 module _ (problem : Problem) (seed : ℕ) where

@@ -1,3 +1,4 @@
+mod Prelude
 mod OwnEvidence
 mod Said
 pub mod Answered

@@ -1,25 +1,6 @@
 -- The report of `refute` is its own evidence.
-use Rattle.std.proofs.Common.{◌≡◌, ◌≤◌, ℕ, List, [], ◌∷◌, length, refl, sym, ap, ◌∙◌, subst, arith, IsTrue}
-use Rattle.std.specs.List.{All, AllZip, list_all}
-use Rattle.std.proofs.lemmas.List.Elements.{All-nil, All-cons, All-weaker}
-use Rattle.std.proofs.lemmas.List.FromFn.{length-range_with_len}
-use Rattle.std.proofs.lemmas.Slice.Zip.{AllZip-long}
-use Rattle.matrix_models.specs.declared.model.Model.{Model}
-use Rattle.adjoint_rules.specs.declared.problem.Problem.{Problem}
-use Rattle.adjoint_rules.specs.Claims.{claim_numbers}
-use Rattle.model_checker.specs.Models.{Refutes}
-use Rattle.model_search.proofs.LeastBreaking.{least_refutes}
-use Rattle.block_text.specs.Back.{is_named}
-use Rattle.model_text.specs.Back.{IsWritableModel}
-use Rattle.report_text.specs.declared.verdict.Verdict.{Verdict}
+use Rattle.refute_command.proofs.Prelude.{◌≡◌, ◌≤◌, ℕ, List, [], ◌∷◌, length, refl, sym, ap, ◌∙◌, subst, arith, IsTrue, All, AllZip, list_all, All-nil, All-cons, All-weaker, length-range_with_len, AllZip-long, Model, Problem, claim_numbers, Refutes, least_refutes, is_named, IsWritableModel, Verdict, report_of, proved_in, IsWritableVerdict, refuted_in, IsItsOwnEvidence, breaking_candidates_are_writable, search_is_evidence, IsSearchedOn, refuted, not_refuted}
 use Rattle.report_text.specs.declared.verdict.Verdict.TheVariants as verdict
-use Rattle.report_text.specs.Report.{report_of}
-use Rattle.report_readback.specs.ReadBack.{proved_in, IsWritableVerdict}
-use Rattle.report_readback.specs.ModelsReadBack.{refuted_in}
-use Rattle.report_readback.specs.OwnEvidence.{IsItsOwnEvidence}
-use Rattle.report_readback.proofs.WritableCandidates.{breaking_candidates_are_writable}
-use Rattle.report_readback.proofs.OwnEvidence.{search_is_evidence}
-use Rattle.refute_command.specs.Answers.{IsSearchedOn, refuted, not_refuted}
 
 module _ (problem : Problem) (seed : ℕ) (names : IsTrue (list_all is_named problem.parts.quiver)) where
   -- a model that can be written, and that refutes its claim

@@ -1,13 +1,5 @@
 -- The verdicts on claims, one after another, by the candidates that were found for them.
-use Rattle.std.proofs.Common.{◌≡◌, ℕ, List, [], ◌∷◌, ◌++◌, Option, IfSome, IfNone, refl, sym, subst, ◌∙◌, append_assoc, append-nil}
-use Rattle.std.specs.List.{AllZip}
-use Rattle.adjoint_rules.specs.declared.problem.Problem.{Problem}
-use Rattle.model_candidates.specs.Candidates.{IsLeastBreaking, NoneBreaks}
-use Rattle.model_search.specs.declared.found.Found.{Found}
-use Rattle.model_search.specs.LeastBreaking.{IsFoundFor}
-use Rattle.report_text.specs.declared.verdict.Verdict.{Verdict}
-use Rattle.lists.proofs.Zips.{zip_push}
-use Rattle.refute_command.specs.Answers.{IsSearchedOn}
+use Rattle.refute_command.proofs.Prelude.{◌≡◌, ℕ, List, [], ◌∷◌, ◌++◌, Option, IfSome, IfNone, refl, sym, subst, ◌∙◌, append_assoc, append-nil, AllZip, Problem, IsLeastBreaking, NoneBreaks, Found, IsFoundFor, Verdict, zip_push, IsSearchedOn}
 
 zip_both : {A B : Type 0} (R S : A → B → Type 0) (xs : List A) (ys : List B) → AllZip R xs ys → AllZip S xs ys → AllZip (λ x y. R x y × S x y) xs ys
 zip_both R S [] [] one other = tt

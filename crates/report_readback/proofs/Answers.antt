@@ -1,30 +1,7 @@
 -- The evidence of a derived claim is accepted, or a limit is passed in adding it up.
-use Rattle.std.proofs.Common.{◌≡◌, ◌⊎◌, inl, inr, ℕ, List, [], ◌∷◌, sym, subst, length}
-use Rattle.std.specs.List.{All}
-use Rattle.std.proofs.lemmas.List.Elements.{All-nil, All-cons, All-head, All-tail}
-use Rattle.traced_rows.specs.declared.evidence.Evidence.{Evidence}
+use Rattle.report_readback.proofs.Prelude.{◌≡◌, ◌⊎◌, inl, inr, ℕ, List, [], ◌∷◌, sym, subst, length, All, All-nil, All-cons, All-head, All-tail, Evidence, Format, IsEvidenceOf, IsNumberUpTo, length-polynomials, Refusal, IsMemory, evidence_is_judged, Problem, polynomials, claim_at, claim_numbers, Budget, setting_of, Outcome, AreOutcomesOf, IsCertificateWithin, IsLemmaCertificateWithin, IsWithinLimits, evidence_fits, IsOutcomeAt, certificate_adds_up, derived_in, PassesLimit, AcceptsOf, RefusesOf, IsAnsweredWithinLimits, DerivedEvidenceIsAnswered, ReportedEvidenceIsAnswered}
 use Rattle.traced_rows.specs.declared.evidence.Evidence.TheVariants as evidence
-use Rattle.traced_rows.specs.declared.evidence.Format.{Format}
-use Rattle.traced_rows.specs.LemmaRows.{IsEvidenceOf}
-use Rattle.cofactor_checker.specs.Rows.{IsNumberUpTo}
-use Rattle.cofactor_checker.proofs.RowSums.{length-polynomials}
-use Rattle.cofactor_checker.specs.declared.refusal.Refusal.{Refusal}
-use Rattle.cofactor_checker.specs.Acceptance.{IsMemory}
-use Rattle.cofactor_checker.proofs.Judged.{evidence_is_judged}
-use Rattle.adjoint_rules.specs.declared.problem.Problem.{Problem}
-use Rattle.adjoint_rules.specs.Problem.{polynomials}
-use Rattle.adjoint_rules.specs.Claims.{claim_at, claim_numbers}
-use Rattle.traced_completion.specs.declared.budget.Budget.{Budget}
-use Rattle.traced_completion.specs.PlainRun.{setting_of}
-use Rattle.claim_decider.specs.declared.outcome.Outcome.{Outcome}
 use Rattle.claim_decider.specs.declared.outcome.Outcome.TheVariants as outcome
-use Rattle.claim_decider.specs.Decided.{AreOutcomesOf}
-use Rattle.outcome_laws.specs.EvidenceLimits.{IsCertificateWithin, IsLemmaCertificateWithin, IsWithinLimits}
-use Rattle.outcome_laws.proofs.EvidenceFits.{evidence_fits}
-use Rattle.outcome_laws.specs.Meanings.{IsOutcomeAt}
-use Rattle.outcome_laws.proofs.DerivedClaims.{certificate_adds_up}
-use Rattle.report_readback.specs.ReadBack.{derived_in}
-use Rattle.report_readback.specs.Answered.{PassesLimit, AcceptsOf, RefusesOf, IsAnsweredWithinLimits, DerivedEvidenceIsAnswered, ReportedEvidenceIsAnswered}
 use Rattle.report_readback.proofs.ClaimNumbers.{numbers_there}
 use Rattle.report_readback.proofs.PlainAnswers.{Polys, plain_answer}
 use Rattle.report_readback.proofs.LemmaAnswers.{lemmas_certificate_answer}

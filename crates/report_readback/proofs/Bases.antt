@@ -1,21 +1,5 @@
 -- The block of a claim that isn't derivable is a block of another kind.
-use Rattle.std.proofs.Common.{◌≡◌, ℕ, List, [], ◌∷◌, ◌++◌, refl, sym, ap, ◌∙◌, map, codes, IsTrue}
-use Rattle.std.specs.Prelude.{decimal}
-use Rattle.std.specs.List.{All, list_all, flat_map}
-use Rattle.std.proofs.lemmas.List.{append-nil, append_assoc}
-use Rattle.std.proofs.lemmas.List.Elements.{All-nil, All-cons, All-append, All-map, All-weaker}
-use Rattle.nc_polynomial.specs.declared.poly.Poly.{Poly}
-use Rattle.quiver.specs.Declarations.{Declaration, IsDeclared}
-use Rattle.traced_rows.specs.declared.evidence.Format.TheVariants.{Lemmas}
-use Rattle.block_text.specs.Tokens.{tokens_of}
-use Rattle.block_text.specs.Written.{poly_text}
-use Rattle.block_text.specs.Back.{other, is_named, IsLineText, ended, IsBodyLine}
-use Rattle.certificate_text.specs.Back.{part_text, IsPart}
-use Rattle.block_text.proofs.PartsBack.{begins_no_end}
-use Rattle.block_text.proofs.PolysBack.{poly_is_line}
-use Rattle.block_text.proofs.TextsBack.{literal, line_text-append}
-use Rattle.block_lines.specs.Written.{rule_line, basis_text}
-use Rattle.quiver.specs.Over.{IsPolyOver}
+use Rattle.report_readback.proofs.Prelude.{◌≡◌, ℕ, List, [], ◌∷◌, ◌++◌, refl, sym, ap, ◌∙◌, map, codes, IsTrue, decimal, All, list_all, flat_map, append-nil, append_assoc, All-nil, All-cons, All-append, All-map, All-weaker, Poly, Declaration, IsDeclared, Lemmas, tokens_of, poly_text, other, is_named, IsLineText, ended, IsBodyLine, part_text, IsPart, begins_no_end, poly_is_line, literal, line_text-append, rule_line, basis_text, IsPolyOver}
 use Rattle.report_readback.proofs.Numerals.{decimal_is_line}
 
 -- `claim N`

@@ -1,10 +1,5 @@
 -- The numbers of the claims of a problem.
-use Rattle.std.proofs.Common.{◌<◌, arith, length}
-use Rattle.std.specs.List.{All}
-use Rattle.std.proofs.lemmas.List.FromFn.{length-range_with_len, get_or-range_with_len}
-use Rattle.cofactor_checker.specs.Rows.{IsNumberUpTo}
-use Rattle.adjoint_rules.specs.declared.problem.Problem.{Problem}
-use Rattle.adjoint_rules.specs.Claims.{claim_numbers}
+use Rattle.report_readback.proofs.Prelude.{◌<◌, arith, length, All, length-range_with_len, get_or-range_with_len, IsNumberUpTo, Problem, claim_numbers}
 
 pub numbers_there : (problem : Problem) → All (IsNumberUpTo (length problem.parts.claims)) (claim_numbers problem)
 numbers_there problem = λ k d below.

@@ -1,33 +1,6 @@
 -- Each declaration of a text has the name of a token.
-use Rattle.std.proofs.Common.{◌≡◌, true, List, [], ◌∷◌, ◌++◌, refl, sym, ap, subst, ◌∙◌}
-use Rattle.std.specs.Prelude.{map}
-use Rattle.std.specs.List.{flat_map, list_all}
-use Rattle.std.specs.Str.{chars}
-use Rattle.std.proofs.lemmas.List.Folds.{list_all-append}
-use Rattle.std.proofs.lemmas.Str.{scalars-chars}
-use Rattle.quiver.specs.Declarations.{Declaration, name_of, object, arrow}
-use Rattle.statement_tokens.specs.declared.token.Token.{Token}
-use Rattle.statement_tokens.specs.declared.language.Language.{Language}
-use Rattle.statement_tokens.specs.Language.{language_of}
-use Rattle.statement_syntax.specs.declared.tree.Name.{Name}
-use Rattle.statement_syntax.specs.declared.tree.Statement.{Statement}
-use Rattle.statement_syntax.specs.declared.tree.StatementKind.{StatementKind}
-use Rattle.statement_syntax.specs.declared.line.ListWord.TheVariants.{Object, Solve, Eliminate}
-use Rattle.statement_syntax.specs.declared.line.SidesWord.TheVariants.{Assume, Claim}
-use Rattle.statement_syntax.specs.declared.line.PairWord.TheVariants.{Pinv, Inverse, Inner}
-use Rattle.statement_syntax.specs.Grammar.{names_tokens, Stated, listed, mapped, sides, paired, projected, by_degree, by_weight, modelled, second_language, stated_tokens, StatedLine, file_tokens}
-use Rattle.statement_syntax.specs.Tree.{is_self, stated_kind, file_tree}
-use Rattle.statement_syntax.specs.Places.{bare_names, bare_stated}
-use Rattle.statement_tokens.proofs.Scanning.{spot}
-use Rattle.statement_tokens.proofs.TokenLaws.{read_are}
-use Rattle.statement_syntax.proofs.Spelled.{IsToken, AllKinds, AllKinds-split, tokens_are}
-use Rattle.statement_syntax.proofs.Moved.{kinds}
-use Rattle.statement_syntax.proofs.StatedKinds.{kinds-append}
-use Rattle.statement_syntax.proofs.BareTokens.{AreTokensOf, AllSpelled, file_are}
-use Rattle.statement_names.specs.Numbered.{objects_in, maps_in, declared_objects, declarations_of}
-use Rattle.abbreviations.specs.Names.{object_of}
-use Rattle.block_text.specs.Back.{is_named}
-use Rattle.report_readback.specs.Names.{DeclaredNamesAreNames}
+use Rattle.report_readback.proofs.Prelude.{◌≡◌, true, List, [], ◌∷◌, ◌++◌, refl, sym, ap, subst, ◌∙◌, map, flat_map, list_all, chars, list_all-append, scalars-chars, Declaration, object, arrow, Token, Language, language_of, Name, Statement, StatementKind, Object, Solve, Eliminate, Assume, Claim, Pinv, Inverse, Inner, names_tokens, Stated, listed, mapped, sides, paired, projected, by_degree, by_weight, modelled, second_language, stated_tokens, StatedLine, file_tokens, is_self, stated_kind, file_tree, bare_names, bare_stated, spot, read_are, IsToken, AllKinds, AllKinds-split, tokens_are, kinds, kinds-append, AreTokensOf, AllSpelled, file_are, objects_in, maps_in, declared_objects, declarations_of, object_of, is_named, DeclaredNamesAreNames}
+use Rattle.quiver.specs.Declarations.{name_of}
 use Rattle.report_readback.proofs.Spellings.{spelled_is_name}
 
 abbrev AreNamed : List Declaration → Type 0

@@ -1,28 +1,8 @@
 -- The head line of a verdict is a comment.
-use Rattle.std.proofs.Common.{◌≡◌, ℕ, List, ◌++◌, Option, Some, None, refl, codes, IsTrue}
-use Rattle.std.specs.Prelude.{decimal}
-use Rattle.std.specs.Fmt.{signed_decimal}
-use Rattle.std.specs.List.{list_all}
-use Rattle.coef_int.specs.declared.Overflow.{Overflow}
-use Rattle.nc_polynomial.specs.Limits.{word_limit, term_limit}
-use Rattle.cofactor_trace.specs.Limits.{row_limit, letter_limit}
-use Rattle.quiver.specs.Declarations.{Declaration, IsDeclared}
-use Rattle.traced_rows.specs.declared.evidence.Evidence.{Evidence}
-use Rattle.cofactor_trace.specs.declared.halt.Halt.{Halt}
-use Rattle.cofactor_trace.specs.declared.halt.Cause.{Cause}
+use Rattle.report_readback.proofs.Prelude.{◌≡◌, ℕ, List, ◌++◌, Option, Some, None, refl, codes, IsTrue, decimal, signed_decimal, list_all, Overflow, word_limit, term_limit, row_limit, letter_limit, Declaration, IsDeclared, Evidence, Halt, Cause, Place, denominator_of, comment, is_named, IsLineText, part_text, nothing_is_line, word_is_line, literal, line_text-append, Verdict, row_count, denominator_text, proved_text, overflow_text, cause_text, place_text, least_text, undecided_text, said_of, head_line, IsLeastOver, IsWritableVerdict}
 use Rattle.cofactor_trace.specs.declared.halt.Cause.TheVariants as cause
-use Rattle.cofactor_trace.specs.declared.halt.Place.{Place}
 use Rattle.cofactor_trace.specs.declared.halt.Place.TheVariants as place
-use Rattle.traced_rows.specs.LemmaRows.{denominator_of}
-use Rattle.block_text.specs.Back.{comment, is_named, IsLineText}
-use Rattle.certificate_text.specs.Back.{part_text}
-use Rattle.block_text.proofs.PolysBack.{nothing_is_line, word_is_line}
-use Rattle.block_text.proofs.TextsBack.{literal, line_text-append}
-use Rattle.report_text.specs.declared.verdict.Verdict.{Verdict}
 use Rattle.report_text.specs.declared.verdict.Verdict.TheVariants as verdict
-use Rattle.report_text.specs.Heads.{row_count, denominator_text, proved_text, overflow_text, cause_text, place_text, least_text, undecided_text, said_of, head_line}
-use Rattle.report_text.specs.Report.{IsLeastOver}
-use Rattle.report_readback.specs.ReadBack.{IsWritableVerdict}
 use Rattle.report_readback.proofs.Numerals.{either, decimal_is_line, signed_is_line}
 
 -- a text and then a number

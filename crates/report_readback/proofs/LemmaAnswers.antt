@@ -1,24 +1,8 @@
 -- A certificate with lemmas that names the claim, is within the limits and adds up with polynomials of the program is refused
 -- for a limit alone, or for want of memory.
-use Rattle.std.proofs.Common.{◌≡◌, ◌+◌, ◌⊎◌, inl, inr, ℕ, suc, List, [], ◌∷◌, ◌++◌, Some, arith, refl, sym, ap, ap₂, ◌∙◌, subst, length}
-use Rattle.std.specs.List.{All}
-use Rattle.std.proofs.lemmas.Int.{ints}
-use Rattle.std.proofs.lemmas.List.{length-append}
-use Rattle.std.proofs.lemmas.List.Elements.{All-head, All-tail, All-pop}
-use Rattle.definitions.specs.Poly.{Term, coefficient_of, poly_multiple, SamePolynomial}
-use Rattle.nc_polynomial.specs.Shape.{IsCanonical}
-use Rattle.traced_rows.specs.declared.evidence.Lemma.{Lemma}
-use Rattle.traced_rows.specs.declared.evidence.LemmaCertificate.{LemmaCertificate}
-use Rattle.cofactor_trace.specs.GatheringLaws.{NamesWithin, NameEarlier}
-use Rattle.traced_rows.specs.LemmaRows.{AreOfLemmas, IsShareOf, IsEvidenceOf}
-use Rattle.cofactor_checker.specs.Rows.{IsNumberUpTo}
-use Rattle.cofactor_checker.specs.declared.refusal.Refusal.{Refusal}
+use Rattle.report_readback.proofs.Prelude.{◌≡◌, ◌+◌, ◌⊎◌, inl, inr, ℕ, suc, List, [], ◌∷◌, ◌++◌, Some, arith, refl, sym, ap, ap₂, ◌∙◌, subst, length, All, ints, length-append, All-head, All-tail, All-pop, Term, coefficient_of, poly_multiple, SamePolynomial, IsCanonical, Lemma, LemmaCertificate, NamesWithin, NameEarlier, AreOfLemmas, IsShareOf, IsEvidenceOf, IsNumberUpTo, Refusal, plain_sum, lemma_polynomials, RefusesLemmas, goal_claim, all_polynomials, IsPositive, IsFirstLoose, HasLooseGoal, RefusesBlock, RefusesLemmaCertificate, sums_agree, IsLemmaWithin, IsLemmaCertificateWithin}
 use Rattle.cofactor_checker.specs.declared.refusal.Refusal.TheVariants as refusal
-use Rattle.cofactor_checker.specs.PlainRows.{plain_sum}
-use Rattle.cofactor_checker.specs.Lemmas.{lemma_polynomials, RefusesLemmas, row_count}
-use Rattle.cofactor_checker.specs.LemmaAcceptance.{goal_claim, all_polynomials, IsPositive, IsFirstLoose, HasLooseGoal, RefusesBlock, RefusesLemmaCertificate}
-use Rattle.cofactor_checker.proofs.LemmaSums.{sums_agree}
-use Rattle.outcome_laws.specs.EvidenceLimits.{IsLemmaWithin, IsLemmaCertificateWithin}
+use Rattle.cofactor_checker.specs.Lemmas.{row_count}
 use Rattle.report_readback.proofs.PlainAnswers.{Polys, item, none_differs}
 use Rattle.report_readback.proofs.OneLemma.{Answers, rows_answer, polynomial_is, lemma_answer}
 

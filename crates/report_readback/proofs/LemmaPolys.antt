@@ -1,33 +1,8 @@
 -- The lemmas of a derived claim's evidence are rules, and so polynomials of the program.
-use Rattle.std.proofs.Common.{◌≡◌, ℕ, zero, suc, List, [], ◌∷◌, Ok, arith, ap, ◌∙◌, subst, get_or}
-use Rattle.std.specs.List.{All}
-use Rattle.std.proofs.lemmas.List.Elements.{All-nil, All-map}
-use Rattle.definitions.specs.Poly.{Term}
-use Rattle.definitions.specs.Combination.{generator_at}
-use Rattle.nc_polynomial.specs.Shape.{IsCanonical}
-use Rattle.nc_polynomial.proofs.Shapes.{IsDescending-from_recursion}
-use Rattle.traced_rows.specs.declared.Made.{Made}
+use Rattle.report_readback.proofs.Prelude.{◌≡◌, ℕ, zero, suc, List, [], ◌∷◌, Ok, arith, ap, ◌∙◌, subst, get_or, All, All-nil, All-map, Term, generator_at, IsCanonical, IsDescending-from_recursion, Made, Format, LemmaCertificate, lemma_rules, lemma_polys, AreOfLemmas, IsEvidenceOf, Rule, polynomials_of, Problem, polynomials, claim_at, Budget, setting_of, record_of, evidence_of_zero, LemmaCertificateAddsUp, IsOutcomeAt, gathering_adds_up, derived_claims_add_up, Way, no_terms, expanded, gathered, left_over, given_up, with_run, way}
 use Rattle.traced_rows.specs.declared.evidence.Evidence.TheVariants as evidence
-use Rattle.traced_rows.specs.declared.evidence.Format.{Format}
 use Rattle.traced_rows.specs.declared.evidence.Format.TheVariants as format
-use Rattle.traced_rows.specs.declared.evidence.LemmaCertificate.{LemmaCertificate}
-use Rattle.cofactor_trace.specs.Lemmas.{lemma_rules}
-use Rattle.cofactor_trace.specs.GatheringLaws.{lemma_polys}
-use Rattle.traced_rows.specs.LemmaRows.{AreOfLemmas, IsEvidenceOf}
-use Rattle.rule_reduce.specs.declared.rule.Rule.{Rule}
-use Rattle.rule_reduce.specs.RuleLists.{polynomials_of}
-use Rattle.adjoint_rules.specs.declared.problem.Problem.{Problem}
-use Rattle.adjoint_rules.specs.Problem.{polynomials}
-use Rattle.adjoint_rules.specs.Claims.{claim_at}
-use Rattle.traced_completion.specs.declared.budget.Budget.{Budget}
-use Rattle.traced_completion.specs.PlainRun.{setting_of}
 use Rattle.claim_decider.specs.declared.outcome.Outcome.TheVariants as outcome
-use Rattle.claim_decider.specs.Outcomes.{record_of, evidence_of_zero}
-use Rattle.cofactor_checker.specs.ProvedMeans.{LemmaCertificateAddsUp}
-use Rattle.outcome_laws.specs.Meanings.{IsOutcomeAt}
-use Rattle.outcome_laws.proofs.Derivations.{gathering_adds_up}
-use Rattle.outcome_laws.proofs.Meanings.{derived_claims_add_up}
-use Rattle.outcome_laws.proofs.OutcomeWays.{Way, no_terms, expanded, gathered, left_over, given_up, with_run, way}
 
 -- rules are polynomials of the program
 zero_is_canonical : IsCanonical []

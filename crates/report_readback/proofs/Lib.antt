@@ -1,3 +1,4 @@
+mod Prelude
 mod Spellings
 mod Tokens
 pub mod Declared

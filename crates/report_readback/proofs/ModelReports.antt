@@ -1,34 +1,6 @@
 -- A report is read as the models of the claims that are refuted.
-use Rattle.std.proofs.Common.{◌≡◌, ◌≤◌, ◌+◌, ℕ, suc, true, List, [], ◌∷◌, ◌++◌, arith, refl, sym, ap, ◌∙◌, subst, length, IsTrue}
-use Rattle.std.specs.List.{All, list_all}
-use Rattle.std.proofs.lemmas.List.{length-append, nil_from_length}
-use Rattle.std.proofs.lemmas.List.Elements.{All-nil, All-cons, All-head, All-tail}
-use Rattle.nc_polynomial.specs.declared.poly.Poly.{Poly}
-use Rattle.quiver.specs.Declarations.{Declaration, IsDeclared}
-use Rattle.matrix_models.specs.declared.model.Model.{Model}
-use Rattle.block_text.specs.Fault.{no_block}
-use Rattle.block_text.specs.Lines.{content, block_limit}
-use Rattle.block_text.specs.Tokens.{tokens_of}
-use Rattle.block_text.specs.Back.{is_whole, is_named, comment, other}
-use Rattle.block_lines.specs.Written.{basis_text}
-use Rattle.quiver.specs.Over.{IsPolyOver}
-use Rattle.certificate_text.specs.Back.{part_text}
-use Rattle.block_text.proofs.ContentBack.{no_text, whole_append}
-use Rattle.block_text.specs.Blocks.{own_in}
-use Rattle.block_text.specs.Texts.{none}
-use Rattle.block_text.proofs.PartsBack.{text_without_blocks, joined, inside_is_before_end, comment_is_text, other_is_text}
-use Rattle.lists.proofs.Zips.{zip_length}
-use Rattle.model_text.specs.ModelBounds.{model_value}
-use Rattle.model_text.specs.Models.{other_words, model_kind, HasModels, IsFirstFault}
-use Rattle.model_text.specs.Back.{IsWritableModel}
-use Rattle.model_text.proofs.ModelsBack.{model_is_whole, model_has}
-use Rattle.model_text.proofs.Reader.{reader}
-use Rattle.report_text.specs.declared.verdict.Verdict.{Verdict}
+use Rattle.report_readback.proofs.Prelude.{◌≡◌, ◌≤◌, ◌+◌, ℕ, suc, true, List, [], ◌∷◌, ◌++◌, arith, refl, sym, ap, ◌∙◌, subst, length, IsTrue, All, list_all, length-append, nil_from_length, All-nil, All-cons, All-head, All-tail, Poly, Declaration, IsDeclared, Model, no_block, content, block_limit, tokens_of, is_whole, is_named, comment, other, basis_text, IsPolyOver, part_text, no_text, whole_append, own_in, none, text_without_blocks, joined, inside_is_before_end, comment_is_text, other_is_text, zip_length, model_value, other_words, model_kind, HasModels, IsFirstFault, IsWritableModel, model_is_whole, model_has, reader, Verdict, head_line, block_text, report_from, report_of, IsWritableVerdict, IsReadAsModels, refuted_in, ReportsReadBackAsModels}
 use Rattle.report_text.specs.declared.verdict.Verdict.TheVariants as verdict
-use Rattle.report_text.specs.Heads.{head_line}
-use Rattle.report_text.specs.Report.{block_text, report_from, report_of}
-use Rattle.report_readback.specs.ReadBack.{IsWritableVerdict}
-use Rattle.report_readback.specs.ModelsReadBack.{IsReadAsModels, refuted_in, ReportsReadBackAsModels}
 use Rattle.report_readback.proofs.Heads.{told_of, told_is_line}
 use Rattle.report_readback.proofs.Bases.{basis_head, basis_lines, basis_is_part, basis_is}
 use Rattle.report_readback.proofs.SkippedEvidence.{IsSkipped, skipped_has_none, lines_go_on, certificates_are_others, evidence_is_skipped}

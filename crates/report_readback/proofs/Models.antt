@@ -1,27 +1,5 @@
 -- The block of a refuted claim is a block of another kind.
-use Rattle.std.proofs.Common.{◌≡◌, ◌<◌, ◌==◌, ℕ, Bool, true, false, List, [], ◌∷◌, ◌++◌, Option, Some, None, arith, refl, sym, ap, ap₂, ◌∙◌, map, get_or, codes, IsTrue, if◌then◌else◌}
-use Rattle.std.specs.Prelude.{decimal}
-use Rattle.std.specs.List.{All, list_all, flat_map, range_with_len}
-use Rattle.std.proofs.lemmas.Grind.{flat_map-append}
-use Rattle.std.proofs.lemmas.List.{append-nil, append_assoc}
-use Rattle.std.proofs.lemmas.List.Elements.{All-nil, All-cons, All-head, All-tail, All-append, All-map, All-weaker}
-use Rattle.std.proofs.lemmas.List.Folds.{flat_map-map}
-use Rattle.std.proofs.lemmas.List.FromFn.{length-range_with_len, get_or-range_with_len}
-use Rattle.quiver.specs.Declarations.{Declaration, IsDeclared, object_count, letter_count, object_name, letter_name}
-use Rattle.traced_rows.specs.declared.evidence.Format.TheVariants.{Lemmas}
-use Rattle.matrix_models.specs.Matrix.{Matrix, entry_at}
-use Rattle.matrix_models.specs.declared.model.Model.{Model}
-use Rattle.block_text.specs.Letters.{is_name}
-use Rattle.block_text.specs.Tokens.{tokens_of}
-use Rattle.block_text.specs.Back.{other, is_named, IsLineText, ended, IsBodyLine}
-use Rattle.certificate_text.specs.Back.{part_text, IsPart}
-use Rattle.block_text.proofs.LetterNames.{letter_is_spelled}
-use Rattle.block_text.proofs.NameBytes.{name_text}
-use Rattle.block_text.proofs.PartsBack.{begins_no_end}
-use Rattle.block_text.proofs.PolysBack.{nothing_is_line}
-use Rattle.block_text.proofs.TextsBack.{literal, line_text-append, plain_name}
-use Rattle.model_text.specs.Written.{between, entry_text, row_text, part_text as row_part, rows_text, sides_text, is_map, map_text, maps_text, model_text}
-use Rattle.model_text.proofs.ObjectNames.{object_is_named}
+use Rattle.report_readback.proofs.Prelude.{◌≡◌, ◌<◌, ◌==◌, ℕ, Bool, true, false, List, [], ◌∷◌, ◌++◌, Option, Some, None, arith, refl, sym, ap, ap₂, ◌∙◌, map, get_or, codes, IsTrue, if◌then◌else◌, decimal, All, list_all, flat_map, range_with_len, flat_map-append, append-nil, append_assoc, All-nil, All-cons, All-head, All-tail, All-append, All-map, All-weaker, flat_map-map, length-range_with_len, get_or-range_with_len, Declaration, IsDeclared, object_count, letter_count, object_name, letter_name, Lemmas, Matrix, entry_at, Model, is_name, tokens_of, other, is_named, IsLineText, ended, IsBodyLine, part_text, IsPart, letter_is_spelled, name_text, begins_no_end, nothing_is_line, literal, line_text-append, plain_name, between, entry_text, row_text, row_part, rows_text, sides_text, is_map, map_text, maps_text, model_text, object_is_named}
 use Rattle.report_readback.proofs.Bases.{claim_body, claim_is_body}
 use Rattle.report_readback.proofs.Numerals.{either, decimal_is_line}
 

@@ -1,11 +1,5 @@
 -- Numbers of whatever size are written as text without line ends.
-use Rattle.std.proofs.Common.{◌≡◌, ◌<◌, ◌+◌, ◌/◌, ◌%◌, ◌==◌, ℕ, zero, suc, ℤ, pos, negsuc, Bool, true, false, cond, List, [], ◌∷◌, arith, refl, codes}
-use Rattle.std.specs.Prelude.{decimal}
-use Rattle.std.specs.Fmt.{signed_decimal, digits, digits_onto, digit_glyph}
-use Rattle.std.specs.List.{list_all}
-use Rattle.std.proofs.lemmas.Bool.{lt-ltb, ne_eqb}
-use Rattle.block_text.specs.Back.{is_inside, IsLineText}
-use Rattle.block_text.proofs.TextsBack.{are_low, literal, line_text-append}
+use Rattle.report_readback.proofs.Prelude.{◌≡◌, ◌<◌, ◌+◌, ◌/◌, ◌%◌, ◌==◌, ℕ, zero, suc, ℤ, pos, negsuc, Bool, true, false, cond, List, [], ◌∷◌, arith, refl, codes, decimal, signed_decimal, digits, digits_onto, digit_glyph, list_all, lt-ltb, ne_eqb, is_inside, IsLineText, are_low, literal, line_text-append}
 
 -- low characters and no line ends
 record IsLow (text : List ℕ) : Type 0 where

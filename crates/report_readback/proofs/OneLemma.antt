@@ -1,42 +1,8 @@
 -- A lemma whose rows add up to its scale times a polynomial of the program is refused for a limit alone, or for want of memory.
-use Rattle.std.proofs.Common.{◌≡◌, ◌≢◌, ◌≤◌, ◌+◌, ◌⊎◌, inl, inr, ◌<ℤ◌, ◌*ℤ◌, ℕ, ℤ, pos, false, nat_lt, List, [], ◌∷◌, ◌++◌, Err, arith, refl, sym, ap, ◌∙◌, subst, length, map, get_or, int_div}
-use Rattle.std.specs.List.{All}
-use Rattle.std.specs.Int.{◌∣◌}
-use Rattle.std.specs.Int.RustNames.{unsigned_abs}
-use Rattle.std.proofs.Math.Nat.{dvd-mul_right}
-use Rattle.std.proofs.lemmas.Bool.Decides.{nat_tests}
-use Rattle.std.proofs.lemmas.Int.{ints, unsigned_abs-mul}
-use Rattle.std.proofs.lemmas.List.{length-append, length-map}
-use Rattle.std.proofs.lemmas.List.Elements.{All-head, All-tail, All-map}
-use Rattle.definitions.specs.Poly.{Term, coefficient_of, poly_multiple}
-use Rattle.definitions.specs.Combination.{Row}
-use Rattle.nc_polynomial.specs.declared.fault.SizeFault.{SizeFault}
+use Rattle.report_readback.proofs.Prelude.{◌≡◌, ◌≢◌, ◌≤◌, ◌+◌, ◌⊎◌, inl, inr, ◌<ℤ◌, ◌*ℤ◌, ℕ, ℤ, pos, false, nat_lt, List, [], ◌∷◌, ◌++◌, Err, arith, refl, sym, ap, ◌∙◌, subst, length, map, get_or, int_div, All, ◌∣◌, unsigned_abs, dvd-mul_right, nat_tests, ints, unsigned_abs-mul, length-append, length-map, All-head, All-tail, All-map, Term, coefficient_of, poly_multiple, Row, SizeFault, collected, DividesEach, sized, has_long_word, IsCanonical, coefficient_of-collected, descending-collected, nonzero-collected, scaled_by_nonzero, Descends, recursion_from_IsDescending, descending-scaled, nonzero-scaled, descending_unique, CertFrom, Lemma, IsWithin, NamesWithin, AddsUpTo, IsNumberUpTo, Refusal, place_of, plain_row, plain_rows, plain_sum, lemma_polynomial, IsLeastIndivisible, RefusesLemmaRows, RefusesLemma, IsMemory, sums_agree, no_rest, place-generator, place-lemma, quotient_back, word_limit, term_limit, PassesLimit}
 use Rattle.nc_polynomial.specs.declared.fault.PolyFault.TheVariants as fault
-use Rattle.nc_polynomial.specs.Collected.{collected}
-use Rattle.nc_polynomial.specs.Content.{DividesEach}
-use Rattle.nc_polynomial.specs.Faults.{sized, has_long_word}
-use Rattle.nc_polynomial.specs.Shape.{IsCanonical}
-use Rattle.nc_polynomial.proofs.CollectedTerms.{coefficient_of-collected, descending-collected, nonzero-collected}
-use Rattle.nc_polynomial.proofs.Kept.{scaled_by_nonzero}
-use Rattle.nc_polynomial.proofs.Shapes.{Descends, recursion_from_IsDescending, descending-scaled, nonzero-scaled}
-use Rattle.nc_polynomial.proofs.Unique.{descending_unique}
-use Rattle.traced_rows.specs.declared.evidence.CertFrom.{CertFrom}
 use Rattle.traced_rows.specs.declared.evidence.CertFrom.TheVariants as cert
-use Rattle.traced_rows.specs.declared.evidence.Lemma.{Lemma}
-use Rattle.cofactor_trace.specs.GatheringLaws.{IsWithin, NamesWithin}
-use Rattle.traced_rows.specs.LemmaRows.{AddsUpTo}
-use Rattle.cofactor_checker.specs.Rows.{IsNumberUpTo}
-use Rattle.cofactor_checker.specs.declared.refusal.Refusal.{Refusal}
 use Rattle.cofactor_checker.specs.declared.refusal.Refusal.TheVariants as refusal
-use Rattle.cofactor_checker.specs.PlainRows.{place_of, plain_row, plain_rows, plain_sum}
-use Rattle.cofactor_checker.specs.Lemmas.{lemma_polynomial, IsLeastIndivisible, RefusesLemmaRows, RefusesLemma}
-use Rattle.cofactor_checker.specs.Acceptance.{IsMemory}
-use Rattle.cofactor_checker.proofs.LemmaSums.{sums_agree}
-use Rattle.cofactor_checker.proofs.LemmaTests.{no_rest}
-use Rattle.cofactor_checker.proofs.Places.{place-generator, place-lemma}
-use Rattle.cofactor_checker.proofs.Terms.{quotient_back}
-use Rattle.nc_polynomial.specs.Limits.{word_limit, term_limit}
-use Rattle.report_readback.specs.Answered.{PassesLimit}
 use Rattle.report_readback.proofs.PlainAnswers.{Polys, none_lacks}
 
 -- rows

@@ -1,26 +1,6 @@
 -- The report of the outcomes of a problem is read as the evidence of the claims that are derived.
-use Rattle.std.proofs.Common.{◌≡◌, ◌≤◌, inl, inr, ℕ, List, [], ◌∷◌, arith, refl, sym, ap, ◌∙◌, subst, length}
-use Rattle.std.specs.List.{All}
-use Rattle.std.proofs.lemmas.List.Elements.{All-nil, All-cons, All-head, All-tail}
-use Rattle.std.proofs.lemmas.List.FromFn.{length-range_with_len}
-use Rattle.std.proofs.lemmas.Slice.Zip.{AllZip-long}
-use Rattle.quiver.specs.Declarations.{Declaration}
-use Rattle.traced_rows.specs.declared.evidence.Format.{Format}
-use Rattle.cofactor_trace.specs.declared.halt.Halt.{Halt}
-use Rattle.cofactor_checker.specs.Rows.{IsNumberUpTo}
-use Rattle.adjoint_rules.specs.declared.problem.Problem.{Problem}
-use Rattle.adjoint_rules.specs.Claims.{claim_at, claim_numbers}
-use Rattle.traced_completion.specs.declared.budget.Budget.{Budget}
-use Rattle.traced_completion.specs.PlainRun.{setting_of}
-use Rattle.claim_decider.specs.declared.outcome.Outcome.{Outcome}
+use Rattle.report_readback.proofs.Prelude.{◌≡◌, ◌≤◌, inl, inr, ℕ, List, [], ◌∷◌, arith, refl, sym, ap, ◌∙◌, subst, length, All, All-nil, All-cons, All-head, All-tail, length-range_with_len, AllZip-long, Declaration, Format, Halt, IsNumberUpTo, Problem, claim_at, claim_numbers, Budget, setting_of, Outcome, IsOutcomeOf, AreOutcomesOf, evidence_fits, outcomes_have_letters, last_rules_have_letters, Verdict, report_of, IsLeastOver, IsReadAs, proved_in, IsWritableVerdict, IsVerdictOfHalt, IsVerdictOf, AreVerdictsOf, derived_in, OutcomeReportsReadBack}
 use Rattle.claim_decider.specs.declared.outcome.Outcome.TheVariants as outcome
-use Rattle.claim_decider.specs.Outcomes.{IsOutcomeOf}
-use Rattle.claim_decider.specs.Decided.{AreOutcomesOf}
-use Rattle.outcome_laws.proofs.EvidenceFits.{evidence_fits}
-use Rattle.outcome_laws.proofs.OutcomeLetters.{outcomes_have_letters, last_rules_have_letters}
-use Rattle.report_text.specs.declared.verdict.Verdict.{Verdict}
-use Rattle.report_text.specs.Report.{report_of, IsLeastOver}
-use Rattle.report_readback.specs.ReadBack.{IsReadAs, proved_in, IsWritableVerdict, IsVerdictOfHalt, IsVerdictOf, AreVerdictsOf, derived_in, OutcomeReportsReadBack}
 use Rattle.report_readback.proofs.ClaimNumbers.{numbers_there}
 use Rattle.report_readback.proofs.Reports.{reports_read_back}
 use Rattle.report_readback.proofs.Writable.{evidence_writable}

@@ -1,29 +1,5 @@
 -- A report on a statement is its own evidence.
-use Rattle.std.proofs.Common.{◌≡◌, ◌≤◌, ℕ, List, [], length, sym, subst, IsTrue}
-use Rattle.std.specs.List.{All, list_all}
-use Rattle.std.proofs.lemmas.List.Elements.{All-nil}
-use Rattle.nc_polynomial.specs.declared.poly.Poly.{Poly}
-use Rattle.traced_rows.specs.declared.evidence.Evidence.{Evidence}
-use Rattle.traced_rows.specs.declared.evidence.Format.{Format}
-use Rattle.matrix_models.specs.declared.model.Model.{Model}
-use Rattle.adjoint_rules.specs.declared.problem.Problem.{Problem}
-use Rattle.adjoint_rules.specs.Claims.{claim_numbers}
-use Rattle.traced_completion.specs.declared.budget.Budget.{Budget}
-use Rattle.traced_completion.specs.PlainRun.{setting_of}
-use Rattle.claim_decider.specs.declared.outcome.Outcome.{Outcome}
-use Rattle.claim_decider.specs.Decided.{AreOutcomesOf, AreLastRules}
-use Rattle.model_checker.specs.Models.{Refutes}
-use Rattle.outcome_laws.proofs.OutcomeLetters.{last_rules_have_letters}
-use Rattle.block_text.specs.Lines.{block_limit}
-use Rattle.block_text.specs.Back.{is_named}
-use Rattle.model_text.specs.Back.{IsWritableModel}
-use Rattle.report_text.specs.declared.verdict.Verdict.{Verdict}
-use Rattle.quiver.specs.Over.{IsPolyOver}
-use Rattle.report_text.specs.Report.{report_of}
-use Rattle.report_readback.specs.ReadBack.{IsReadAs, proved_in, IsWritableVerdict, AreVerdictsOf}
-use Rattle.report_readback.specs.ModelsReadBack.{refuted_in}
-use Rattle.report_readback.specs.Answered.{IsAnsweredWithinLimits}
-use Rattle.report_readback.specs.OwnEvidence.{IsItsOwnEvidence}
+use Rattle.report_readback.proofs.Prelude.{◌≡◌, ◌≤◌, ℕ, List, [], length, sym, subst, IsTrue, All, list_all, All-nil, Poly, Evidence, Format, Model, Problem, claim_numbers, Budget, setting_of, Outcome, AreOutcomesOf, AreLastRules, Refutes, last_rules_have_letters, block_limit, is_named, IsWritableModel, Verdict, IsPolyOver, report_of, IsReadAs, proved_in, IsWritableVerdict, AreVerdictsOf, refuted_in, IsAnsweredWithinLimits, IsItsOwnEvidence}
 use Rattle.report_readback.proofs.Answers.{reported_evidence_is_answered}
 use Rattle.report_readback.proofs.Outcomes.{proved_is_derived, verdicts_writable, few_verdicts, outcome_reports_read_back}
 use Rattle.report_readback.proofs.Reports.{reports_read_back}

@@ -1,20 +1,6 @@
 -- A certificate that names the claim, is within the limits and adds up is refused for a limit alone, or for want of memory.
-use Rattle.std.proofs.Common.{◌≡◌, ◌⊎◌, inl, inr, ℕ, ℤ, List, arith, sym, ◌∙◌, subst, length, slice_get, Some}
-use Rattle.std.specs.List.{All}
-use Rattle.std.proofs.lemmas.Int.{ints}
-use Rattle.std.proofs.lemmas.List.Elements.{All-map}
-use Rattle.std.proofs.lemmas.Option.{slice_get_within, get_or_from_slice_get}
-use Rattle.definitions.specs.Poly.{coefficient_of, SamePolynomial}
-use Rattle.definitions.specs.Combination.{Row, IsCombination}
-use Rattle.traced_rows.specs.declared.certificate.Certificate.{Certificate}
-use Rattle.traced_rows.specs.Rows.{row_of, rows_of}
-use Rattle.cofactor_checker.specs.declared.refusal.Refusal.{Refusal}
+use Rattle.report_readback.proofs.Prelude.{◌≡◌, ◌⊎◌, inl, inr, ℕ, ℤ, List, arith, sym, ◌∙◌, subst, length, slice_get, Some, All, ints, All-map, slice_get_within, get_or_from_slice_get, coefficient_of, SamePolynomial, Row, IsCombination, Certificate, row_of, rows_of, Refusal, IsNumberUpTo, LacksGenerator, IsLeastDifference, claim_of, Refuses, IsMemory, IsCertificateWithin, PassesLimit}
 use Rattle.cofactor_checker.specs.declared.refusal.Refusal.TheVariants as refusal
-use Rattle.cofactor_checker.specs.Rows.{IsNumberUpTo, LacksGenerator}
-use Rattle.cofactor_checker.specs.Difference.{IsLeastDifference}
-use Rattle.cofactor_checker.specs.Acceptance.{claim_of, Refuses, IsMemory}
-use Rattle.outcome_laws.specs.EvidenceLimits.{IsCertificateWithin}
-use Rattle.report_readback.specs.Answered.{PassesLimit}
 
 abbrev pub Polys : Type 0
 Polys = List (List (ℤ × List ℕ))

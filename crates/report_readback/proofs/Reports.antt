@@ -1,29 +1,8 @@
 -- A report is comments, certificates and blocks of other kinds, and is read as its certificates.
-use Rattle.std.proofs.Common.{◌≡◌, ◌≤◌, ℕ, suc, List, [], ◌∷◌, ◌++◌, arith, refl, sym, ap, ap₂, ◌∙◌, subst, length, IsTrue}
-use Rattle.std.specs.List.{All, list_all, flat_map}
-use Rattle.std.proofs.lemmas.Grind.{flat_map-append}
-use Rattle.std.proofs.lemmas.List.{append-nil, append_assoc, nil_from_length}
-use Rattle.std.proofs.lemmas.List.Elements.{All-nil, All-cons, All-head, All-tail, All-append}
-use Rattle.std.proofs.lemmas.Slice.Zip.{AllZip-long}
-use Rattle.nc_polynomial.specs.declared.poly.Poly.{Poly}
-use Rattle.quiver.specs.Declarations.{Declaration, IsDeclared}
-use Rattle.traced_rows.specs.declared.evidence.Evidence.{Evidence}
+use Rattle.report_readback.proofs.Prelude.{◌≡◌, ◌≤◌, ℕ, suc, List, [], ◌∷◌, ◌++◌, arith, refl, sym, ap, ap₂, ◌∙◌, subst, length, IsTrue, All, list_all, flat_map, flat_map-append, append-nil, append_assoc, nil_from_length, All-nil, All-cons, All-head, All-tail, All-append, AllZip-long, Poly, Declaration, IsDeclared, Evidence, Lemmas, no_block, own_in, none, IsPolyOver, IsCertificateOf, HasCertificates, is_named, certificate, comment, other, IsOfFormat, Part, part_text, IsPart, evidence_in, are_parts_read_back, Verdict, head_line, block_text, report_from, report_of, IsReadAs, proved_in, IsWritableVerdict, ReportsReadBack}
 use Rattle.traced_rows.specs.declared.evidence.Evidence.TheVariants as evidence
-use Rattle.traced_rows.specs.declared.evidence.Format.TheVariants.{Lemmas}
-use Rattle.block_text.specs.Fault.{no_block}
-use Rattle.block_text.specs.Blocks.{own_in}
-use Rattle.block_text.specs.Texts.{none}
-use Rattle.quiver.specs.Over.{IsPolyOver}
-use Rattle.certificate_text.specs.Bounds.{IsCertificateOf}
-use Rattle.certificate_text.specs.Evidence.{HasCertificates, IsFirstFault}
-use Rattle.block_text.specs.Back.{is_named, block as certificate, comment, other}
-use Rattle.certificate_text.specs.Back.{IsOfFormat, Part, part_text, IsPart, evidence_in}
-use Rattle.certificate_text.proofs.ReadBack.{are_parts_read_back}
-use Rattle.report_text.specs.declared.verdict.Verdict.{Verdict}
+use Rattle.certificate_text.specs.Evidence.{IsFirstFault}
 use Rattle.report_text.specs.declared.verdict.Verdict.TheVariants as verdict
-use Rattle.report_text.specs.Heads.{head_line}
-use Rattle.report_text.specs.Report.{block_text, report_from, report_of}
-use Rattle.report_readback.specs.ReadBack.{IsReadAs, proved_in, IsWritableVerdict, ReportsReadBack}
 use Rattle.report_readback.proofs.Heads.{told_of, head_is_comment, told_is_line}
 use Rattle.report_readback.proofs.Bases.{basis_head, basis_lines, basis_is_part, basis_is}
 use Rattle.report_readback.proofs.Models.{model_head, model_lines, model_is_part, model_is}

@@ -1,33 +1,8 @@
 -- Evidence that is written is a block of another kind to a reader that skips certificates.
-use Rattle.std.proofs.Common.{◌≡◌, ◌<◌, ◌^◌, ℕ, suc, ℤ, true, false, not, List, [], ◌∷◌, ◌++◌, refl, sym, subst, map, codes, IsTrue}
-use Rattle.std.specs.Prelude.{decimal}
-use Rattle.std.specs.Fmt.{signed_decimal}
-use Rattle.std.specs.List.{All, list_all, flat_map}
-use Rattle.std.proofs.lemmas.List.{append_assoc}
-use Rattle.std.proofs.lemmas.List.Elements.{All-nil, All-cons, All-head, All-tail, All-append, All-map, All-filter}
-use Rattle.quiver.specs.Declarations.{Declaration, IsDeclared}
-use Rattle.traced_rows.specs.declared.evidence.Evidence.{Evidence}
+use Rattle.report_readback.proofs.Prelude.{◌≡◌, ◌<◌, ◌^◌, ℕ, suc, ℤ, true, false, not, List, [], ◌∷◌, ◌++◌, refl, sym, subst, map, codes, IsTrue, decimal, signed_decimal, All, list_all, flat_map, append_assoc, All-nil, All-cons, All-head, All-tail, All-append, All-map, All-filter, Declaration, IsDeclared, Evidence, Format, Lemma, LemmaRow, tokens_of, is_skipped, is_end, Line, OtherTokens, claim_line, content, end_line, row_line, denominator_line, opening_text, lemma_row_text, scaled_text, lemmas_text, evidence_text, is_named, IsLineText, ended, IsBodyLine, IsWritableEvidence, rows_written, IsTextOf, no_text, text-append, text_of_line, IsWrittenLemma, lemmas_written, begins_no_end, text_of_other, over_generator, IsWrittenRow, trees, rows_are_text, end_is_text, IsSize, size_written, head_text, opening_is_text, literal, line_text-append, is_other_head, IsOtherBlock, other_words, model_kind, HasModels}
 use Rattle.traced_rows.specs.declared.evidence.Evidence.TheVariants as evidence
-use Rattle.traced_rows.specs.declared.evidence.Format.{Format}
 use Rattle.traced_rows.specs.declared.evidence.Format.TheVariants as format
-use Rattle.traced_rows.specs.declared.evidence.Lemma.{Lemma}
-use Rattle.traced_rows.specs.declared.evidence.LemmaRow.{LemmaRow}
-use Rattle.block_text.specs.Tokens.{tokens_of, is_skipped}
-use Rattle.block_text.specs.Lines.{is_end, Line, OtherTokens, claim_line, content, end_line}
-use Rattle.certificate_text.specs.Blocks.{row_line, head_line, denominator_line}
-use Rattle.certificate_text.specs.Written.{opening_text, lemma_row_text, scaled_text, lemmas_text, evidence_text}
-use Rattle.block_text.specs.Back.{is_named, IsLineText, ended, IsBodyLine}
-use Rattle.certificate_text.specs.Back.{IsWritableEvidence}
-use Rattle.certificate_text.proofs.BlocksBack.{rows_written}
-use Rattle.block_text.proofs.ContentBack.{IsTextOf, no_text, text-append, text_of_line}
-use Rattle.certificate_text.proofs.LemmasBack.{IsWrittenLemma, lemmas_written}
-use Rattle.block_text.proofs.PartsBack.{begins_no_end, text_of_other}
-use Rattle.certificate_text.proofs.RowsBack.{over_generator, IsWrittenRow, trees, rows_are_text}
-use Rattle.block_text.proofs.NumberLines.{end_is_text}
-use Rattle.certificate_text.proofs.SizesBack.{IsSize, size_written, head_text, opening_is_text}
-use Rattle.block_text.proofs.TextsBack.{literal, line_text-append}
-use Rattle.block_text.specs.Blocks.{is_other_head, IsOtherBlock}
-use Rattle.model_text.specs.Models.{other_words, model_kind, HasModels}
+use Rattle.certificate_text.specs.Blocks.{head_line}
 use Rattle.report_readback.proofs.Numerals.{decimal_is_line, signed_is_line}
 
 -- the text is one such block

@@ -1,15 +1,5 @@
 -- A name is what is spelled as one.
-use Rattle.std.proofs.Common.{◌≡◌, ◌≤◌, ℕ, Bool, true, ◌&&◌, List, [], ◌∷◌, length, drop, refl, sym, ap, subst, ◌∙◌}
-use Rattle.std.specs.List.{list_all}
-use Rattle.std.specs.Str.{IsUtf8, is_utf8, chars, encode_utf8_all}
-use Rattle.std.proofs.Math.Utf8.{scalars}
-use Rattle.std.proofs.lemmas.Bool.{and_parts, le-leb, leb-true}
-use Rattle.std.proofs.lemmas.Str.{chars-encodes, IsUtf8-from_is_utf8, is_utf8-from_IsUtf8}
-use Rattle.unicode_ident.specs.Ident.{is_xid_continue}
-use Rattle.block_text.specs.Letters.{begins_name, is_name}
-use Rattle.statement_tokens.proofs.EachCharacter.{EachIs}
-use Rattle.statement_syntax.proofs.Spelled.{SpellsName}
-use Rattle.statement_tokens.specs.Limits.{name_limit}
+use Rattle.report_readback.proofs.Prelude.{◌≡◌, ◌≤◌, ℕ, Bool, true, ◌&&◌, List, [], ◌∷◌, length, drop, refl, sym, ap, subst, ◌∙◌, list_all, IsUtf8, is_utf8, chars, encode_utf8_all, scalars, and_parts, le-leb, leb-true, chars-encodes, IsUtf8-from_is_utf8, is_utf8-from_IsUtf8, is_xid_continue, begins_name, is_name, EachIs, SpellsName, name_limit}
 
 each_passes : (p : ℕ → Bool) (cs : List ℕ) → EachIs p cs → list_all p cs ≡ true
 each_passes p [] each = refl

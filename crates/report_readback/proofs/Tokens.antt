@@ -1,27 +1,8 @@
 -- Names are the texts of name tokens.
-use Rattle.std.proofs.Common.{◌≡◌, ◌+◌, ℕ, cond, List, [], ◌∷◌, ◌++◌, length, Result, Ok, Err, refl, sym, ap, subst, ◌∙◌}
-use Rattle.std.specs.Str.{chars}
-use Rattle.std.proofs.lemmas.Bool.{le-leb}
-use Rattle.std.proofs.lemmas.List.{append-nil}
-use Rattle.std.proofs.lemmas.Str.{chars-encodes, scalars-chars}
-use Rattle.statement_tokens.specs.declared.token.Token.{Token}
+use Rattle.report_readback.proofs.Prelude.{◌≡◌, ◌+◌, ℕ, cond, List, [], ◌∷◌, ◌++◌, length, Result, Ok, Err, refl, sym, ap, subst, ◌∙◌, chars, le-leb, append-nil, chars-encodes, scalars-chars, Token, Placed, BadToken, language_of, end_of, item_at, name_of, ◌>>=◌, tokens_from, read_are, are_read, name_token, spot, kinds, SpellsName, IsFileToken, AllKinds, AllKinds-split, tokens_are, kinds-append, one_token, name_back, name_limit, IsNameToken, NamesAreNameTokens}
 use Rattle.statement_tokens.specs.declared.token.TokenKind.TheVariants as kind
 use Rattle.statement_tokens.specs.declared.scan.Item.TheVariants as item
-use Rattle.statement_tokens.specs.declared.fault.Placed.{Placed}
-use Rattle.statement_tokens.specs.declared.fault.Fault.TheVariants.{BadToken}
-use Rattle.statement_tokens.specs.Language.{language_of}
-use Rattle.statement_tokens.specs.Tokens.{end_of}
-use Rattle.statement_tokens.specs.Items.{item_at, name_of}
-use Rattle.statement_tokens.proofs.Reading.{◌>>=◌, tokens_from, tokens_of}
-use Rattle.statement_tokens.proofs.TokenLaws.{read_are, are_read}
-use Rattle.statement_syntax.specs.Grammar.{name_token}
-use Rattle.statement_tokens.proofs.Scanning.{spot}
-use Rattle.statement_syntax.proofs.Moved.{kinds}
-use Rattle.statement_syntax.proofs.Spelled.{SpellsName, IsFileToken, AllKinds, AllKinds-split, tokens_are}
-use Rattle.statement_syntax.proofs.StatedKinds.{kinds-append}
-use Rattle.statement_tokens.proofs.Rescan.{one_token, name_back}
-use Rattle.statement_tokens.specs.Limits.{name_limit}
-use Rattle.report_readback.specs.Names.{IsNameToken, NamesAreNameTokens}
+use Rattle.statement_tokens.proofs.Reading.{tokens_of}
 use Rattle.report_readback.proofs.Spellings.{spelled_is_name, name_is_spelled}
 
 -- a name is a token by itself

@@ -1,24 +1,7 @@
 -- Evidence within the limits of a problem, whose letters are letters of the quiver, can be written.
-use Rattle.std.proofs.Common.{◌<◌, ◌≤◌, ◌+◌, ◌^◌, ◌<ℤ◌, ℕ, suc, ℤ, pos, negsuc, List, [], ◌∷◌, arith, refl, length, get_or}
-use Rattle.std.specs.List.{All}
-use Rattle.std.proofs.lemmas.Int.{ints}
-use Rattle.std.proofs.lemmas.List.Elements.{All-nil, All-cons, All-head, All-tail}
-use Rattle.coef_int.specs.Range.{IsCoefficient}
-use Rattle.quiver.specs.Declarations.{Declaration}
-use Rattle.traced_rows.specs.declared.certificate.Certificate.{Certificate}
-use Rattle.traced_rows.specs.declared.evidence.CertFrom.{CertFrom}
+use Rattle.report_readback.proofs.Prelude.{◌<◌, ◌≤◌, ◌+◌, ◌^◌, ◌<ℤ◌, ℕ, suc, ℤ, pos, negsuc, List, [], ◌∷◌, arith, refl, length, get_or, All, ints, All-nil, All-cons, All-head, All-tail, IsCoefficient, Declaration, Certificate, CertFrom, Lemma, LemmaCertificate, Evidence, IsWithin, NamesWithin, NameEarlier, Problem, generator_limit, IsRowOver, IsLemmaOver, IsEvidenceOver, IsWritableInteger, IsWritableRow, IsWritable, number_of, IsWritableLemma, IsWritableByLemmas, IsWritableEvidence, IsRowWithin, IsCertificateWithin, IsLemmaWithin, IsLemmaCertificateWithin, IsWithinLimits}
 use Rattle.traced_rows.specs.declared.evidence.CertFrom.TheVariants as cert
-use Rattle.traced_rows.specs.declared.evidence.Lemma.{Lemma}
-use Rattle.traced_rows.specs.declared.evidence.LemmaCertificate.{LemmaCertificate}
-use Rattle.traced_rows.specs.declared.evidence.Evidence.{Evidence}
 use Rattle.traced_rows.specs.declared.evidence.Evidence.TheVariants as evidence
-use Rattle.cofactor_trace.specs.GatheringLaws.{IsWithin, NamesWithin, NameEarlier}
-use Rattle.adjoint_rules.specs.declared.problem.Problem.{Problem}
-use Rattle.adjoint_rules.specs.Limits.{generator_limit}
-use Rattle.certificate_text.specs.Evidence.{IsRowOver}
-use Rattle.certificate_text.specs.Written.{IsLemmaOver, IsEvidenceOver}
-use Rattle.certificate_text.specs.Back.{IsWritableInteger, IsWritableRow, IsWritable, number_of, IsWritableLemma, IsWritableByLemmas, IsWritableEvidence}
-use Rattle.outcome_laws.specs.EvidenceLimits.{IsRowWithin, IsCertificateWithin, IsLemmaWithin, IsLemmaCertificateWithin, IsWithinLimits}
 
 -- scales and denominators
 small : (z : ℤ) → pos 0 <ℤ z → IsCoefficient z → IsWritableInteger z

@@ -1,30 +1,7 @@
 -- A candidate that breaks a claim is a model that can be written.
-use Rattle.std.proofs.Common.{◌≡◌, ◌<◌, ◌≤◌, ◌&&◌, ℕ, Bool, true, false, cond, nat_eq, nat_le, List, Option, Some, None, refl, sym, ap, ◌∙◌, subst, arith, length, get_or, IsTrue}
-use Rattle.std.specs.List.{list_all}
-use Rattle.std.proofs.lemmas.Bool.{and_parts, leb-true}
-use Rattle.std.proofs.lemmas.List.FromFn.{get_or-map-range_with_len}
-use Rattle.definitions.specs.Quiver.{IsQuiver, letters, star}
-use Rattle.quiver.specs.declared.named.Named.{Named}
-use Rattle.quiver.specs.declared.named.Named.TheVariants.{Object, Map}
-use Rattle.quiver.specs.Declarations.{Declaration, object_count, letter_count, letter_name, named_in, quiver_of, IsDeclared, ObjectsFirst}
-use Rattle.quiver.proofs.Found.{is_named as is_found}
-use Rattle.quiver.proofs.Identities.{identity_is}
-use Rattle.quiver.proofs.Counts.{letters-quiver_of}
-use Rattle.adjoint_rules.specs.declared.parts.Shape.{Shape}
-use Rattle.adjoint_rules.specs.declared.problem.Problem.{Problem}
-use Rattle.adjoint_rules.proofs.Generators.{posed_quiver}
-use Rattle.expressions.proofs.Maps.{map_after_objects, map_before_adjoint}
-use Rattle.matrix_models.specs.Matrix.{Matrix}
-use Rattle.matrix_models.specs.declared.model.Model.{Model}
-use Rattle.model_checker.specs.Models.{HaveMatrices}
-use Rattle.model_checker.specs.Representations.{map_at}
-use Rattle.model_candidates.specs.Candidates.{digits, is_declared_map, matrix_by, place_by, model_by, IsCandidate, naming, Breaks}
-use Rattle.model_search.proofs.SearchAnswers.{breaking_candidates_refute}
-use Rattle.block_text.specs.Back.{is_named}
-use Rattle.block_text.proofs.LettersBack.{Comes}
-use Rattle.block_text.proofs.LetterNames.{letter_is_spelled}
-use Rattle.model_text.specs.Models.{HasMap, IsPlaced}
-use Rattle.model_text.specs.Back.{IsWritableModel}
+use Rattle.report_readback.proofs.Prelude.{◌≡◌, ◌<◌, ◌≤◌, ◌&&◌, ℕ, Bool, true, false, cond, nat_eq, nat_le, List, Option, Some, None, refl, sym, ap, ◌∙◌, subst, arith, length, get_or, IsTrue, list_all, and_parts, leb-true, get_or-map-range_with_len, IsQuiver, letters, star, Named, Map, Declaration, object_count, letter_count, letter_name, named_in, quiver_of, IsDeclared, ObjectsFirst, is_found, identity_is, letters-quiver_of, Shape, Problem, posed_quiver, map_after_objects, map_before_adjoint, Matrix, Model, HaveMatrices, map_at, is_declared_map, matrix_by, place_by, model_by, IsCandidate, naming, Breaks, breaking_candidates_refute, is_named, Comes, letter_is_spelled, HasMap, IsPlaced, IsWritableModel}
+use Rattle.quiver.specs.declared.named.Named.TheVariants.{Object}
+use Rattle.model_candidates.specs.Candidates.{digits}
 
 -- declared maps have names
 module _ (ds : List Declaration) (declared : IsDeclared ds) (first : ObjectsFirst ds) (quiver : IsQuiver (quiver_of ds)) (names : IsTrue (list_all is_named ds)) where

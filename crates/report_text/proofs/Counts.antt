@@ -1,8 +1,5 @@
 -- How many rows lemmas have.
-use Rattle.std.proofs.Common.{List}
-use Rattle.std.specs.List.{flat_map}
-use Rattle.traced_rows.specs.declared.evidence.Lemma.{Lemma}
-use Rattle.traced_rows.specs.declared.evidence.LemmaRow.{LemmaRow}
+use Rattle.report_text.proofs.Prelude.{List, flat_map, Lemma, LemmaRow}
 
 -- the rows of lemmas
 abbrev pub rows_in : List Lemma → List LemmaRow

@@ -1,8 +1,5 @@
 -- The statuses of verdicts.
-use Rattle.std.proofs.Common.{◌≡◌, ◌≤◌, ◌⊎◌, inl, inr, ℕ, Bool, true, false, List, if◌then◌else◌, refl, arith}
-use Rattle.std.specs.List.{list_any, list_all}
-use Rattle.report_text.specs.declared.verdict.Verdict.{Verdict}
-use Rattle.report_text.specs.Report.{status_of, is_proved, is_refuted, is_undecided, is_not_refuted}
+use Rattle.report_text.proofs.Prelude.{◌≡◌, ◌≤◌, ◌⊎◌, inl, inr, ℕ, Bool, true, false, List, if◌then◌else◌, refl, arith, list_any, list_all, Verdict, status_of, is_proved, is_refuted, is_undecided, is_not_refuted}
 
 by_tests : (status : ℕ) (some_undecided some_not_refuted some_refuted all_proved : Bool)
     → status ≡ (if some_undecided then 12 else (if some_not_refuted then 13 else (if some_refuted then 11 else (if all_proved then 0 else 10))))

@@ -1,11 +1,5 @@
 -- Verdicts are written one after another.
-use Rattle.std.proofs.Common.{◌≡◌, ◌<◌, ◌+◌, ℕ, suc, List, [], ◌∷◌, ◌++◌, arith, refl, ap, sym, ◌∙◌, length, take, get_or}
-use Rattle.std.proofs.lemmas.List.{append-nil, append_assoc, take_more, length-take-le}
-use Rattle.nc_polynomial.specs.declared.poly.Poly.{Poly}
-use Rattle.quiver.specs.Declarations.{Declaration}
-use Rattle.report_text.specs.declared.verdict.Verdict.{Verdict}
-use Rattle.report_text.specs.Heads.{head_line}
-use Rattle.report_text.specs.Report.{block_text, report_from, heads_from}
+use Rattle.report_text.proofs.Prelude.{◌≡◌, ◌<◌, ◌+◌, ℕ, suc, List, [], ◌∷◌, ◌++◌, arith, refl, ap, sym, ◌∙◌, length, take, get_or, append-nil, append_assoc, take_more, length-take-le, Poly, Declaration, Verdict, head_line, block_text, report_from, heads_from}
 
 -- the text of numbered verdicts, where one of them has this text
 texts : (ℕ → Verdict → List ℕ) → ℕ → List Verdict → List ℕ

@@ -1,30 +1,6 @@
 -- Lemmas vanish one after another, and with them the claim.
-use Rattle.std.proofs.Common.{◌≡◌, ℕ, zero, suc, ◌<◌, ℤ, ◌*ℤ◌, int_div, List, [], ◌∷◌, ◌++◌, sym, refl, ap, ap₂, subst, ◌∙◌, append_assoc}
-use Rattle.std.proofs.lemmas.List.Elements.{recursion_from_All}
-use Rattle.std.proofs.lemmas.List.{append-nil}
-use Rattle.std.proofs.Math.IntN.{*ℤ_comm}
-use Rattle.std.specs.List.{AllByRecursion}
-use Rattle.definitions.specs.Category.{Structure, IsArrow, PreadditiveLaws, InvolutionLaws}
-use Rattle.definitions.specs.Poly.{poly_multiple, poly_between}
-use Rattle.definitions.specs.Quiver.{Quiver}
-use Rattle.definitions.specs.Representation.{Representation, Represents, Cancels, value_at, multiple}
-use Rattle.definitions.specs.Combination.{generator_at}
-use Rattle.definitions.specs.Soundness.{HasSignature, HasValueZero}
-use Rattle.definitions.proofs.Group.{IsGroup}
-use Rattle.definitions.proofs.Linear.{linear, linear_in, linear-append, linear-scale, linear_same}
-use Rattle.definitions.proofs.Multiples.{times, times-*ℤ, times-none}
-use Rattle.definitions.proofs.Rows.{between_is_zero}
-use Rattle.definitions.proofs.StarSound.{all-append, star_sound}
-use Rattle.definitions.proofs.Values.{multiple-times, word_at, word_at_is_arrow, group_at, value_at-linear}
-use Rattle.nc_polynomial.proofs.Divisors.{quotient_times}
-use Rattle.traced_rows.specs.declared.evidence.CertFrom.{CertFrom}
+use Rattle.representations.proofs.Prelude.{◌≡◌, ℕ, zero, suc, ◌<◌, ℤ, ◌*ℤ◌, int_div, List, [], ◌∷◌, ◌++◌, sym, refl, ap, ap₂, subst, ◌∙◌, append_assoc, recursion_from_All, append-nil, *ℤ_comm, AllByRecursion, Structure, IsArrow, PreadditiveLaws, InvolutionLaws, poly_multiple, poly_between, Quiver, Representation, Represents, Cancels, value_at, multiple, generator_at, HasSignature, HasValueZero, IsGroup, linear, linear_in, linear-append, linear-scale, linear_same, times, times-*ℤ, times-none, between_is_zero, all-append, star_sound, multiple-times, word_at, word_at_is_arrow, group_at, value_at-linear, quotient_times, CertFrom, LemmaRow, Lemma, LemmaCertificate, cert_poly, lemma_row_poly, lemma_sum, AddsUpTo, AreOfLemmas, IsShareOf, IsEvidenceOf, between-append, between-multiple, between-between, between-nothing, between-same, IsEvidenceSound, IsEvidenceStarSound}
 use Rattle.traced_rows.specs.declared.evidence.CertFrom.TheVariants as cert
-use Rattle.traced_rows.specs.declared.evidence.LemmaRow.{LemmaRow}
-use Rattle.traced_rows.specs.declared.evidence.Lemma.{Lemma}
-use Rattle.traced_rows.specs.declared.evidence.LemmaCertificate.{LemmaCertificate}
-use Rattle.traced_rows.specs.LemmaRows.{cert_poly, lemma_row_poly, lemma_sum, AddsUpTo, AreOfLemmas, IsShareOf, IsEvidenceOf}
-use Rattle.traced_rows.proofs.Between.{between-append, between-multiple, between-between, between-nothing, between-same}
-use Rattle.representations.specs.Evidence.{IsEvidenceSound, IsEvidenceStarSound}
 
 module _ {Object Arrow : Type 0} {s : Structure Object Arrow} (laws : PreadditiveLaws s) (q : Quiver) (f : Representation Object Arrow) (rep : Represents s q f) where
   module _ (u v : ℕ) (in_u : u < q.objects) (in_v : v < q.objects) where

@@ -1,3 +1,4 @@
+mod Prelude
 pub mod Multiples
 pub mod Suffixes
 pub mod PathValues

@@ -1,10 +1,5 @@
 -- The value of a path, made from its last letter on.
-use Rattle.std.proofs.Common.{◌≡◌, ℕ, suc, ◌<◌, List, length, get_or, drop, sym, ap, ap₂, subst, ◌∙◌}
-use Rattle.definitions.specs.Category.{Structure, IsArrow, PreadditiveLaws}
-use Rattle.definitions.specs.Quiver.{Quiver, source, target}
-use Rattle.definitions.specs.Representation.{word_value}
-use Rattle.definitions.proofs.Values.{letter_is_arrow, word_value_is_arrow}
-use Rattle.representations.specs.Listed.{listed, IsRepresentation}
+use Rattle.representations.proofs.Prelude.{◌≡◌, ℕ, suc, ◌<◌, List, length, get_or, drop, sym, ap, ap₂, subst, ◌∙◌, Structure, IsArrow, PreadditiveLaws, Quiver, source, target, word_value, letter_is_arrow, word_value_is_arrow, listed, IsRepresentation}
 use Rattle.representations.proofs.Suffixes.{HasPath, suffix_path, letter_within, letters_meet, value-next}
 
 module _ {Object Arrow : Type 0} {s : Structure Object Arrow} (laws : PreadditiveLaws s) {q : Quiver} {objects : List Object} {arrows : List Arrow}

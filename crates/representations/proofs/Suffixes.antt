@@ -1,10 +1,5 @@
 -- The letters of a path from a place on.
-use Rattle.std.proofs.Common.{◌≡◌, ℕ, zero, suc, ◌<◌, true, List, [], ◌∷◌, length, get_or, drop, Option, Some, None, IsSome, sym, refl, subst, arith}
-use Rattle.definitions.specs.Category.{Structure}
-use Rattle.definitions.specs.Quiver.{Quiver, letters, source, target, is_path, signature_of}
-use Rattle.definitions.specs.Representation.{Representation, word_value}
-use Rattle.definitions.proofs.Paths.{step}
-use Rattle.definitions.proofs.Typed.{path_from_signature}
+use Rattle.representations.proofs.Prelude.{◌≡◌, ℕ, zero, suc, ◌<◌, true, List, [], ◌∷◌, length, get_or, drop, Option, Some, None, IsSome, sym, refl, subst, arith, Structure, Quiver, letters, source, target, is_path, signature_of, Representation, word_value, step, path_from_signature}
 
 -- a word with a signature is a path
 pub record HasPath (q : Quiver) (w : List ℕ) : Type 0 where

@@ -1,11 +1,5 @@
 -- The value of a polynomial with one more term at its end.
-use Rattle.std.proofs.Common.{◌≡◌, ◌<◌, ℕ, ℤ, true, cond, List, [], ◌∷◌, ◌++◌, sym, ap, ap₂, subst, ◌∙◌}
-use Rattle.definitions.specs.Category.{Structure, IsArrow, PreadditiveLaws}
-use Rattle.definitions.specs.Quiver.{Quiver, is_path}
-use Rattle.definitions.specs.Representation.{Representation, Represents, multiple, word_value, value_at}
-use Rattle.definitions.proofs.Multiples.{times_in}
-use Rattle.definitions.proofs.Linear.{linear_in, linear-append}
-use Rattle.definitions.proofs.Values.{multiple-times, word_value_is_arrow, word_at, word_at_is_arrow, value_at-linear, group_at}
+use Rattle.representations.proofs.Prelude.{◌≡◌, ◌<◌, ℕ, ℤ, true, cond, List, [], ◌∷◌, ◌++◌, sym, ap, ap₂, subst, ◌∙◌, Structure, IsArrow, PreadditiveLaws, Quiver, is_path, Representation, Represents, multiple, word_value, value_at, times_in, linear_in, linear-append, multiple-times, word_value_is_arrow, word_at, word_at_is_arrow, value_at-linear, group_at}
 
 module _ {Object Arrow : Type 0} {s : Structure Object Arrow} (laws : PreadditiveLaws s) (q : Quiver) (f : Representation Object Arrow) (rep : Represents s q f)
     (u v : ℕ) (in_u : u < q.objects) (in_v : v < q.objects) where

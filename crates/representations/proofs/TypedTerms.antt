@@ -1,10 +1,5 @@
 -- Each word of a typed polynomial in canonical form is a path.
-use Rattle.std.proofs.Common.{◌≡◌, ℤ, ℕ, true, List}
-use Rattle.std.specs.List.{All}
-use Rattle.definitions.specs.Quiver.{Quiver, is_path, IsTyped}
-use Rattle.nc_polynomial.specs.Shape.{IsCanonical}
-use Rattle.nc_polynomial.proofs.Shapes.{recursion_from_IsDescending}
-use Rattle.nc_polynomial.proofs.Distinct.{distinct-descending, words_listed}
+use Rattle.representations.proofs.Prelude.{◌≡◌, ℤ, ℕ, true, List, All, Quiver, is_path, IsTyped, IsCanonical, recursion_from_IsDescending, distinct-descending, words_listed}
 
 pub words_are_paths : (q : Quiver) (u v : ℕ) (p : List (ℤ × List ℕ)) → IsCanonical p → IsTyped q u v p → All (λ t. is_path q u v t.1 ≡ true) p
 words_are_paths q u v p canonical typed =

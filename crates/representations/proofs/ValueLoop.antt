@@ -1,15 +1,5 @@
 -- The sum over the terms of a typed polynomial, term by term.
-use Rattle.std.proofs.Common.{◌≡◌, ◌<◌, ℕ, ℤ, ◌+◌, true, List, [], ◌∷◌, ◌++◌, get_or, take, refl, Some, IsSome, slice_get, sym, ap, ap₂, subst, ◌∙◌}
-use Rattle.std.proofs.lemmas.List.{take_more}
-use Rattle.std.proofs.lemmas.Option.{get_or_from_slice_get, slice_get_within}
-use Rattle.std.proofs.lemmas.List.Elements.{All-get_or}
-use Rattle.definitions.specs.Category.{Structure, IsArrow, PreadditiveLaws}
-use Rattle.definitions.specs.Quiver.{Quiver, is_path, IsTyped, signature_of}
-use Rattle.definitions.specs.Representation.{multiple, word_value, value_at}
-use Rattle.definitions.proofs.Typed.{signature_from_path}
-use Rattle.definitions.proofs.Values.{word_value_is_arrow}
-use Rattle.nc_polynomial.specs.Shape.{IsCanonical}
-use Rattle.representations.specs.Listed.{listed, IsRepresentation}
+use Rattle.representations.proofs.Prelude.{◌≡◌, ◌<◌, ℕ, ℤ, ◌+◌, true, List, [], ◌∷◌, ◌++◌, get_or, take, refl, Some, IsSome, slice_get, sym, ap, ap₂, subst, ◌∙◌, take_more, get_or_from_slice_get, slice_get_within, All-get_or, Structure, IsArrow, PreadditiveLaws, Quiver, is_path, IsTyped, signature_of, multiple, word_value, value_at, signature_from_path, word_value_is_arrow, IsCanonical, listed, IsRepresentation}
 use Rattle.representations.proofs.TypedTerms.{words_are_paths}
 use Rattle.representations.proofs.TermSums.{value_is_arrow, value_at-push}
 

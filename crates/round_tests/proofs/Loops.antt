@@ -1,10 +1,5 @@
 -- Representations of one object with two maps from it to itself.
-use Rattle.std.proofs.Common.{◌≡◌, ◌<◌, ℕ, zero, suc, pos, negsuc, List, [], ◌∷◌, ◌++◌, get_or, sym, refl, ap, subst, ◌∙◌, arith}
-use Rattle.definitions.specs.Category.{Structure, IsArrow, PreadditiveLaws}
-use Rattle.definitions.specs.Quiver.{Quiver, IsTyped, source, target}
-use Rattle.definitions.specs.Poly.{Poly, SamePolynomial}
-use Rattle.definitions.proofs.Typed.{typed_from_terms}
-use Rattle.representations.specs.Listed.{IsRepresentation}
+use Rattle.round_tests.proofs.Prelude.{◌≡◌, ◌<◌, ℕ, zero, suc, pos, negsuc, List, [], ◌∷◌, ◌++◌, get_or, sym, refl, ap, subst, ◌∙◌, arith, Structure, IsArrow, PreadditiveLaws, Quiver, IsTyped, source, target, Poly, SamePolynomial, typed_from_terms, IsRepresentation}
 
 -- the letters are the identity and two maps that are their own adjoints
 abbrev loops : Quiver

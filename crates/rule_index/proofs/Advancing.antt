@@ -1,9 +1,5 @@
 -- The children of one number after another.
-use Rattle.std.proofs.Common.{◌≡◌, ◌≢◌, ◌⊎◌, inl, inr, ℕ, ◌+◌, ◌<◌, ◌≤◌, List, length, get_or, set, take, refl, sym, ap, ◌∙◌, subst, arith, get_or-set_other, get_or-set_same}
-use Rattle.std.proofs.lemmas.List.{length-set, length-take, length-take-le, get_or-take}
-use Rattle.std.proofs.lemmas.Bool.{cases_lt}
-use Rattle.rule_index.specs.declared.tree.Node.{Node}
-use Rattle.rule_index.specs.Automaton.{IsChild, Lists, ListsBelow, IsAdvanced}
+use Rattle.rule_index.proofs.Prelude.{◌≡◌, ◌≢◌, ◌⊎◌, inl, inr, ℕ, ◌+◌, ◌<◌, ◌≤◌, List, length, get_or, set, take, refl, sym, ap, ◌∙◌, subst, arith, get_or-set_other, get_or-set_same, length-set, length-take, length-take-le, get_or-take, cases_lt, Node, IsChild, Lists, ListsBelow, IsAdvanced}
 
 -- the children of the numbers before the place are at the front
 pub record IsAdvancing (nodes : List Node) (letter : ℕ) (initial now : List ℕ) (place kept : ℕ) : Type 0 where

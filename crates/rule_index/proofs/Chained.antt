@@ -1,8 +1,5 @@
 -- A new node, before it is put into its buckets.
-use Rattle.std.proofs.Common.{◌≡◌, ℕ, ◌<◌, ◌≤◌, ◌+◌, List, [], ◌∷◌, ◌++◌, length, get_or, refl, sym, ap, ◌∙◌, subst, arith}
-use Rattle.std.proofs.lemmas.List.{length_push}
-use Rattle.rule_index.specs.declared.tree.Node.{Node}
-use Rattle.rule_index.specs.Automaton.{node_at, root, bucket_of, bucket_at, letter_bucket_of, IsThreaded, IsChained, IsLettered}
+use Rattle.rule_index.proofs.Prelude.{◌≡◌, ℕ, ◌<◌, ◌≤◌, ◌+◌, List, [], ◌∷◌, ◌++◌, length, get_or, refl, sym, ap, ◌∙◌, subst, arith, length_push, Node, node_at, root, bucket_of, bucket_at, letter_bucket_of, IsThreaded, IsChained, IsLettered}
 use Rattle.rule_index.proofs.Pushing.{push-old}
 
 module _ (bucket : ℕ → ℕ) (size n : ℕ) (heads nexts : List ℕ) (h : IsThreaded bucket size n heads nexts) where

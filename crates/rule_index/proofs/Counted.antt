@@ -1,12 +1,5 @@
 -- How many words are prefixes of the first entries.
-use Rattle.std.proofs.Common.{◌≡◌, ℕ, zero, suc, ◌+◌, ◌<◌, ◌≤◌, ◌≢◌, Bool, true, false, cond, List, [], ◌∷◌, ◌++◌, length, get_or, take, Option, Some, None, refl, sym, ap, ◌∙◌, subst, arith}
-use Rattle.std.specs.List.{All}
-use Rattle.std.specs.Option.{option_map}
-use Rattle.std.proofs.lemmas.List.{length_push, length-take-le, get_or-take, take-append-le, take_all}
-use Rattle.std.proofs.lemmas.Bool.Decides.{nat_tests}
-use Rattle.rule_index.specs.Prefixes.{has, word_at}
-use Rattle.rule_index.specs.Automaton.{ends_with, first_of, IsMarked, IsWithin}
-use Rattle.rule_index.specs.Cuts.{earlier, IsCounted}
+use Rattle.rule_index.proofs.Prelude.{◌≡◌, ℕ, zero, suc, ◌+◌, ◌<◌, ◌≤◌, ◌≢◌, Bool, true, false, cond, List, [], ◌∷◌, ◌++◌, length, get_or, take, Option, Some, None, refl, sym, ap, ◌∙◌, subst, arith, All, option_map, length_push, length-take-le, get_or-take, take-append-le, take_all, nat_tests, has, word_at, ends_with, first_of, IsMarked, IsWithin, earlier, IsCounted}
 use Rattle.rule_index.proofs.Fronts.{take-take, front-short}
 use Rattle.rule_index.proofs.Pushing.{Same, is_same, is_other, same_or, push-old, push-new}
 

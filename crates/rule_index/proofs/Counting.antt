@@ -1,13 +1,5 @@
 -- The words of the nodes are the prefixes of the entries' words.
-use Rattle.std.proofs.Common.{◌≡◌, ◌⊎◌, inl, inr, ℕ, ◌<◌, true, List, [], ◌∷◌, ◌++◌, length, sym, subst, arith}
-use Rattle.std.specs.List.{All}
-use Rattle.std.proofs.lemmas.List.{append_assoc, append-nil}
-use Rattle.std.proofs.lemmas.List.Elements.{All-tail}
-use Rattle.std.proofs.lemmas.Bool.{or_cases, or_left, or_right}
-use Rattle.rule_index.specs.declared.tree.Node.{Node}
-use Rattle.rule_index.specs.Matches.{begins_with}
-use Rattle.rule_index.specs.Prefixes.{has, is_prefix, IsPrefixCount}
-use Rattle.rule_index.specs.Automaton.{words_of, IsSpelled, IsWithin}
+use Rattle.rule_index.proofs.Prelude.{◌≡◌, ◌⊎◌, inl, inr, ℕ, ◌<◌, true, List, [], ◌∷◌, ◌++◌, length, sym, subst, arith, All, append_assoc, append-nil, All-tail, or_cases, or_left, or_right, Node, begins_with, has, is_prefix, IsPrefixCount, words_of, IsSpelled, IsWithin}
 use Rattle.rule_index.proofs.PlacesOfWords.{prefix_from}
 use Rattle.rule_index.proofs.Suffixes.{IsClosed, has-at, same-true}
 use Rattle.rule_index.proofs.Spelled.{words-closed}

@@ -1,10 +1,5 @@
 -- The nodes that the word ends, a letter further, and their marks.
-use Rattle.std.proofs.Common.{◌≡◌, inl, inr, ℕ, zero, suc, ◌+◌, ◌<◌, true, List, [], ◌∷◌, ◌++◌, length, get_or, set, drop, Option, Some, None, refl, sym, ap, ◌∙◌, subst, arith, get_or-set_other, get_or-set_same}
-use Rattle.std.proofs.lemmas.List.{length_push, same_from_push}
-use Rattle.std.proofs.lemmas.Bool.{or_cases, or_left, or_right}
-use Rattle.rule_index.specs.declared.tree.Node.{Node}
-use Rattle.rule_index.specs.Prefixes.{same_word, word_at}
-use Rattle.rule_index.specs.Automaton.{ends_with, marked, node_at, Lists, IsSpelled, IsMarkedAt, IsEnds, IsAdvanced}
+use Rattle.rule_index.proofs.Prelude.{◌≡◌, inl, inr, ℕ, zero, suc, ◌+◌, ◌<◌, true, List, [], ◌∷◌, ◌++◌, length, get_or, set, drop, Option, Some, None, refl, sym, ap, ◌∙◌, subst, arith, get_or-set_other, get_or-set_same, length_push, same_from_push, or_cases, or_left, or_right, Node, same_word, word_at, ends_with, marked, node_at, Lists, IsSpelled, IsMarkedAt, IsEnds, IsAdvanced}
 use Rattle.rule_index.proofs.Suffixes.{same-true, same-itself}
 use Rattle.rule_index.proofs.Pushing.{is_same, is_other, same_or}
 use Rattle.rule_index.proofs.Relinking.{lists-more, lists-fewer}

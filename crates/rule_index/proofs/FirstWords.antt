@@ -1,11 +1,5 @@
 -- The first words alone.
-use Rattle.std.proofs.Common.{◌≡◌, inl, inr, ℕ, zero, suc, ◌<◌, ◌≤◌, true, false, List, [], ◌∷◌, length, get_or, take, drop, refl, sym, ap, ◌∙◌, subst, arith}
-use Rattle.std.proofs.lemmas.List.{length-drop, length-take-le, get_or-take}
-use Rattle.std.proofs.lemmas.Bool.{cases_Bool, false_from_ne_true}
-use Rattle.rule_index.specs.declared.tree.Node.{Node}
-use Rattle.rule_index.specs.Prefixes.{has, word_at}
-use Rattle.rule_index.specs.Automaton.{longest, IsSpelled}
-use Rattle.rule_index.specs.Cuts.{IsLinkedFrom}
+use Rattle.rule_index.proofs.Prelude.{◌≡◌, inl, inr, ℕ, zero, suc, ◌<◌, ◌≤◌, true, false, List, [], ◌∷◌, length, get_or, take, drop, refl, sym, ap, ◌∙◌, subst, arith, length-drop, length-take-le, get_or-take, cases_Bool, false_from_ne_true, Node, has, word_at, longest, IsSpelled, IsLinkedFrom}
 use Rattle.rule_index.proofs.Suffixes.{has-at, has-place, longest-itself, longest-short}
 use Rattle.rule_index.proofs.Spelled.{word-some}
 

@@ -1,11 +1,5 @@
 -- The first entry whose word passes a test, and the first that occurs.
-use Rattle.std.proofs.Common.{◌≡◌, ℕ, suc, ◌<◌, ◌||◌, Bool, true, false, List, [], ◌∷◌, ◌++◌, length, get_or, Option, Some, None, IsSome, MatchOption, cond, refl, sym, subst, ap, ◌∙◌, arith}
-use Rattle.std.specs.Option.{option_map}
-use Rattle.std.specs.List.{All}
-use Rattle.std.proofs.lemmas.List.Elements.{All-tail}
-use Rattle.rule_index.specs.Matches.{begins_with, place_in, match_of, match_or}
-use Rattle.rule_index.specs.Prefixes.{same_word, has}
-use Rattle.rule_index.specs.Automaton.{longest, ends_with, first_of, occurs, sooner}
+use Rattle.rule_index.proofs.Prelude.{◌≡◌, ℕ, suc, ◌<◌, ◌||◌, Bool, true, false, List, [], ◌∷◌, ◌++◌, length, get_or, Option, Some, None, IsSome, MatchOption, cond, refl, sym, subst, ap, ◌∙◌, arith, option_map, All, All-tail, begins_with, place_in, match_of, match_or, same_word, has, longest, ends_with, first_of, occurs, sooner}
 use Rattle.rule_index.proofs.Suffixes.{ends-longest}
 
 begins-push : (t w : List ℕ) (c : ℕ) → begins_with (t ++ c ∷ []) w ≡ (begins_with t w || same_word (t ++ c ∷ []) w)

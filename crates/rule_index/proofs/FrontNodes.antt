@@ -1,12 +1,5 @@
 -- The first nodes, their words and their links.
-use Rattle.std.proofs.Common.{◌≡◌, inl, inr, ℕ, zero, suc, ◌+◌, ◌<◌, ◌≤◌, List, [], ◌∷◌, ◌++◌, length, get_or, take, drop, refl, sym, ap, ap₂, ◌∙◌, arith}
-use Rattle.std.proofs.Math.Seq.{take-append_seam}
-use Rattle.std.proofs.lemmas.List.{append_assoc, append-nil, length_push, length-take-le, get_or-take, get_or_past, take_all}
-use Rattle.std.proofs.lemmas.Bool.{cases_lt}
-use Rattle.rule_index.specs.declared.tree.Node.{Node}
-use Rattle.rule_index.specs.Prefixes.{word_at}
-use Rattle.rule_index.specs.Automaton.{longest, node_at, root, grown, words_of, IsSpelled, IsLinked}
-use Rattle.rule_index.specs.Cuts.{IsKept}
+use Rattle.rule_index.proofs.Prelude.{◌≡◌, inl, inr, ℕ, zero, suc, ◌+◌, ◌<◌, ◌≤◌, List, [], ◌∷◌, ◌++◌, length, get_or, take, drop, refl, sym, ap, ap₂, ◌∙◌, arith, take-append_seam, append_assoc, append-nil, length_push, length-take-le, get_or-take, get_or_past, take_all, cases_lt, Node, word_at, longest, node_at, root, grown, words_of, IsSpelled, IsLinked, IsKept}
 use Rattle.rule_index.proofs.FirstWords.{longest-fewer}
 
 record Longer (words all : List (List ℕ)) : Type 0 where

@@ -1,7 +1,5 @@
 -- Fronts of lists.
-use Rattle.std.proofs.Common.{◌≡◌, ℕ, zero, suc, ◌<◌, ◌≤◌, List, [], ◌∷◌, length, take, min, refl, sym, ap, ◌∙◌, arith}
-use Rattle.std.proofs.lemmas.List.{length-take, get_or-take}
-use Rattle.rule_index.specs.Matches.{IsAscending}
+use Rattle.rule_index.proofs.Prelude.{◌≡◌, ℕ, zero, suc, ◌<◌, ◌≤◌, List, [], ◌∷◌, length, take, min, refl, sym, ap, ◌∙◌, arith, length-take, get_or-take, IsAscending}
 
 pub take-take : {X : Type 0} (m n : ℕ) (xs : List X) → m ≤ n → take m (take n xs) ≡ take m xs
 take-take zero n xs below = refl

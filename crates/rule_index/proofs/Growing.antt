@@ -1,13 +1,5 @@
 -- One word more, and the links, the ends and the first entries.
-use Rattle.std.proofs.Common.{◌≡◌, ◌≢◌, inl, inr, ℕ, ◌+◌, ◌<◌, ◌||◌, true, false, List, [], ◌∷◌, ◌++◌, length, get_or, take, drop, Option, None, refl, sym, ap, ◌∙◌, subst, arith}
-use Rattle.std.proofs.Math.Seq.{take-length, take-append_seam}
-use Rattle.std.proofs.lemmas.List.{length_push, length-drop, get_or_past}
-use Rattle.std.proofs.lemmas.List.Elements.{All-weaker}
-use Rattle.std.proofs.lemmas.Bool.{cases_lt, cases_Bool, false_from_ne_true, or_left}
-use Rattle.rule_index.specs.declared.tree.Node.{Node}
-use Rattle.rule_index.specs.declared.tree.Tree.{Tree}
-use Rattle.rule_index.specs.Prefixes.{same_word, has, word_at}
-use Rattle.rule_index.specs.Automaton.{longest, ends_with, first_of, node_at, added_node, words_of, Lists, IsChild, IsTree, IsChained, IsSpelled, IsLinked, IsLongest, IsMarked, IsEnds, IsRelinked, IsGrown, HasLetters, HasRoom}
+use Rattle.rule_index.proofs.Prelude.{◌≡◌, ◌≢◌, inl, inr, ℕ, ◌+◌, ◌<◌, ◌||◌, true, false, List, [], ◌∷◌, ◌++◌, length, get_or, take, drop, Option, None, refl, sym, ap, ◌∙◌, subst, arith, take-length, take-append_seam, length_push, length-drop, get_or_past, All-weaker, cases_lt, cases_Bool, false_from_ne_true, or_left, Node, Tree, same_word, has, word_at, longest, ends_with, first_of, node_at, added_node, words_of, Lists, IsChild, IsTree, IsChained, IsSpelled, IsLinked, IsLongest, IsMarked, IsEnds, IsRelinked, IsGrown, HasLetters, HasRoom}
 use Rattle.rule_index.proofs.Suffixes.{has-push, ends-longest, ends-short, longest-other, longest-new, longest-old, same-true}
 use Rattle.rule_index.proofs.Firsts.{same_first}
 use Rattle.rule_index.proofs.Pushing.{push-old, push-new, Same, is_same, is_other, same_or, spelled-push, words-push}

@@ -1,15 +1,5 @@
 -- A word's letters one after another, and then its place at each node that it ends.
-use Rattle.std.proofs.Common.{◌≡◌, ◌≢◌, inl, inr, ℕ, zero, suc, ◌+◌, ◌-◌, ◌<◌, ◌&&◌, Bool, true, false, cond, List, [], ◌∷◌, ◌++◌, length, get_or, set, drop, take, Option, Some, None, refl, sym, ap, ap₂, ◌∙◌, subst, arith, eq-eqb, get_or-set_other, get_or-set_same}
-use Rattle.std.specs.Option.{option_map}
-use Rattle.std.proofs.Math.Seq.{take-length}
-use Rattle.std.proofs.lemmas.List.{length-set, take_more, take_all}
-use Rattle.std.proofs.lemmas.List.Elements.{All-push}
-use Rattle.std.proofs.lemmas.Bool.{or_cases, or_right, false_from_ne_true}
-use Rattle.rule_index.specs.declared.tree.Node.{Node}
-use Rattle.rule_index.specs.declared.tree.Tree.{Tree}
-use Rattle.rule_index.specs.Matches.{begins_with}
-use Rattle.rule_index.specs.Prefixes.{same_word, has, word_at}
-use Rattle.rule_index.specs.Automaton.{ends_with, first_of, marked, words_of, Lists, IsTree, IsSpelled, IsMarked, IsMarkedAt, IsEnds, IsGrown, IsGrowing, IsInserted, HasLetters, HasRoom}
+use Rattle.rule_index.proofs.Prelude.{◌≡◌, ◌≢◌, inl, inr, ℕ, zero, suc, ◌+◌, ◌-◌, ◌<◌, ◌&&◌, Bool, true, false, cond, List, [], ◌∷◌, ◌++◌, length, get_or, set, drop, take, Option, Some, None, refl, sym, ap, ap₂, ◌∙◌, subst, arith, eq-eqb, get_or-set_other, get_or-set_same, option_map, take-length, length-set, take_more, take_all, All-push, or_cases, or_right, false_from_ne_true, Node, Tree, begins_with, same_word, has, word_at, ends_with, first_of, marked, words_of, Lists, IsTree, IsSpelled, IsMarked, IsMarkedAt, IsEnds, IsGrown, IsGrowing, IsInserted, HasLetters, HasRoom}
 use Rattle.rule_index.proofs.Suffixes.{same-true, has-at}
 use Rattle.rule_index.proofs.Pushing.{Same, is_same, is_other, same_or}
 use Rattle.rule_index.proofs.Fronts.{front-more}

@@ -1,3 +1,4 @@
+mod Prelude
 pub mod SameTree
 pub mod PlacesOfWords
 pub mod Matching

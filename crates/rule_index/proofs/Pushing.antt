@@ -1,11 +1,5 @@
 -- One node more.
-use Rattle.std.proofs.Common.{◌≡◌, ◌≢◌, inl, inr, ℕ, ◌+◌, ◌<◌, ◌≤◌, true, false, List, [], ◌∷◌, ◌++◌, length, get_or, refl, sym, ap, ◌∙◌, subst, arith}
-use Rattle.std.proofs.lemmas.List.{length_push, get_or_push, get_or_append_left, get_or_past}
-use Rattle.std.proofs.lemmas.Bool.{cases_lt}
-use Rattle.std.proofs.lemmas.Bool.Decides.{eqb_tells}
-use Rattle.rule_index.specs.declared.tree.Node.{Node}
-use Rattle.rule_index.specs.Prefixes.{has, word_at}
-use Rattle.rule_index.specs.Automaton.{node_at, root, grown, words_of, IsSpelled}
+use Rattle.rule_index.proofs.Prelude.{◌≡◌, ◌≢◌, inl, inr, ℕ, ◌+◌, ◌<◌, ◌≤◌, true, false, List, [], ◌∷◌, ◌++◌, length, get_or, refl, sym, ap, ◌∙◌, subst, arith, length_push, get_or_push, get_or_append_left, get_or_past, cases_lt, eqb_tells, Node, has, word_at, node_at, root, grown, words_of, IsSpelled}
 use Rattle.rule_index.proofs.Suffixes.{has-at}
 
 pub push-old : {X : Type 0} (xs : List X) (y d : X) (k : ℕ) → k ≢ length xs → get_or (xs ++ y ∷ []) k d ≡ get_or xs k d

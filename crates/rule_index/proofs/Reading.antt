@@ -1,9 +1,5 @@
 -- One more letter is read.
-use Rattle.std.proofs.Common.{◌≡◌, ℕ, ◌<◌, List, [], ◌∷◌, ◌++◌, length, get_or, drop, Option, None, refl, sym, ap, ap₂, ◌∙◌, arith}
-use Rattle.std.proofs.lemmas.List.{get_or_read}
-use Rattle.rule_index.specs.declared.tree.Node.{Node}
-use Rattle.rule_index.specs.Prefixes.{word_at}
-use Rattle.rule_index.specs.Automaton.{longest, ends_with, first_of, occurs, sooner, words_of, IsSpelled, IsLinked, IsLongest, IsMarked}
+use Rattle.rule_index.proofs.Prelude.{◌≡◌, ℕ, ◌<◌, List, [], ◌∷◌, ◌++◌, length, get_or, drop, Option, None, refl, sym, ap, ap₂, ◌∙◌, arith, get_or_read, Node, word_at, longest, ends_with, first_of, occurs, sooner, words_of, IsSpelled, IsLinked, IsLongest, IsMarked}
 use Rattle.rule_index.proofs.Suffixes.{longest-more}
 use Rattle.rule_index.proofs.Spelled.{words-closed, word-some}
 use Rattle.rule_index.proofs.Firsts.{first-more}

@@ -1,9 +1,5 @@
 -- One link after another.
-use Rattle.std.proofs.Common.{◌≡◌, ◌≢◌, ◌⊎◌, inl, inr, ℕ, ◌+◌, ◌<◌, ◌≤◌, true, false, nat_lt, List, length, get_or, set, refl, sym, ap, ◌∙◌, subst, arith, get_or-set_other, get_or-set_same}
-use Rattle.std.proofs.lemmas.Bool.Decides.{eqb_tells}
-use Rattle.std.proofs.lemmas.Bool.{cases_Bool, cond_both, ltb-true, ltb-false}
-use Rattle.rule_index.specs.declared.tree.Node.{Node}
-use Rattle.rule_index.specs.Automaton.{node_at, ListsBelow, IsRelinked, relinked}
+use Rattle.rule_index.proofs.Prelude.{◌≡◌, ◌≢◌, ◌⊎◌, inl, inr, ℕ, ◌+◌, ◌<◌, ◌≤◌, true, false, nat_lt, List, length, get_or, set, refl, sym, ap, ◌∙◌, subst, arith, get_or-set_other, get_or-set_same, eqb_tells, cases_Bool, cond_both, ltb-true, ltb-false, Node, node_at, ListsBelow, IsRelinked, relinked}
 
 pub lists-more : (n : ℕ) (ends : List ℕ) (k : ℕ) → ListsBelow n ends k → ListsBelow (n + 1) ends k
 lists-more n ends k l = (l.0, omega (arith, l.1), l.2)

@@ -1,7 +1,5 @@
 -- A tree whose lists are others that hold the same.
-use Rattle.std.proofs.Common.{◌≡◌, ℕ, List, sym, subst}
-use Rattle.rule_index.specs.declared.tree.Node.{Node}
-use Rattle.rule_index.specs.Automaton.{IsTree}
+use Rattle.rule_index.proofs.Prelude.{◌≡◌, ℕ, List, sym, subst, Node, IsTree}
 
 pub tree_of_same : (nodes nodes' : List Node) (heads heads' nexts nexts' links links' : List ℕ) → nodes' ≡ nodes → heads' ≡ heads → nexts' ≡ nexts → links' ≡ links → IsTree nodes heads nexts links → IsTree nodes' heads' nexts' links'
 tree_of_same nodes nodes' heads heads' nexts nexts' links links' same_nodes same_heads same_nexts same_links tree =

@@ -1,10 +1,5 @@
 -- The words of the nodes.
-use Rattle.std.proofs.Common.{◌≡◌, ℕ, zero, suc, ◌<◌, true, false, List, [], ◌∷◌, ◌++◌, length, get_or, drop, sym, ap, ◌∙◌, subst, arith}
-use Rattle.std.proofs.lemmas.List.{same_from_push, length_push, length-drop}
-use Rattle.std.proofs.lemmas.Bool.{false_from_ne_true}
-use Rattle.rule_index.specs.declared.tree.Node.{Node}
-use Rattle.rule_index.specs.Prefixes.{has, word_at}
-use Rattle.rule_index.specs.Automaton.{longest, node_at, IsChild, IsSpelled, IsLinked}
+use Rattle.rule_index.proofs.Prelude.{◌≡◌, ℕ, zero, suc, ◌<◌, true, false, List, [], ◌∷◌, ◌++◌, length, get_or, drop, sym, ap, ◌∙◌, subst, arith, same_from_push, length_push, length-drop, false_from_ne_true, Node, has, word_at, longest, node_at, IsChild, IsSpelled, IsLinked}
 use Rattle.rule_index.proofs.Suffixes.{has-at, has-place, IsClosed, longest-itself, longest-short, step-none, step-root}
 
 module _ (nodes : List Node) (words : List (List ℕ)) (spelled : IsSpelled nodes words) where

@@ -1,12 +1,5 @@
 -- The nodes by the first letter.
-use Rattle.std.proofs.Common.{◌≡◌, ◌⊎◌, inl, inr, ℕ, zero, suc, ◌+◌, ◌-◌, ◌<◌, ◌≤◌, List, [], ◌∷◌, ◌++◌, length, drop, refl, sym, ◌∙◌, subst, arith}
-use Rattle.std.specs.List.{range_with_len}
-use Rattle.std.proofs.lemmas.List.{length_push, get_or_push, get_or_append_left}
-use Rattle.std.proofs.lemmas.List.FromFn.{get_or-range_with_len, length-range_with_len}
-use Rattle.std.proofs.lemmas.Bool.{cases_lt}
-use Rattle.rule_index.specs.declared.tree.Node.{Node}
-use Rattle.rule_index.specs.Prefixes.{word_at}
-use Rattle.rule_index.specs.Automaton.{node_at, Lists, IsSpelled, IsEnds, IsStarts}
+use Rattle.rule_index.proofs.Prelude.{◌≡◌, ◌⊎◌, inl, inr, ℕ, zero, suc, ◌+◌, ◌-◌, ◌<◌, ◌≤◌, List, [], ◌∷◌, ◌++◌, length, drop, refl, sym, ◌∙◌, subst, arith, range_with_len, length_push, get_or_push, get_or_append_left, get_or-range_with_len, length-range_with_len, cases_lt, Node, word_at, node_at, Lists, IsSpelled, IsEnds, IsStarts}
 use Rattle.rule_index.proofs.Pushing.{Same, is_same, is_other, same_or}
 use Rattle.rule_index.proofs.Ending.{ends-nothing, ends-advanced}
 

@@ -1,8 +1,5 @@
 -- The longest suffix of a word that is among some words.
-use Rattle.std.proofs.Common.{inl, inr, ◌≡◌, ℕ, zero, suc, ◌<◌, ◌≤◌, ◌||◌, ◌&&◌, Bool, true, false, nat_eq, List, [], ◌∷◌, ◌++◌, length, drop, refl, sym, ap, ap₂, ◌∙◌, subst, arith, eqb-true, eq-eqb}
-use Rattle.std.proofs.lemmas.Bool.{and_parts, cases_Bool, false_from_ne_true, or_left, or_parts, or_right}
-use Rattle.rule_index.specs.Prefixes.{same_word, has, word_at}
-use Rattle.rule_index.specs.Automaton.{longest, ends_with}
+use Rattle.rule_index.proofs.Prelude.{inl, inr, ◌≡◌, ℕ, zero, suc, ◌<◌, ◌≤◌, ◌||◌, ◌&&◌, Bool, true, false, nat_eq, List, [], ◌∷◌, ◌++◌, length, drop, refl, sym, ap, ap₂, ◌∙◌, subst, arith, eqb-true, eq-eqb, and_parts, cases_Bool, false_from_ne_true, or_left, or_parts, or_right, same_word, has, word_at, longest, ends_with}
 
 pub same-true : (v w : List ℕ) → same_word v w ≡ true → v ≡ w
 same-true [] [] e = refl

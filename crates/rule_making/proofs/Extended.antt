@@ -1,15 +1,5 @@
 -- The rules with one that is made of a rest.
-use Rattle.std.proofs.Common.{◌≡◌, ◌<ℤ◌, pos, neg_ℤ, List, [], ◌∷◌, ◌++◌, Option, Some, None, IsSomeAnd, option_to_list, refl, ap, ◌∙◌, if◌then◌else◌}
-use Rattle.std.specs.Option.{option_map}
-use Rattle.definitions.specs.Poly.{Term, poly_multiple}
-use Rattle.word_orders.specs.Admissible.{Compare}
-use Rattle.nc_polynomial.specs.declared.poly.Poly.{Poly}
-use Rattle.nc_polynomial.specs.Content.{IsContent}
-use Rattle.traced_rows.specs.declared.Made.{Made}
-use Rattle.rule_reduce.specs.declared.rule.Rule.{Rule}
-use Rattle.rule_reduce.specs.Leading.{leading_term}
-use Rattle.rule_reduce.specs.RuleLists.{rule_from}
-use Rattle.rule_making.specs.Making.{Rest, leads_negative, negated_rows, IsExtended}
+use Rattle.rule_making.proofs.Prelude.{◌≡◌, ◌<ℤ◌, pos, neg_ℤ, List, [], ◌∷◌, ◌++◌, Option, Some, None, IsSomeAnd, option_to_list, refl, ap, ◌∙◌, if◌then◌else◌, option_map, Term, poly_multiple, Compare, Poly, IsContent, Made, Rule, leading_term, rule_from, Rest, leads_negative, negated_rows, IsExtended}
 
 module _ (compare : Compare) (rest : Rest) (poly : Poly) (m : Made) (content : IsContent rest.polynomial m.scale) (positive : pos 0 <ℤ m.scale)
     (divided : poly_multiple (if leads_negative compare rest.polynomial then neg_ℤ m.scale else m.scale) poly.terms ≡ rest.polynomial)

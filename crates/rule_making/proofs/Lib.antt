@@ -1,3 +1,4 @@
+mod Prelude
 pub mod Quotients
 pub mod Extended
 pub mod Records

@@ -1,23 +1,5 @@
 -- A polynomial divided by its content, or by the negative of that.
-use Rattle.std.proofs.Common.{◌≡◌, ◌≢◌, ◌<◌, ◌≤◌, ◌<ℤ◌, ℕ, zero, suc, ◌*◌, ℤ, pos, negsuc, neg_ℤ, ◌*ℤ◌, List, [], ◌∷◌, length, Bool, true, false, cond, Option, Some, None, IsSomeAnd, refl, sym, ap, ◌∙◌, subst, arith, get_or}
-use Rattle.std.specs.List.{All}
-use Rattle.std.specs.Option.{option_map}
-use Rattle.std.specs.declared.cmp.Ordering.{Ordering}
-use Rattle.std.specs.declared.cmp.Ordering.TheVariants.{Less, Equal, Greater}
-use Rattle.std.specs.Int.{◌∣◌}
-use Rattle.std.specs.Int.RustNames.{unsigned_abs}
-use Rattle.std.proofs.lemmas.Int.{ints, unsigned_abs-mul}
-use Rattle.std.proofs.lemmas.List.Elements.{All-map}
-use Rattle.std.proofs.Math.Nat.{mul-dvd-mul_left, dvd_of_mul-dvd-mul_left, one-dvd, mul-one, le-mul_of_pos_right}
-use Rattle.std.proofs.Math.IntN.{pos-*ℤ-negsuc, negsuc-*ℤ-negsuc, *ℤ-zero}
-use Rattle.definitions.specs.Poly.{Term, poly_multiple}
-use Rattle.word_orders.specs.Admissible.{Compare}
-use Rattle.nc_polynomial.specs.Terms.{by_order}
-use Rattle.nc_polynomial.specs.Content.{IsContent, DividesEach}
-use Rattle.nc_polynomial.proofs.Divisors.{abs_positive, at_multiple}
-use Rattle.rule_reduce.proofs.AtMost.{leading-all}
-use Rattle.rule_reduce.specs.Leading.{greater_term, greatest_from, leading_term}
-use Rattle.rule_making.specs.Making.{is_negative, is_term_negative, leads_negative}
+use Rattle.rule_making.proofs.Prelude.{◌≡◌, ◌≢◌, ◌<◌, ◌≤◌, ◌<ℤ◌, ℕ, zero, suc, ◌*◌, ℤ, pos, negsuc, neg_ℤ, ◌*ℤ◌, List, [], ◌∷◌, length, Bool, true, false, cond, Option, Some, None, IsSomeAnd, refl, sym, ap, ◌∙◌, subst, arith, get_or, All, option_map, Ordering, Less, Equal, Greater, ◌∣◌, unsigned_abs, ints, unsigned_abs-mul, All-map, mul-dvd-mul_left, dvd_of_mul-dvd-mul_left, one-dvd, mul-one, le-mul_of_pos_right, pos-*ℤ-negsuc, negsuc-*ℤ-negsuc, *ℤ-zero, Term, poly_multiple, Compare, by_order, IsContent, DividesEach, abs_positive, at_multiple, leading-all, greater_term, greatest_from, leading_term, is_negative, is_term_negative, leads_negative}
 
 abbrev pub multiple_term : ℤ → Term → Term
 multiple_term k t = (k *ℤ t.0, t.1)

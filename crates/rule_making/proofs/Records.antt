@@ -1,14 +1,5 @@
 -- Rows of records name what is there before, and a record more.
-use Rattle.std.proofs.Common.{◌≡◌, ℕ, zero, suc, ◌+◌, List, [], ◌∷◌, ◌++◌, length, slice_get, Option, Some, None, sym, ap, ◌∙◌, subst, arith}
-use Rattle.std.specs.List.{All}
-use Rattle.std.proofs.lemmas.List.Elements.{All-map}
-use Rattle.std.proofs.lemmas.List.{length-append}
-use Rattle.traced_rows.specs.declared.Row.{Row}
-use Rattle.traced_rows.specs.declared.Made.{Made}
-use Rattle.cofactor_trace.specs.Needed.{IsAmongFirst, IsRecord}
-use Rattle.rule_reduce.specs.declared.rule.Rule.{Rule}
-use Rattle.rule_making.specs.Making.{negated_row, negated_rows}
-use Rattle.rule_making.specs.Records.{HasRecords}
+use Rattle.rule_making.proofs.Prelude.{◌≡◌, ℕ, zero, suc, ◌+◌, List, [], ◌∷◌, ◌++◌, length, slice_get, Option, Some, None, sym, ap, ◌∙◌, subst, arith, All, All-map, length-append, Row, Made, IsAmongFirst, IsRecord, Rule, negated_row, negated_rows, HasRecords}
 
 abbrev pub AreNamed : ℕ → List Row → Type 0
 AreNamed count rows = All (λ (r : Row). IsAmongFirst count r.from) rows

@@ -1,12 +1,5 @@
 -- What holds of the choice so far and of one by the next term holds of the better one.
-use Rattle.std.proofs.Common.{ℕ, List, Option, Some, None, IfSome}
-use Rattle.std.specs.declared.cmp.Ordering.TheVariants.{Less, Equal, Greater}
-use Rattle.definitions.specs.Poly.{Term}
-use Rattle.nc_polynomial.specs.Terms.{by_order}
-use Rattle.rule_index.specs.Matches.{match_of}
-use Rattle.word_orders.specs.Admissible.{Compare}
-use Rattle.rule_reduce.specs.declared.state.Choice.{Choice}
-use Rattle.rule_reduce.specs.Choices.{better_choice, choice_or}
+use Rattle.rule_reduce.proofs.Prelude.{ℕ, List, Option, Some, None, IfSome, Less, Equal, Greater, Term, by_order, match_of, Compare, Choice, better_choice, choice_or}
 
 module _ (P : Choice → Type 0) (compare : Compare) (entries : List (List ℕ × ℕ)) (t : Term) (each : (m : ℕ × ℕ) → P (record { coefficient = t.0; word = t.1; number = m.0; place = m.1 })) where
   holds-or : (m : Option (ℕ × ℕ)) (best : Option Choice) → IfSome best P → IfSome (choice_or t m best) P

@@ -1,14 +1,7 @@
 -- Normal forms with the letters a = 0 and b = 1, in the canonical order and by weights.
-use Rattle.std.proofs.Common.{◌≡◌, ℕ, zero, suc, pos, negsuc, List, [], ◌∷◌, Ok, Err, refl}
-use Rattle.coef_int.specs.Operations.{product_of}
-use Rattle.definitions.specs.Poly.{Term}
-use Rattle.word_core.specs.Canonical.{word_cmp}
-use Rattle.word_orders.specs.Measured.{weight_cmp}
-use Rattle.nc_polynomial.specs.Shape.{IsCanonical}
+use Rattle.rule_reduce.proofs.Prelude.{◌≡◌, ℕ, zero, suc, pos, negsuc, List, [], ◌∷◌, Ok, Err, refl, product_of, Term, word_cmp, weight_cmp, IsCanonical, Rule, normal_form_of}
 use Rattle.traced_rows.specs.declared.Origin.TheVariants as origin
-use Rattle.rule_reduce.specs.declared.rule.Rule.{Rule}
 use Rattle.rule_reduce.specs.declared.fault.ReduceFault.TheVariants as halt
-use Rattle.rule_reduce.specs.NormalForms.{normal_form_of}
 
 -- 2 b - a
 abbrev two_b : List Term

@@ -1,19 +1,5 @@
 -- In the canonical order the first term that can be reduced is the greatest one.
-use Rattle.std.proofs.Common.{◌≡◌, ℕ, zero, suc, List, [], ◌∷◌, ◌<◌, length, take, drop, get_or, Option, Some, None, IfSome, IfNone, refl, sym, ap, ap₂, subst, ◌∙◌, arith}
-use Rattle.std.proofs.lemmas.List.{get_or-take, length-take}
-use Rattle.std.specs.List.{All}
-use Rattle.std.proofs.lemmas.List.Elements.{All-tail}
-use Rattle.std.specs.Ordering.{ordering_then, nat_cmp}
-use Rattle.std.specs.declared.cmp.Ordering.TheVariants.{Greater}
-use Rattle.definitions.specs.Poly.{Term}
-use Rattle.word_core.specs.Canonical.{word_cmp}
-use Rattle.word_core.proofs.Order.{word_cmp-turned_back}
-use Rattle.nc_polynomial.specs.Terms.{by_order}
-use Rattle.rule_index.specs.Matches.{match_of}
-use Rattle.word_orders.specs.Admissible.{Compare}
-use Rattle.word_orders.specs.Measured.{measured_cmp}
-use Rattle.rule_reduce.specs.declared.state.Choice.{Choice}
-use Rattle.rule_reduce.specs.Choices.{choice_or, choice_from, IsPlain, IsSettled}
+use Rattle.rule_reduce.proofs.Prelude.{◌≡◌, ℕ, zero, suc, List, [], ◌∷◌, ◌<◌, length, take, drop, get_or, Option, Some, None, IfSome, IfNone, refl, sym, ap, ap₂, subst, ◌∙◌, arith, get_or-take, length-take, All, All-tail, ordering_then, nat_cmp, Greater, Term, word_cmp, word_cmp-turned_back, by_order, match_of, Compare, measured_cmp, Choice, choice_or, choice_from, IsPlain, IsSettled}
 use Rattle.rule_reduce.proofs.BetterChoices.{holds-better}
 
 -- an order by measures that are all 0 is the canonical one

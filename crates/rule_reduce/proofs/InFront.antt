@@ -1,19 +1,6 @@
 -- Terms above the first word of another list stand in front of the sum as they are.
-use Rattle.std.proofs.Common.{◌≡◌, ℕ, pos, ◌+ℤ◌, List, [], ◌∷◌, ◌++◌, take, drop, slice_get, IfSome, Result, Ok, Err, refl, sym, ap, ◌∙◌, subst, arith}
-use Rattle.std.specs.List.{All}
-use Rattle.std.specs.declared.cmp.Ordering.TheVariants.{Greater}
-use Rattle.std.proofs.lemmas.Int.{ints}
-use Rattle.std.proofs.lemmas.List.{take-append-drop}
-use Rattle.std.proofs.lemmas.List.Elements.{All-tail, All-take}
-use Rattle.coef_int.specs.Range.{IsCoefficient}
-use Rattle.coef_int.specs.Operations.{sum_of}
-use Rattle.definitions.specs.Poly.{Term}
-use Rattle.word_core.specs.Canonical.{word_cmp}
-use Rattle.nc_polynomial.specs.declared.fault.PolyFault.{PolyFault}
-use Rattle.nc_polynomial.specs.Shape.{IsShaped}
-use Rattle.nc_polynomial.specs.Terms.{aligned, aligned_at, by_order, keep, totals, total_operations}
-use Rattle.nc_polynomial.proofs.Shapes.{IsInRange, IsNonzero}
-use Rattle.nc_polynomial.proofs.Checked.{join, join-none, keep-nonzero, one-fits, total_from}
+use Rattle.rule_reduce.proofs.Prelude.{◌≡◌, ℕ, pos, ◌+ℤ◌, List, [], ◌∷◌, ◌++◌, take, drop, slice_get, IfSome, Result, Ok, Err, refl, sym, ap, ◌∙◌, subst, arith, All, Greater, ints, take-append-drop, All-tail, All-take, IsCoefficient, sum_of, Term, word_cmp, PolyFault, IsShaped, aligned, aligned_at, by_order, keep, totals, total_operations, IsNonzero, join, join-none, keep-nonzero, one-fits, total_from}
+use Rattle.nc_polynomial.proofs.Shapes.{IsInRange}
 
 -- one term above the first word of the other list
 next_in_front : (t : Term) (p q : List Term) → IfSome (slice_get q 0) (λ u. word_cmp t.1 u.1 ≡ Greater) → aligned (t ∷ p) q ≡ (t.0, pos 0, t.1) ∷ aligned p q

@@ -1,28 +1,6 @@
 -- Sums that are made in the place of one of the lists.
-use Rattle.std.proofs.Math.IntN.{+ℤ_idl}
-use Rattle.std.proofs.lemmas.Bool.{cases_lt}
-use Rattle.std.proofs.lemmas.Cmp.{back_total}
-use Rattle.std.proofs.lemmas.List.Elements.{All-drop}
-use Rattle.std.proofs.lemmas.List.Sorted.{searchable_from_sorted}
-use Rattle.std.proofs.Common.{◌≡◌, ◌≢◌, inl, inr, ℕ, ◌+◌, ◌<◌, ◌≤◌, ℤ, pos, ◌+ℤ◌, List, [], ◌∷◌, ◌++◌, length, take, drop, get_or, true, Some, None, Result, Ok, Err, refl, sym, ap, ap₂, ◌∙◌, subst, arith, append_assoc}
-use Rattle.std.specs.List.{All, AllWithin, HoldsAt}
-use Rattle.std.specs.List.Sorted.{IsPartitionedBy, IsPartitionPoint, IsBinarySearchResult}
-use Rattle.std.specs.Ordering.{is_gt, is_lt}
-use Rattle.std.specs.declared.cmp.Ordering.{Ordering}
-use Rattle.std.specs.declared.cmp.Ordering.TheVariants.{Less, Equal, Greater}
-use Rattle.std.proofs.lemmas.List.{append-nil, get_or-take, get_or-drop, length-take, length-drop, length-append, take_all, drop_all, drop_more, take-append-drop, take-take, drop-take, drop-drop, take_at, drop_at}
-use Rattle.coef_int.specs.Range.{IsCoefficient}
-use Rattle.coef_int.specs.Operations.{sum_of, first_overflow}
-use Rattle.definitions.specs.Poly.{Term}
-use Rattle.word_core.specs.Canonical.{word_cmp, word_cmp_total}
-use Rattle.word_core.proofs.Order.{word_cmp-same, word_cmp-itself, word_cmp-turned, word_cmp-turned_back, word_cmp-trans}
-use Rattle.nc_polynomial.specs.declared.fault.PolyFault.{PolyFault}
+use Rattle.rule_reduce.proofs.Prelude.{+ℤ_idl, cases_lt, back_total, All-drop, searchable_from_sorted, ◌≡◌, ◌≢◌, inl, inr, ℕ, ◌+◌, ◌<◌, ◌≤◌, ℤ, pos, ◌+ℤ◌, List, [], ◌∷◌, ◌++◌, length, take, drop, get_or, true, Some, None, Result, Ok, Err, refl, sym, ap, ap₂, ◌∙◌, subst, arith, append_assoc, All, AllWithin, HoldsAt, IsPartitionedBy, IsPartitionPoint, IsBinarySearchResult, is_gt, is_lt, Ordering, Less, Equal, Greater, append-nil, get_or-take, get_or-drop, length-take, length-drop, length-append, take_all, drop_all, drop_more, take-append-drop, take-take, drop-take, drop-drop, take_at, drop_at, IsCoefficient, sum_of, first_overflow, Term, word_cmp, word_cmp_total, word_cmp-same, word_cmp-itself, word_cmp-turned, word_cmp-turned_back, word_cmp-trans, PolyFault, IsDescending, aligned, aligned_at, by_order, keep, added, totals, total_operations, unless_overflow, IsShaped, join, keep-nonzero, one-fits, one-fails, total_from, sum_from, term_at, IsPut}
 use Rattle.nc_polynomial.specs.declared.fault.PolyFault.TheVariants as fault
-use Rattle.nc_polynomial.specs.Terms.{IsDescending, aligned, aligned_at, by_order, keep, added, totals, total_operations}
-use Rattle.nc_polynomial.specs.Faults.{unless_overflow}
-use Rattle.nc_polynomial.specs.Shape.{IsShaped}
-use Rattle.nc_polynomial.proofs.Checked.{join, keep-nonzero, one-fits, one-fails, total_from}
-use Rattle.rule_reduce.specs.Adding.{sum_from, term_at, IsPut}
 use Rattle.rule_reduce.proofs.InFront.{in_front}
 
 -- a term that is no zero is put behind a front

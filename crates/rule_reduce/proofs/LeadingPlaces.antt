@@ -1,18 +1,5 @@
 -- The place of the leading term.
-use Rattle.std.proofs.Common.{◌≡◌, ℕ, ◌<◌, List, [], ◌∷◌, length, drop, get_or, slice_get, Some, refl, sym, ap, ◌∙◌, arith}
-use Rattle.std.specs.List.{All}
-use Rattle.std.proofs.lemmas.List.Elements.{All-tail}
-use Rattle.std.specs.declared.cmp.Ordering.TheVariants.{Greater}
-use Rattle.std.proofs.lemmas.List.{drop_all}
-use Rattle.std.proofs.lemmas.Option.{slice_get-get_or}
-use Rattle.definitions.specs.Poly.{Term}
-use Rattle.word_orders.specs.Admissible.{Compare}
-use Rattle.word_core.specs.Canonical.{word_cmp}
-use Rattle.word_core.proofs.Order.{word_cmp-turned_back}
-use Rattle.nc_polynomial.specs.Terms.{by_order}
-use Rattle.nc_polynomial.proofs.Shapes.{Descends}
-use Rattle.rule_reduce.specs.Choices.{IsPlain}
-use Rattle.rule_reduce.specs.Leading.{greatest_from, leading_term}
+use Rattle.rule_reduce.proofs.Prelude.{◌≡◌, ℕ, ◌<◌, List, [], ◌∷◌, length, drop, get_or, slice_get, Some, refl, sym, ap, ◌∙◌, arith, All, All-tail, Greater, drop_all, slice_get-get_or, Term, Compare, word_cmp, word_cmp-turned_back, by_order, Descends, IsPlain, greatest_from, leading_term}
 
 module _ (compare : Compare) (p : List Term) where
   -- the greatest of the term at a place and those from another place on is the leading one

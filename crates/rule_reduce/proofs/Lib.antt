@@ -1,3 +1,4 @@
+mod Prelude
 pub mod Numbers
 pub mod Rows
 pub mod RowLists

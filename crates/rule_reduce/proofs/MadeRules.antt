@@ -1,17 +1,5 @@
 -- The rule of a polynomial.
-use Rattle.std.proofs.Common.{◌≡◌, ℕ, ℤ, pos, ◌<◌, ◌<ℤ◌, List, [], ◌∷◌, length, slice_get, Some, IsSomeAnd, ◌∙◌, arith, subst}
-use Rattle.std.specs.List.{All}
-use Rattle.definitions.specs.Poly.{Term}
-use Rattle.std.specs.Int.RustNames.{unsigned_abs}
-use Rattle.std.proofs.lemmas.Int.{ints}
-use Rattle.std.proofs.lemmas.Nat.Gcd.{dvd_antisymm}
-use Rattle.nc_polynomial.specs.Content.{IsContent}
-use Rattle.coef_int.specs.Range.{IsCoefficient}
-use Rattle.word_core.specs.Letters.{IsOver}
-use Rattle.word_orders.specs.Admissible.{Compare}
-use Rattle.nc_polynomial.specs.declared.poly.Poly.{Poly}
-use Rattle.rule_reduce.specs.Leading.{leading_term}
-use Rattle.rule_reduce.specs.RuleLists.{IsRule}
+use Rattle.rule_reduce.proofs.Prelude.{◌≡◌, ℕ, ℤ, pos, ◌<◌, ◌<ℤ◌, List, [], ◌∷◌, length, slice_get, Some, IsSomeAnd, ◌∙◌, arith, subst, All, Term, unsigned_abs, ints, dvd_antisymm, IsContent, IsCoefficient, IsOver, Compare, Poly, leading_term, IsRule}
 use Rattle.rule_reduce.proofs.Numbers.{all_at}
 
 -- a polynomial with a leading term has a term

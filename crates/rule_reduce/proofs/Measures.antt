@@ -1,24 +1,5 @@
 -- Words by their measures: which is greater, and where no term behind the choice so far can be better.
-use Rattle.std.proofs.Common.{◌≡◌, ◌<◌, ◌≤◌, inl, inr, ℕ, Bool, List, [], ◌∷◌, Option, Some, None, IfSome, IsSome, IsSomeAnd, IsTrue, refl, sym, ap, ◌∙◌, arith}
-use Rattle.std.specs.List.{All}
-use Rattle.std.proofs.lemmas.List.Elements.{All-tail}
-use Rattle.std.specs.Option.{option_map}
-use Rattle.std.proofs.lemmas.Bool.{false≢true}
-use Rattle.std.proofs.lemmas.Cmp.{ranked}
-use Rattle.std.specs.Cmp.{nat_cmp_is}
-use Rattle.std.specs.Ordering.{nat_cmp, ordering_then}
-use Rattle.std.specs.declared.cmp.Ordering.{Ordering}
-use Rattle.std.specs.declared.cmp.Ordering.TheVariants.{Less, Equal, Greater}
-use Rattle.definitions.specs.Poly.{Term}
-use Rattle.word_core.specs.Canonical.{word_cmp}
-use Rattle.word_core.proofs.Order.{word_cmp-turned_back}
-use Rattle.word_orders.specs.Admissible.{Compare}
-use Rattle.word_orders.specs.Measured.{measured_cmp}
-use Rattle.nc_polynomial.specs.Terms.{by_order}
-use Rattle.rule_index.specs.Matches.{match_of}
-use Rattle.rule_reduce.specs.declared.state.Choice.{Choice}
-use Rattle.rule_reduce.specs.Choices.{better_choice, choice_or, choice_from, IsSettled}
-use Rattle.rule_reduce.specs.Passing.{Passes}
+use Rattle.rule_reduce.proofs.Prelude.{◌≡◌, ◌<◌, ◌≤◌, inl, inr, ℕ, Bool, List, [], ◌∷◌, Option, Some, None, IfSome, IsSome, IsSomeAnd, IsTrue, refl, sym, ap, ◌∙◌, arith, All, All-tail, option_map, false≢true, ranked, nat_cmp_is, nat_cmp, ordering_then, Ordering, Less, Equal, Greater, Term, word_cmp, word_cmp-turned_back, Compare, measured_cmp, by_order, match_of, Choice, better_choice, choice_or, choice_from, IsSettled, Passes}
 
 module _ (measure : List ℕ → ℕ) (u v : List ℕ) where
   pub greater_if : measure v < measure u → measured_cmp measure u v ≡ Greater

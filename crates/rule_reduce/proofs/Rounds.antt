@@ -1,17 +1,7 @@
 -- One round of a reduction.
-use Rattle.std.proofs.Common.{◌≡◌, ℕ, zero, suc, List, Some, None, Ok, Err, ap, ◌∙◌}
-use Rattle.nc_polynomial.specs.declared.fault.PolyFault.{PolyFault}
+use Rattle.rule_reduce.proofs.Prelude.{◌≡◌, ℕ, zero, suc, List, Some, None, Ok, Err, ap, ◌∙◌, PolyFault, Explains, Compare, Rule, Choice, State, entries_of, choice_of, step_result, halt_of, then_next, one_step, at_limit, reduction, ExplainsHalt}
 use Rattle.nc_polynomial.specs.declared.fault.PolyFault.TheVariants as fault
-use Rattle.nc_polynomial.specs.Faults.{Explains}
-use Rattle.word_orders.specs.Admissible.{Compare}
-use Rattle.rule_reduce.specs.declared.rule.Rule.{Rule}
-use Rattle.rule_reduce.specs.declared.state.Choice.{Choice}
-use Rattle.rule_reduce.specs.declared.state.State.{State}
 use Rattle.rule_reduce.specs.declared.fault.ReduceFault.TheVariants as halt
-use Rattle.rule_reduce.specs.RuleLists.{entries_of}
-use Rattle.rule_reduce.specs.Choices.{choice_of}
-use Rattle.rule_reduce.specs.Steps.{step_result}
-use Rattle.rule_reduce.specs.NormalForms.{halt_of, then_next, one_step, at_limit, reduction, ExplainsHalt}
 
 module _ (limit : ℕ) (compare : Compare) (rules : List Rule) (s : State) where
   -- no word can be reduced

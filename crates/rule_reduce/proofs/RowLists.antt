@@ -1,10 +1,5 @@
 -- Rows, or numbers, that are written over one after another.
-use Rattle.std.proofs.Common.{◌≡◌, ◌<◌, ◌≤◌, ℕ, ◌+◌, ◌-◌, ℤ, ◌*ℤ◌, List, ◌∷◌, ◌++◌, length, map, take, drop, set, get_or, Some, sym, ap, ◌∙◌, arith}
-use Rattle.std.proofs.lemmas.List.{drop_more, get_or-append_right, get_or-drop, length-append, length-drop, length-map, length-take, length-take-le}
-use Rattle.std.proofs.lemmas.List.Edits.{map_over_more}
-use Rattle.coef_int.specs.Range.{IsCoefficient}
-use Rattle.coef_int.specs.Operations.{product_of, first_overflow}
-use Rattle.nc_polynomial.proofs.Chains.{first-fits, first-fails}
+use Rattle.rule_reduce.proofs.Prelude.{◌≡◌, ◌<◌, ◌≤◌, ℕ, ◌+◌, ◌-◌, ℤ, ◌*ℤ◌, List, ◌∷◌, ◌++◌, length, map, take, drop, set, get_or, Some, sym, ap, ◌∙◌, arith, drop_more, get_or-append_right, get_or-drop, length-append, length-drop, length-map, length-take, length-take-le, map_over_more, IsCoefficient, product_of, first_overflow, first-fits, first-fails}
 
 -- one row more is written over
 pub written_more : {A : Type 0} (f : A → A) (xs ys : List A) (i : ℕ) (row written : A) → i < length xs → ys ≡ map f (take i xs) ++ drop i xs → row ≡ get_or ys i row → written ≡ f row

@@ -1,17 +1,5 @@
 -- A step brings in no word above the one that it reduces, so the words above that one still have no match.
-use Rattle.std.proofs.Common.{◌≡◌, inl, inr, ℕ, ◌+◌, List, ◌++◌, length, get_or, take, drop, Option, Some, None, IfSome, Ok, Bor, sym, ap, ◌∙◌, subst}
-use Rattle.std.specs.Option.{option_copied}
-use Rattle.std.specs.List.{All}
-use Rattle.std.proofs.lemmas.Option.{same_Some}
-use Rattle.word_core.specs.Occurrence.{OccursAt}
-use Rattle.definitions.specs.Poly.{Term}
-use Rattle.word_orders.specs.Admissible.{Compare, IsAdmissible}
-use Rattle.rule_reduce.specs.declared.rule.Rule.{Rule}
-use Rattle.rule_reduce.specs.declared.state.State.{State}
-use Rattle.rule_reduce.specs.declared.state.Choice.{Choice}
-use Rattle.rule_reduce.specs.RuleLists.{IsRule, rule_at, entries_of}
-use Rattle.rule_reduce.specs.Choices.{choice_of, IsSettled}
-use Rattle.rule_reduce.specs.Steps.{moved, move_of, step_result}
+use Rattle.rule_reduce.proofs.Prelude.{◌≡◌, inl, inr, ℕ, ◌+◌, List, ◌++◌, length, get_or, take, drop, Option, Some, None, IfSome, Ok, Bor, sym, ap, ◌∙◌, subst, option_copied, All, same_Some, OccursAt, Term, Compare, IsAdmissible, Rule, State, Choice, IsRule, rule_at, entries_of, choice_of, IsSettled, moved, move_of, step_result}
 use Rattle.rule_reduce.proofs.Numbers.{rule_at-all}
 use Rattle.rule_reduce.proofs.Runs.{step_keeps}
 use Rattle.rule_reduce.proofs.AtMost.{IsAtMost, at_most-greater, leading-greatest}

@@ -1,17 +1,5 @@
 -- What a store keeps of the rows of a state tells of the state.
-use Rattle.std.proofs.Common.{◌≡◌, ℤ, ◌*ℤ◌, List, [], ◌∷◌, length, map, Some, None, Result, Ok, Err, IfOk, MatchResult, refl, sym, ap, subst, ◌∙◌, arith}
-use Rattle.std.specs.List.{All}
-use Rattle.std.proofs.lemmas.List.Elements.{All-map}
-use Rattle.std.proofs.lemmas.List.{get_or-map, length-map}
-use Rattle.coef_int.specs.declared.Overflow.{Overflow}
-use Rattle.coef_int.specs.Range.{IsCoefficient}
-use Rattle.coef_int.specs.Operations.{product_of, first_overflow}
-use Rattle.traced_rows.specs.declared.Row.{Row}
-use Rattle.rule_reduce.specs.declared.state.State.{State}
-use Rattle.rule_reduce.specs.declared.state.Progress.{Progress}
-use Rattle.rule_reduce.specs.Steps.{row_operations, multiplied_row, IsInRange}
-use Rattle.rule_reduce.specs.Stores.{coefficients, products_by}
-use Rattle.rule_reduce.specs.Stores.{with_rows, Shows, IsBounded, without_rows}
+use Rattle.rule_reduce.proofs.Prelude.{◌≡◌, ℤ, ◌*ℤ◌, List, [], ◌∷◌, length, map, Some, None, Result, Ok, Err, IfOk, MatchResult, refl, sym, ap, subst, ◌∙◌, arith, All, All-map, get_or-map, length-map, Overflow, IsCoefficient, product_of, first_overflow, Row, State, Progress, row_operations, multiplied_row, IsInRange, coefficients, products_by, with_rows, Shows, IsBounded, without_rows}
 
 pub products-coefficients : (rows : List Row) (by : ℤ) → products_by by (coefficients rows) ≡ row_operations rows by
 products-coefficients [] by = refl

@@ -1,7 +1,5 @@
 -- What holds of each element of a list, by recursion on it.
-use Rattle.std.proofs.Common.{List, [], ◌∷◌, ◌++◌}
-use Rattle.std.specs.List.{All, flat_map}
-use Rattle.statement_names.proofs.Each.{Each, Each-at, Each-left, Each-right, Each-append}
+use Rattle.signature_typing.proofs.Prelude.{List, [], ◌∷◌, ◌++◌, All, flat_map, Each, Each-at, Each-left, Each-right, Each-append}
 
 module _ {A : Type 0} (P : A → Type 0) where
   -- of two facts one

@@ -1,36 +1,6 @@
 -- Each statement has a problem or a fault.
-use Rattle.std.proofs.Common.{◌≡◌, ◌⊎◌, inl, inr, List, [], ◌∷◌, length, Option, Some, None, Result, Ok, Err, refl, rules}
-use Rattle.std.specs.Prelude.{⊤}
-use Rattle.std.specs.List.{AllByRecursion}
-use Rattle.std.specs.Option.{option_or, option_map}
-use Rattle.definitions.specs.Poly.{Poly}
-use Rattle.definitions.specs.Quiver.{IsQuiver}
-use Rattle.definitions.proofs.UnitSound.{all-append}
-use Rattle.signature_typing.specs.Types.{PolyFault, polynomial, Spot, Statement, Equation, Placed, SignatureFault, Parts, Problem}
-use Rattle.signature_typing.specs.Types.{TypeFault}
+use Rattle.signature_typing.proofs.Prelude.{◌≡◌, ◌⊎◌, inl, inr, List, [], ◌∷◌, length, Option, Some, None, Result, Ok, Err, refl, rules, ⊤, AllByRecursion, option_or, option_map, Poly, IsQuiver, all-append, PolyFault, polynomial, Spot, Statement, Equation, Placed, SignatureFault, Parts, Problem, TypeFault, IsCanonical, Declaration, quiver_of, is_quiver, name_fault_of, IsReady, declarations_of, assumptions_of, claims_of, order_of, marked_of, is_starred, shapes_of, solved_of, both_none, file_ready, equations_are_typed, letters_are_written, units_in, few_closed, first_among, told_name, told_signature, told_polynomial, IsMemory, signature_in, polynomial_in, fault_in, value_in, signatures_of, polynomials_of, equations_in, signature_fault, polynomial_fault, wrong_signature, wrong_polynomial, wrong_claims, fault_of, ArePartsOf, IsProblemOf, equation_fault, EachStatementHasAProblemOrAFault}
 use Rattle.nc_polynomial.specs.Faults as poly
-use Rattle.nc_polynomial.specs.Shape.{IsCanonical}
-use Rattle.quiver.specs.Declarations.{Declaration, quiver_of}
-use Rattle.quiver.proofs.Identities.{is_quiver}
-use Rattle.statement_names.specs.Faults.{name_fault_of}
-use Rattle.statement_names.specs.Ready.{IsReady}
-use Rattle.statement_names.specs.Numbered.{declarations_of}
-use Rattle.abbreviations.specs.Written.{assumptions_of, claims_of}
-use Rattle.statement_names.specs.Ordered.{order_of}
-use Rattle.statement_names.specs.Marked.{marked_of}
-use Rattle.statement_names.specs.Starred.{is_starred}
-use Rattle.statement_names.specs.Shapes.{shapes_of}
-use Rattle.statement_names.specs.Solved.{solved_of}
-use Rattle.statement_names.proofs.Apart.{both_none}
-use Rattle.statement_names.proofs.FileReady.{file_ready}
-use Rattle.expressions.proofs.Typed.{equations_are_typed}
-use Rattle.expressions.proofs.Written.{letters_are_written}
-use Rattle.adjoint_rules.specs.Parts.{units_in}
-use Rattle.adjoint_rules.proofs.Counted.{few_closed}
-use Rattle.signature_typing.specs.First.{first_among}
-use Rattle.signature_typing.specs.Fault.{told_name, told_signature, told_polynomial, IsMemory}
-use Rattle.signature_typing.specs.Typing.{signature_in, polynomial_in, fault_in, value_in, signatures_of, polynomials_of, equations_in, signature_fault, polynomial_fault, wrong_signature, wrong_polynomial, wrong_claims, fault_of, ArePartsOf, IsProblemOf, equation_fault}
-use Rattle.signature_typing.specs.Laws.{EachStatementHasAProblemOrAFault}
 use Rattle.signature_typing.proofs.Posed.{posed}
 use Rattle.signature_typing.proofs.Results.{Gives, equation_poly-gives}
 use Rattle.signature_typing.proofs.Generated.{Made, make, generators_exist}

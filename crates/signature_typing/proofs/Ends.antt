@@ -1,17 +1,6 @@
 -- The signature of an equation is between objects, and so is each that its fault has.
-use Rattle.std.proofs.Common.{◌≡◌, ℕ, true, nat_eq, List, [], ◌∷◌, Option, Some, None, Result, Ok, Err, refl, subst, MatchResult}
-use Rattle.std.specs.Option.{IfSome}
-use Rattle.std.proofs.lemmas.Bool.{and_parts, cond_both}
-use Rattle.signature_typing.specs.Types.{Named, named, Sig, Spot, Mark, Adjoint, Power, Primary, Identity, Bracket, Term, Term', Row_of-Factor, end_of-Factor}
-use Rattle.signature_typing.specs.Types.{more_of-Factor, Sum, Sum', Row_of-Term, end_of-Term, more_of-Term, SignatureFault}
-use Rattle.quiver.specs.Declarations.{Declaration, IsDeclared, named_in, quiver_of}
-use Rattle.quiver.proofs.Found.{is_named}
-use Rattle.quiver.proofs.Letters.{letter_is, source-quiver_of, target-quiver_of}
-use Rattle.expressions.specs.Results.{◌>>=◌}
-use Rattle.abbreviations.specs.Names.{AreNames, is_map, is_object, letter_number, object_number, are_names_of_terms, are_names_of_term, are_names_of_factors, are_names_of_primary}
-use Rattle.expressions.specs.Signatures.{Part, from_to, letter_signature, same_ends, is_repeated, repeated, mark_signature, marked_signature, product_step, product_from, product_signature, sum_step, sum_from, term_at, sum_at, sum_signature, terms_parts, term_signature, factors_parts, primary_signature, sides_signature, equation_signature}
-use Rattle.adjoint_rules.specs.Problem.{HasObjects}
-use Rattle.signature_typing.specs.Named.{HasFaultObjects}
+use Rattle.signature_typing.proofs.Prelude.{◌≡◌, ℕ, true, nat_eq, List, [], ◌∷◌, Option, Some, None, Result, Ok, Err, refl, subst, MatchResult, IfSome, and_parts, cond_both, Named, named, Sig, Spot, Mark, Adjoint, Power, Primary, Identity, Bracket, Term, Term', Row_of-Factor, end_of-Factor, more_of-Factor, Sum, Sum', Row_of-Term, end_of-Term, more_of-Term, SignatureFault, Declaration, IsDeclared, named_in, quiver_of, is_named, letter_is, source-quiver_of, target-quiver_of, ◌>>=◌, AreNames, is_map, is_object, letter_number, object_number, are_names_of_terms, are_names_of_term, are_names_of_factors, are_names_of_primary, Part, from_to, letter_signature, same_ends, is_repeated, repeated, mark_signature, marked_signature, product_from, product_signature, sum_step, sum_from, term_at, sum_at, sum_signature, terms_parts, term_signature, factors_parts, primary_signature, sides_signature, equation_signature, HasObjects, HasFaultObjects}
+use Rattle.expressions.specs.Signatures.{product_step}
 
 module _ (ds : List Declaration) (declared : IsDeclared ds) where
   -- a value that is good, or a fault whose signatures are between objects

@@ -1,12 +1,5 @@
 -- The first thing that is found in a list, step by step.
-use Rattle.std.proofs.Common.{◌≡◌, ℕ, ◌+◌, ◌<◌, List, [], ◌∷◌, ◌++◌, length, get_or, take, drop, Option, None, refl, sym, ◌∙◌, ap, subst}
-use Rattle.std.specs.Option.{option_or}
-use Rattle.statement_names.proofs.Apart.{both_none}
-use Rattle.statement_names.proofs.Items.{take_next, items_split}
-use Rattle.statement_names.proofs.KindsFound.{option_or-nothing}
-use Rattle.signature_typing.specs.Types.{TypeFault, Fault, Memory}
-use Rattle.signature_typing.specs.First.{first_among}
-use Rattle.signature_typing.specs.Fault.{Explains}
+use Rattle.signature_typing.proofs.Prelude.{◌≡◌, ℕ, ◌+◌, ◌<◌, List, [], ◌∷◌, ◌++◌, length, get_or, take, drop, Option, None, refl, sym, ◌∙◌, ap, subst, option_or, both_none, take_next, items_split, option_or-nothing, TypeFault, Fault, Memory, first_among, Explains}
 
 -- nothing is found before an element, so what is found in the list is found from the element on
 first_among_behind : {A B : Type 0} (f : A → Option B) (xs ys : List A) → first_among f xs ≡ None → first_among f (xs ++ ys) ≡ first_among f ys

@@ -1,27 +1,6 @@
 -- What is asked of the parts of a statement has generators.
-use Rattle.std.proofs.Common.{◌≡◌, ◌≤◌, ℕ, ℤ, pos, negsuc, Bool, ◌||◌, eqb, leb, List, [], ◌∷◌, ◌++◌, length, refl, sym, ap, subst, arith}
-use Rattle.std.proofs.lemmas.Bool.{cond_both}
-use Rattle.std.proofs.lemmas.List.Elements.{All-cons, All-replicate}
-use Rattle.std.specs.List.{AllByRecursion, AllZip, flat_map, range_with_len}
-use Rattle.std.specs.declared.cmp.Ordering.TheVariants.{Greater}
-use Rattle.word_core.specs.Canonical.{word_cmp}
-use Rattle.definitions.specs.Poly.{Poly, SamePolynomial, poly_eq, poly_multiple}
-use Rattle.definitions.specs.Quiver.{Quiver, IsQuiver, source, target, star}
-use Rattle.definitions.specs.Generators.{adjoint_poly, new_adjoint, left_unit, letter_units, units, generators_of}
-use Rattle.definitions.proofs.Adjoints.{adjoint_word-adjoint_word}
-use Rattle.definitions.proofs.UnitSound.{all-append, all-flat_map}
+use Rattle.signature_typing.proofs.Prelude.{◌≡◌, ◌≤◌, ℕ, ℤ, pos, negsuc, Bool, ◌||◌, eqb, leb, List, [], ◌∷◌, ◌++◌, length, refl, sym, ap, subst, arith, cond_both, All-cons, All-replicate, AllByRecursion, AllZip, flat_map, range_with_len, Greater, word_cmp, Poly, SamePolynomial, poly_eq, poly_multiple, Quiver, IsQuiver, source, target, star, adjoint_poly, new_adjoint, left_unit, letter_units, units, generators_of, adjoint_word-adjoint_word, all-append, all-flat_map, collected, IsCanonical, IsNonzero, IsInRange, IsBelow, descends_one, coefficient_of-collected, Parts, polynomials, numbers, IsPosed, IsClosed, generators_in, posed_quiver, each_same, AllZip-append, quiver_of, canonical-adjoint}
 use Rattle.nc_polynomial.specs.declared.poly.Poly as made
-use Rattle.nc_polynomial.specs.Collected.{collected}
-use Rattle.nc_polynomial.specs.Shape.{IsCanonical}
-use Rattle.nc_polynomial.proofs.Shapes.{IsNonzero, IsInRange, IsBelow, descends_one}
-use Rattle.nc_polynomial.proofs.CollectedTerms.{coefficient_of-collected}
-use Rattle.signature_typing.specs.Types.{Parts}
-use Rattle.adjoint_rules.specs.Problem.{polynomials, numbers, IsPosed, IsClosed, generators_in}
-use Rattle.adjoint_rules.proofs.Generators.{posed_quiver}
-use Rattle.adjoint_rules.proofs.NewAdjoints.{each_same}
-use Rattle.lists.proofs.Zips.{AllZip-append}
-use Rattle.quiver.specs.Declarations.{quiver_of}
-use Rattle.expressions.proofs.TwoAdjoints.{canonical-adjoint}
 use Rattle.signature_typing.proofs.Results.{canonical_by}
 
 -- polynomials of lists that are within the limits

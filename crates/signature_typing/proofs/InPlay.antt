@@ -1,24 +1,6 @@
 -- The letters of an equation of a file are in play.
-use Rattle.std.proofs.Common.{◌≡◌, ◌<◌, ℕ, Bool, true, false, cond, ◌&&◌, ◌||◌, nat_eq, nat_lt, nat_le, List, [], ◌∷◌, map, get_or, None, refl, zero-add, eq-eqb, eqb-true, ltb-true, ap, subst, ◌∙◌, rules, tests, arith}
-use Rattle.std.specs.List.{AllByRecursion, flat_map, list_any, range_with_len}
-use Rattle.std.proofs.lemmas.Bool.{or_left, or_right, lt-ltb}
-use Rattle.std.proofs.Math.Bool.{or-false}
-use Rattle.std.proofs.lemmas.List.Folds.{list_any-append, list_any_at}
-use Rattle.std.proofs.lemmas.List.FromFn.{length-range_with_len, get_or-range_with_len}
-use Rattle.std.proofs.lemmas.Map.Views.{any-filter_same}
-use Rattle.definitions.specs.Quiver.{star}
-use Rattle.quiver.specs.Declarations.{Declaration, object_count, letter_count, quiver_of}
-use Rattle.signature_typing.specs.Types.{Spot, Factor, Statement, StatementKind, statement, out-roll-Term, out-roll-Sum, Equation}
-use Rattle.statement_syntax.specs.Nodes.{term_of}
-use Rattle.statement_names.specs.Marked.{stated_by, all_equations, writes_identity, is_marked, an_object, marked_of}
-use Rattle.statement_names.specs.Starred.{is_starred_in, is_starred}
-use Rattle.statement_names.specs.Solved.{numbers_that}
-use Rattle.abbreviations.specs.Written.{product_at, equation, equations_in, equations_of, assumptions_of, claims_in, claims_of}
-use Rattle.abbreviations.specs.Occurrences.{has_quote, has_quote_in_term}
-use Rattle.abbreviations.proofs.Trees.{has_quote_in_factor, mark-sum, mark-term}
-use Rattle.expressions.specs.Laws.{IsWritten}
-use Rattle.adjoint_rules.specs.Problem.{numbers, IsInPlay}
-use Rattle.statement_names.proofs.Each.{Each-append, Each-weaker}
+use Rattle.signature_typing.proofs.Prelude.{◌≡◌, ◌<◌, ℕ, Bool, true, false, cond, ◌&&◌, ◌||◌, nat_eq, nat_lt, nat_le, List, [], ◌∷◌, map, get_or, None, refl, zero-add, eq-eqb, eqb-true, ltb-true, ap, subst, ◌∙◌, rules, tests, arith, AllByRecursion, flat_map, list_any, range_with_len, or_left, or_right, lt-ltb, or-false, list_any-append, list_any_at, length-range_with_len, get_or-range_with_len, any-filter_same, star, Declaration, object_count, letter_count, quiver_of, Spot, Factor, Statement, StatementKind, statement, out-roll-Term, out-roll-Sum, Equation, term_of, stated_by, all_equations, writes_identity, is_marked, an_object, marked_of, is_starred_in, is_starred, numbers_that, product_at, equation, equations_of, assumptions_of, claims_in, claims_of, has_quote, has_quote_in_term, has_quote_in_factor, mark-sum, mark-term, IsWritten, numbers, IsInPlay, Each-append, Each-weaker}
+use Rattle.abbreviations.specs.Written.{equations_in}
 
 -- whether a side has a mark
 abbrev pub is_starred_equation : Equation → Bool

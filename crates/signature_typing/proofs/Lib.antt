@@ -1,3 +1,4 @@
+mod Prelude
 pub mod FirstFound
 pub mod Progress
 pub mod Ends

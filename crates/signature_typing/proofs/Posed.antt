@@ -1,24 +1,7 @@
 -- The parts of a file without a fault can be made a problem.
-use Rattle.std.proofs.Common.{◌≡◌, ◌≢◌, List, [], ◌∷◌, ◌++◌, length, Some, None, refl, sym, ap, ap₂, subst, ◌∙◌, append-nil, arith, map-id}
-use Rattle.std.specs.List.{All, AllByRecursion, AllZip}
-use Rattle.std.proofs.lemmas.List.{get_or-map, length-map}
-use Rattle.std.proofs.lemmas.List.Elements.{All-from_recursion, recursion_from_All, All-weaker, All-head}
-use Rattle.definitions.specs.Poly.{Poly}
+use Rattle.signature_typing.proofs.Prelude.{◌≡◌, ◌≢◌, List, [], ◌∷◌, ◌++◌, length, Some, None, refl, sym, ap, ap₂, subst, ◌∙◌, append-nil, arith, map-id, All, AllByRecursion, AllZip, get_or-map, length-map, All-from_recursion, recursion_from_All, All-weaker, All-head, Poly, Declaration, Spot, Sum, Statement, Equation, Parts, StatementKind, statement, marked_of, is_starred, HasNames, IsReady, equations_of, assumptions_of, claims_in, claims_of, abbreviation_of, EquationsAreTyped, LettersAreWritten, IsWritten, polynomials, numbers, IsInPlay, HasLettersInPlay, HasObjects, IsTypedOf, IsPosed, first_among, told_signature, told_polynomial, no_claim, signature_in, polynomial_in, signatures_of, polynomials_of, equations_in, wrong_signature, wrong_polynomial, wrong_claims, ArePartsOf, AreNamed}
 use Rattle.nc_polynomial.specs.declared.poly.Poly as made
-use Rattle.quiver.specs.Declarations.{Declaration}
-use Rattle.signature_typing.specs.Types.{Spot, Sum, Statement, Equation, Parts, StatementKind, statement}
-use Rattle.statement_names.specs.Marked.{marked_of}
-use Rattle.statement_names.specs.Starred.{is_starred}
-use Rattle.statement_names.specs.Ready.{HasNames, IsReady}
 use Rattle.abbreviations.specs.Written as written
-use Rattle.abbreviations.specs.Written.{equations_of, assumptions_of, claims_in, claims_of, abbreviation_of}
-use Rattle.expressions.specs.Laws.{EquationsAreTyped, LettersAreWritten, IsWritten}
-use Rattle.adjoint_rules.specs.Problem.{polynomials, numbers, IsInPlay, HasLettersInPlay, HasObjects, IsTypedOf, IsPosed}
-use Rattle.signature_typing.specs.First.{first_among}
-use Rattle.signature_typing.specs.Fault.{told_signature, told_polynomial, no_claim}
-use Rattle.signature_typing.specs.Typing.{signature_in, polynomial_in, signatures_of, polynomials_of, equations_in}
-use Rattle.signature_typing.specs.Typing.{wrong_signature, wrong_polynomial, wrong_claims, ArePartsOf}
-use Rattle.signature_typing.specs.Named.{AreNamed}
 use Rattle.signature_typing.proofs.Each.{each_part, each_with_both}
 use Rattle.signature_typing.proofs.Ends.{signature_has_objects}
 use Rattle.signature_typing.proofs.InPlay.{IsCounted, assumptions_counted, claims_counted, letter_in_play}

@@ -1,11 +1,5 @@
 -- How far the lists of a stage are, before an element of a list.
-use Rattle.std.proofs.Common.{◌≡◌, ℕ, ◌+◌, ◌<◌, ◌≤◌, List, [], ◌∷◌, ◌++◌, map, length, get_or, take, Option, None, refl, sym, ◌∙◌, ap, append_assoc}
-use Rattle.std.specs.List.{flat_map}
-use Rattle.std.proofs.lemmas.Result.{err_from_is_err_and}
-use Rattle.std.proofs.lemmas.List.{take_all, map-append}
-use Rattle.std.proofs.lemmas.List.Concat.{flat_map-append}
-use Rattle.statement_names.proofs.Items.{flat_next}
-use Rattle.signature_typing.specs.First.{first_among}
+use Rattle.signature_typing.proofs.Prelude.{◌≡◌, ℕ, ◌+◌, ◌<◌, ◌≤◌, List, [], ◌∷◌, ◌++◌, map, length, get_or, take, Option, None, refl, sym, ◌∙◌, ap, append_assoc, flat_map, err_from_is_err_and, take_all, map-append, flat_map-append, flat_next, first_among}
 use Rattle.signature_typing.proofs.FirstFound.{first_among_none_more, explained_at}
 
 -- The values of the elements so far are after those that were there, and none of the elements has a fault.

@@ -1,35 +1,8 @@
 -- The polynomial of an equation is within the limits, and the fault of its arithmetic is no want of memory.
-use Rattle.std.proofs.Common.{◌≡◌, ◌≢◌, ℕ, zero, suc, ◌≤◌, ℤ, pos, negsuc, Bool, true, false, cond, List, [], ◌∷◌, ◌++◌, length, replicate, nat_lt, Option, Some, None, Result, Ok, Err, refl, sym, ◌∙◌, arith}
-use Rattle.std.specs.List.{All, AllByRecursion}
-use Rattle.std.proofs.lemmas.List.Elements.{All-replicate}
-use Rattle.coef_int.specs.declared.Overflow.{Overflow}
-use Rattle.coef_int.specs.Range.{IsCoefficient}
-use Rattle.coef_int.specs.Operations.{first_overflow}
-use Rattle.definitions.specs.Poly.{Poly, Term as term, poly_between}
-use Rattle.definitions.specs.Quiver.{IsQuiver}
-use Rattle.definitions.specs.Generators.{adjoint_poly}
-use Rattle.definitions.proofs.Adjoints.{adjoint_word-adjoint_word}
-use Rattle.signature_typing.specs.Types.{PolyFault, Mark, Adjoint, Power, Primary, Identity, Bracket, Term, Term', Row_of-Factor, end_of-Factor, more_of-Factor}
-use Rattle.signature_typing.specs.Types.{Number, Sum, Sum', Row_of-Term, end_of-Term, more_of-Term}
-use Rattle.nc_polynomial.specs.Terms.{scaled, products, negated, added, sums}
-use Rattle.nc_polynomial.specs.Faults.{unless_overflow, finished, sized, size_fault, has_long_word, IsMemory}
-use Rattle.nc_polynomial.specs.Arithmetic.{sum_result, difference_result, multiple_result, combined}
-use Rattle.nc_polynomial.specs.Collected.{collected, additions}
-use Rattle.nc_polynomial.specs.Product.{product_step, product_result}
+use Rattle.signature_typing.proofs.Prelude.{◌≡◌, ◌≢◌, ℕ, zero, suc, ◌≤◌, ℤ, pos, negsuc, Bool, true, false, cond, List, [], ◌∷◌, ◌++◌, length, replicate, nat_lt, Option, Some, None, Result, Ok, Err, refl, sym, ◌∙◌, arith, All, AllByRecursion, All-replicate, Overflow, IsCoefficient, first_overflow, Poly, term, poly_between, IsQuiver, adjoint_poly, adjoint_word-adjoint_word, PolyFault, Mark, Adjoint, Power, Primary, Identity, Bracket, Term, Term', Row_of-Factor, end_of-Factor, more_of-Factor, Number, Sum, Sum', Row_of-Term, end_of-Term, more_of-Term, scaled, products, negated, added, sums, unless_overflow, finished, sized, size_fault, has_long_word, sum_result, difference_result, multiple_result, combined, collected, additions, product_step, product_result, IsShaped, IsCanonical, shaped-between, or_first, first-append, canonical_none, canonical_sized, Descends, IsNonzero, IsInRange, descends_one, IsDescending-from_recursion, shaped-scaled, shaped-added, Declaration, quiver_of, identity_in, ◌>>=◌, letter_of, object_of, letter_poly, power_poly, mark_poly, marked_poly, product_poly, scaled_by, Summand, signed, total, sum_poly, summands, term_poly, factor_polys, primary_poly, equation_poly, canonical-negated, canonical-signed, canonical-adjoint}
+use Rattle.nc_polynomial.specs.Faults.{IsMemory}
 use Rattle.nc_polynomial.specs.Product as product
-use Rattle.nc_polynomial.specs.Shape.{IsShaped, IsCanonical}
-use Rattle.nc_polynomial.proofs.Around.{shaped-between}
-use Rattle.nc_polynomial.proofs.Chains.{or_first, first-append}
-use Rattle.nc_polynomial.proofs.OneTerm.{canonical_none}
-use Rattle.nc_polynomial.proofs.Products.{canonical_sized}
-use Rattle.nc_polynomial.proofs.Shapes.{Descends, IsNonzero, IsInRange, descends_one, IsDescending-from_recursion, shaped-scaled, shaped-added}
-use Rattle.quiver.specs.Declarations.{Declaration, quiver_of, identity_in}
-use Rattle.expressions.specs.Results.{◌>>=◌}
-use Rattle.abbreviations.specs.Names.{letter_of, object_of}
-use Rattle.expressions.specs.Polynomials.{letter_poly, power_poly, mark_poly, marked_poly, product_from, product_poly, scaled_by, Summand, signed, sum_step, sum_from, total, sum_poly, summands, term_poly, factor_polys, primary_poly, equation_poly}
-use Rattle.expressions.proofs.Canonical.{canonical-negated}
-use Rattle.expressions.proofs.Totals.{canonical-signed}
-use Rattle.expressions.proofs.TwoAdjoints.{canonical-adjoint}
+use Rattle.expressions.specs.Polynomials.{product_from, sum_step, sum_from}
 
 -- a value with a property, or a fault that isn't want of memory
 abbrev pub Gives : {A : Type 0} → (A → Type 0) → Result A PolyFault → Type 0

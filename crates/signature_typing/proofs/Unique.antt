@@ -1,8 +1,5 @@
 -- A file has one problem.
-use Rattle.std.proofs.Common.{◌≡◌, refl, sym, ◌∙◌}
-use Rattle.adjoint_rules.specs.Problem.{polynomials, generators_in}
-use Rattle.adjoint_rules.proofs.Generators.{generators_are_unique}
-use Rattle.signature_typing.specs.Unique.{ProblemIsUnique}
+use Rattle.signature_typing.proofs.Prelude.{◌≡◌, refl, sym, ◌∙◌, polynomials, generators_in, generators_are_unique, ProblemIsUnique}
 
 pub problem_is_unique : ProblemIsUnique
 problem_is_unique statements p q of_p of_q =

@@ -1,12 +1,5 @@
 -- Results of which none is a fault, and their values.
-use Rattle.std.proofs.Common.{◌≡◌, List, [], ◌∷◌, ◌++◌, length, map, suc, None, Result, Ok, Err, refl, sym, ap, subst, ◌∙◌}
-use Rattle.std.specs.List.{All, AllByRecursion, AllZip, flat_map}
-use Rattle.std.proofs.lemmas.List.Elements.{All-nil, All-cons, All-head, All-tail}
-use Rattle.signature_typing.specs.Types.{TypeFault}
-use Rattle.signature_typing.specs.First.{first_among}
-use Rattle.signature_typing.specs.Typing.{fault_in, value_in}
-use Rattle.statement_names.proofs.Apart.{both_none}
-use Rattle.statement_names.proofs.Each.{Each-left, Each-right, Each-append}
+use Rattle.signature_typing.proofs.Prelude.{◌≡◌, List, [], ◌∷◌, ◌++◌, length, map, suc, None, Result, Ok, Err, refl, sym, ap, subst, ◌∙◌, All, AllByRecursion, AllZip, flat_map, All-nil, All-cons, All-head, All-tail, TypeFault, first_among, fault_in, value_in, both_none, Each-left, Each-right, Each-append}
 
 -- the result is no fault
 abbrev pub IsValue : {X E : Type 0} → Result X E → Type 0

@@ -1,3 +1,4 @@
+mod Prelude
 pub mod Over
 pub mod Problems
 pub mod Syntax

@@ -1,12 +1,5 @@
 -- The ending of a statement may say less, and it is returned.
-use Rattle.std.proofs.Common.{◌≡◌, ℕ, List, Result, Err}
-use Rattle.lists.specs.declared.stop.Stop.{Stop}
-use Rattle.adjoint_rules.specs.declared.problem.Problem.{Problem}
-use Rattle.command_shape.specs.Ending.{Ending}
-use Rattle.command_shape.specs.Stop.{StopsBy, EndsAs}
-use Rattle.command_shape.proofs.Stops.{stops_weaker, ends_weaker, ended_by}
-use Rattle.stated_problem.specs.Statement.{OverStatement, faulty, stated}
-use Rattle.stated_problem.specs.Stated.{IsStated}
+use Rattle.stated_problem.proofs.Prelude.{◌≡◌, ℕ, List, Result, Err, Stop, Problem, Ending, StopsBy, EndsAs, stops_weaker, ends_weaker, ended_by, OverStatement, faulty, stated, IsStated}
 
 pub over_stated : (bytes : List ℕ) (P Q : Problem → Ending → Type 0) (ending : Ending) → ((problem : Problem) → IsStated bytes problem → P problem ending → Q problem ending)
     → OverStatement bytes P ending → OverStatement bytes Q ending

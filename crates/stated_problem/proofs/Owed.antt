@@ -1,12 +1,5 @@
 -- What a command owes: one ending for each contents of its files, a status of its own, and the sentence that its ending says.
-use Rattle.std.proofs.Common.{◌≡◌, ◌≢◌, ◌≤◌, ◌⊎◌, inl, inr, ℕ, List, ap, arith}
-use Rattle.definitions.specs.Category.{Structure, PreadditiveLaws}
-use Rattle.definitions.specs.Soundness.{IsSound}
-use Rattle.representations.specs.Evidence.{IsEvidenceSound}
-use Rattle.cancel_rules.specs.Meaning.{IsCancellationSound}
-use Rattle.adjoint_rules.specs.declared.problem.Problem.{Problem}
-use Rattle.command_shape.specs.Ending.{Ending}
-use Rattle.stated_problem.specs.Statement.{OverStatement, faulty, stated}
+use Rattle.stated_problem.proofs.Prelude.{◌≡◌, ◌≢◌, ◌≤◌, ◌⊎◌, inl, inr, ℕ, List, ap, arith, Structure, PreadditiveLaws, IsSound, IsEvidenceSound, IsCancellationSound, Problem, Ending, OverStatement, faulty, stated}
 use Rattle.stated_problem.proofs.Statements.{statement_ends, statement_once}
 
 -- no status that the run gives by itself

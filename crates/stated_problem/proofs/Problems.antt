@@ -1,16 +1,6 @@
 -- Problems that say the same are one.
-use Rattle.std.proofs.Common.{◌≡◌, ◌≤◌, ℕ, List, [], ◌∷◌, length, refl, sym, ap, subst, ◌∙◌}
+use Rattle.stated_problem.proofs.Prelude.{◌≡◌, ◌≤◌, ℕ, List, [], ◌∷◌, length, refl, sym, ap, subst, ◌∙◌, Term, IsCanonical, Poly, Parts, Problem, generator_limit, units_in, polynomials, IsPosed, IsClosed, props, AreSame}
 use Rattle.std.proofs.Props as std
-use Rattle.definitions.specs.Poly.{Term}
-use Rattle.nc_polynomial.specs.Shape.{IsCanonical}
-use Rattle.nc_polynomial.specs.declared.poly.Poly.{Poly}
-use Rattle.adjoint_rules.specs.declared.parts.Parts.{Parts}
-use Rattle.adjoint_rules.specs.declared.problem.Problem.{Problem}
-use Rattle.adjoint_rules.specs.Limits.{generator_limit}
-use Rattle.adjoint_rules.specs.Parts.{units_in}
-use Rattle.adjoint_rules.specs.Problem.{polynomials, IsPosed, IsClosed}
-use Rattle.adjoint_rules.specs.Props.{props}
-use Rattle.signature_typing.specs.Unique.{AreSame}
 
 -- facts that types keep have one proof
 canonical-prop : (p : List Term) → IsProp (IsCanonical p)

@@ -1,24 +1,6 @@
 -- A statement has one problem or one first fault, and not both, and what it leads to is one ending.
-use Rattle.std.proofs.Common.{◌≡◌, ◌⊎◌, inl, inr, ℕ, List, Option, Some, None, refl, sym, ap, subst, ◌∙◌, arith}
-use Rattle.statement_tokens.specs.declared.place.Spot.{Spot}
-use Rattle.statement_syntax.specs.declared.tree.Statement.{Statement}
-use Rattle.statement_tokens.specs.declared.fault.Fault.{Fault}
-use Rattle.statement_tokens.specs.Fault.{code_of}
-use Rattle.statement_syntax.specs.Fault.{IsFirstFault}
-use Rattle.statement_syntax.specs.Texts.{IsTreeOf}
-use Rattle.statement_syntax.proofs.EachText.{each_text_is_read}
-use Rattle.statement_syntax.proofs.Stopping.{no_first}
-use Rattle.adjoint_rules.specs.declared.problem.Problem.{Problem}
-use Rattle.signature_typing.specs.declared.fault.TypeFault.{TypeFault}
+use Rattle.stated_problem.proofs.Prelude.{◌≡◌, ◌⊎◌, inl, inr, ℕ, List, Option, Some, None, refl, sym, ap, subst, ◌∙◌, arith, Spot, Statement, Fault, code_of, IsFirstFault, IsTreeOf, each_text_is_read, no_first, Problem, TypeFault, IsMemory, fault_of, IsProblemOf, problem_is_unique, each_statement_has_a_problem_or_a_fault, Ending, refused_statement, statement_fault, typing_text, IsRefusedStatement, no_tree, no_problem, OverStatement, faulty, stated, IsStated}
 use Rattle.signature_typing.specs.declared.fault.TypeFault.TheVariants as typing
-use Rattle.signature_typing.specs.Fault.{IsMemory}
-use Rattle.signature_typing.specs.Typing.{fault_of, IsProblemOf}
-use Rattle.signature_typing.proofs.Unique.{problem_is_unique}
-use Rattle.signature_typing.proofs.EachStatement.{each_statement_has_a_problem_or_a_fault}
-use Rattle.command_shape.specs.Ending.{Ending, refused_statement}
-use Rattle.command_shape.specs.Texts.{statement_fault}
-use Rattle.stated_problem.specs.Statement.{typing_text, IsRefusedStatement, no_tree, no_problem, OverStatement, faulty, stated}
-use Rattle.stated_problem.specs.Stated.{IsStated}
 use Rattle.stated_problem.proofs.Problems.{one_problem}
 use Rattle.stated_problem.proofs.Syntax.{tree_once, fault_once}
 

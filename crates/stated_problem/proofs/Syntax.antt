@@ -1,26 +1,6 @@
 -- A text has one tree or one first fault, and not both.
-use Rattle.std.proofs.Common.{◌≡◌, inl, inr, ℕ, List, [], ◌∷◌, ◌++◌, Ok, refl, sym, ap, ◌∙◌, subst}
-use Rattle.std.proofs.lemmas.List.{append_assoc}
-use Rattle.std.specs.Str.{chars}
-use Rattle.statement_tokens.specs.declared.token.Token.{Token}
-use Rattle.statement_tokens.specs.declared.place.Spot.{Spot}
-use Rattle.statement_syntax.specs.declared.tree.Statement.{Statement}
+use Rattle.stated_problem.proofs.Prelude.{◌≡◌, inl, inr, ℕ, List, [], ◌∷◌, ◌++◌, Ok, refl, sym, ap, ◌∙◌, subst, append_assoc, chars, Token, Spot, Statement, Fault, run, file_step, first_statements, begun, left, AllRead, tokens_are_unique, first_scan_faults_are_unique, tokens_have_no_fault, Language, language_of, StatedLine, IsFileOf, file_tokens, FileFits, file_tree, GoesOn, GoesOnWithin, IsMisfit, IsFirstFault, GoesOnPast, not_utf8, no_token, expected, too_deep, IsStatements, IsTreeOf, Upto, Behind, Divided, file_language, divided, in_file, lines_run, is_only}
 use Rattle.statement_syntax.specs.declared.line.Line.TheVariants as line
-use Rattle.statement_tokens.specs.declared.fault.Fault.{Fault}
-use Rattle.statement_syntax.specs.Steps.{run}
-use Rattle.statement_syntax.specs.Lines.{file_step}
-use Rattle.statement_syntax.specs.Stages.{first_statements, begun, left, AllRead}
-use Rattle.statement_tokens.proofs.TokenLaws.{tokens_are_unique, first_scan_faults_are_unique, tokens_have_no_fault}
-use Rattle.statement_tokens.specs.declared.language.Language.{Language}
-use Rattle.statement_tokens.specs.Language.{language_of}
-use Rattle.statement_syntax.specs.Grammar.{StatedLine, IsFileOf, file_tokens, FileFits}
-use Rattle.statement_syntax.specs.Tree.{file_tree}
-use Rattle.statement_syntax.specs.Fault.{GoesOn, GoesOnWithin, IsMisfit, IsFirstFault, GoesOnPast, not_utf8, no_token, expected, too_deep}
-use Rattle.statement_syntax.specs.Texts.{IsStatements, IsTreeOf}
-use Rattle.statement_syntax.proofs.Run.{Upto}
-use Rattle.statement_syntax.proofs.FirstLine.{Behind, Divided, file_language, divided}
-use Rattle.statement_syntax.proofs.FileReads.{in_file, lines_run}
-use Rattle.statement_syntax.proofs.Stopping.{is_only}
 
 -- what is read of the tokens of statements within the limit is their tree
 module _ (bytes : List ℕ) (lines : List StatedLine) (is : IsStatements bytes lines) where

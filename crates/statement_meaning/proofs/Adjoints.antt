@@ -1,18 +1,5 @@
 -- The value of the adjoint of a polynomial is the adjoint of its value, in a star representation.
-use Rattle.std.proofs.Common.{◌≡◌, ℕ, ◌<◌, ◌≤◌, List, [], ◌∷◌, ◌++◌, ◌⊎◌, inl, inr, true, sym, ap, ap₂, ◌∙◌, arith}
-use Rattle.std.proofs.lemmas.Bool.{cases_lt}
-use Rattle.std.proofs.lemmas.List.Elements.{All-head, All-tail}
-use Rattle.definitions.specs.Category.{Structure, IsArrow, PreadditiveLaws, InvolutionLaws}
-use Rattle.definitions.specs.Poly.{Poly}
-use Rattle.definitions.specs.Quiver.{Quiver, IsQuiver, letters, source, star, leads, is_path}
-use Rattle.definitions.specs.Representation.{Representation, Represents, StarRepresents, path_value, value_at}
-use Rattle.definitions.specs.Generators.{adjoint_word, adjoint_poly}
-use Rattle.definitions.proofs.Group.{IsGroup}
-use Rattle.definitions.proofs.Multiples.{times_in, additive-none, additive-times}
-use Rattle.definitions.proofs.Paths.{step}
-use Rattle.definitions.proofs.Adjoints.{leads-star, is_path-adjoint_word}
-use Rattle.definitions.proofs.Values.{group_at, path_value_is_arrow, letter_is_arrow, word_value_is_arrow}
-use Rattle.definitions.proofs.Rows.{path_value-append}
+use Rattle.statement_meaning.proofs.Prelude.{◌≡◌, ℕ, ◌<◌, ◌≤◌, List, [], ◌∷◌, ◌++◌, ◌⊎◌, inl, inr, true, sym, ap, ap₂, ◌∙◌, arith, cases_lt, All-head, All-tail, Structure, IsArrow, PreadditiveLaws, InvolutionLaws, Poly, Quiver, IsQuiver, letters, source, star, leads, is_path, Representation, Represents, StarRepresents, path_value, value_at, adjoint_word, adjoint_poly, IsGroup, times_in, additive-none, additive-times, step, leads-star, is_path-adjoint_word, group_at, path_value_is_arrow, letter_is_arrow, word_value_is_arrow, path_value-append}
 use Rattle.statement_meaning.proofs.Polynomials.{ArePaths, word_between, times_at, value_in, value-term}
 
 module _ {Object Arrow : Type 0} {s : Structure Object Arrow} (laws : PreadditiveLaws s) {adjoint : Arrow → Arrow} (involution : InvolutionLaws s adjoint) (q : Quiver) (quiver : IsQuiver q)

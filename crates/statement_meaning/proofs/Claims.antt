@@ -1,18 +1,6 @@
 -- A claim of a problem is a claim of its file.
-use Rattle.std.proofs.Common.{◌≡◌, ◌<◌, ◌≤◌, ℕ, zero, suc, List, [], ◌∷◌, length, slice_get, Some, arith, refl, sym, ap, ◌∙◌}
-use Rattle.std.proofs.lemmas.List.{length-map}
+use Rattle.statement_meaning.proofs.Prelude.{◌≡◌, ◌<◌, ◌≤◌, ℕ, zero, suc, List, [], ◌∷◌, length, slice_get, Some, arith, refl, sym, ap, ◌∙◌, length-map, Statement, Equation, equations_of, claims_in, claims_of, Problem, polynomials, declarations_of, told_polynomial, polynomial_in, polynomials_of, IsProblemOf, all_values, length-values, IsClaim, none_wrong}
 use Rattle.nc_polynomial.specs.declared.poly.Poly as made
-use Rattle.statement_syntax.specs.declared.tree.Statement.{Statement}
-use Rattle.abbreviations.specs.declared.written.Equation.{Equation}
-use Rattle.abbreviations.specs.Written.{equations_of, claims_in, claims_of}
-use Rattle.adjoint_rules.specs.declared.problem.Problem.{Problem}
-use Rattle.adjoint_rules.specs.Problem.{polynomials}
-use Rattle.statement_names.specs.Numbered.{declarations_of}
-use Rattle.signature_typing.specs.Fault.{told_polynomial}
-use Rattle.signature_typing.specs.Typing.{polynomial_in, polynomials_of, IsProblemOf}
-use Rattle.signature_typing.proofs.Values.{all_values, length-values}
-use Rattle.statement_meaning.specs.Claims.{IsClaim}
-use Rattle.signature_typing.proofs.EachStatement.{none_wrong}
 
 there : (es : List Equation) (n : ℕ) → n < length es → (e : Equation) × (slice_get es n ≡ Some e)
 there [] n inside = absurd (omega arith)

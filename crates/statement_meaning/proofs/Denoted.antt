@@ -1,10 +1,5 @@
 -- What it is that a polynomial says of an expression: its words are paths of the signature, and its value is that of the expression.
-use Rattle.std.proofs.Common.{◌≡◌, ◌<◌, [], Option, Some, None}
-use Rattle.definitions.specs.Category.{Structure}
-use Rattle.definitions.specs.Poly.{Poly}
-use Rattle.definitions.specs.Quiver.{Quiver}
-use Rattle.definitions.specs.Representation.{Representation, value_at}
-use Rattle.quiver.specs.declared.named.Sig.{Sig}
+use Rattle.statement_meaning.proofs.Prelude.{◌≡◌, ◌<◌, [], Option, Some, None, Structure, Poly, Quiver, Representation, value_at, Sig}
 use Rattle.statement_meaning.proofs.Polynomials.{ArePaths}
 
 -- the value of a polynomial at a signature

@@ -1,31 +1,7 @@
 -- The polynomial of an equation is zero exactly where both sides have the same value.
-use Rattle.std.proofs.Common.{◌≡◌, ℕ, ◌<◌, negsuc, Bool, true, false, ◌||◌, ◌↔◌, List, [], Option, Some, None, Ok, refl, sym, ap, ap₂, subst, ◌∙◌, true≢false, eqb, eqb-true, eq-eqb}
-use Rattle.std.proofs.lemmas.Bool.{or_left, or_right}
-use Rattle.definitions.specs.Category.{Structure, IsArrow, PreadditiveLaws}
-use Rattle.definitions.specs.Poly.{Poly, poly_sum, poly_multiple}
-use Rattle.definitions.specs.Quiver.{Quiver, is_path, IsTyped}
-use Rattle.definitions.specs.Representation.{Representation, Represents, value_at}
-use Rattle.definitions.specs.Soundness.{HasValueZero}
-use Rattle.definitions.proofs.Group.{IsGroup, negate_unique, negate-negate}
-use Rattle.definitions.proofs.Linear.{linear_agree, linear-none}
-use Rattle.definitions.proofs.Typed.{signature_from_path}
-use Rattle.definitions.proofs.Values.{group_at, word_at, word_at_is_arrow, value_at-linear}
-use Rattle.nc_polynomial.specs.Arithmetic.{difference_result}
-use Rattle.nc_polynomial.proofs.Units.{difference_value}
-use Rattle.quiver.specs.declared.named.Sig.{Sig}
-use Rattle.quiver.specs.Declarations.{Declaration, quiver_of}
-use Rattle.quiver.proofs.Identities.{is_quiver}
-use Rattle.statement_syntax.specs.declared.tree.Sum.{Sum}
-use Rattle.abbreviations.specs.Occurrences.{has_quote}
-use Rattle.expressions.specs.Results.{◌>>=◌}
+use Rattle.statement_meaning.proofs.Prelude.{◌≡◌, ℕ, ◌<◌, negsuc, Bool, true, false, ◌||◌, ◌↔◌, List, [], Option, Some, None, Ok, refl, sym, ap, ap₂, subst, ◌∙◌, true≢false, eqb, eqb-true, eq-eqb, or_left, or_right, Structure, IsArrow, PreadditiveLaws, Poly, poly_sum, poly_multiple, Quiver, is_path, IsTyped, Representation, Represents, value_at, HasValueZero, IsGroup, negate_unique, negate-negate, linear_agree, linear-none, signature_from_path, group_at, word_at, word_at_is_arrow, value_at-linear, difference_result, difference_value, Sig, Declaration, quiver_of, is_quiver, Sum, has_quote, ◌>>=◌, sides_signature, sum_at, bound, same_value, no_fault, same_passed, equations_are_typed, Reading, sum_value, AreSame, Holds, IsEquation, reading, EquationsAreRead, StarredEquationsAreRead}
 use Rattle.expressions.specs.Signatures as signatures
-use Rattle.expressions.specs.Signatures.{sides_signature, sum_at}
 use Rattle.expressions.specs.Polynomials as polynomials
-use Rattle.expressions.proofs.Sequences.{bound, same_value}
-use Rattle.expressions.proofs.TypedParts.{no_fault, same_passed}
-use Rattle.expressions.proofs.Typed.{equations_are_typed}
-use Rattle.statement_meaning.specs.Values.{Reading, sum_value, AreSame, Holds}
-use Rattle.statement_meaning.specs.Laws.{IsEquation, reading, EquationsAreRead, StarredEquationsAreRead}
 use Rattle.statement_meaning.proofs.Polynomials.{value_in, value-same, value-sum, value-multiple}
 use Rattle.statement_meaning.proofs.Denoted.{value_of, DenotesAt, Denotes}
 use Rattle.statement_meaning.proofs.Adjoints.{value-adjoint}

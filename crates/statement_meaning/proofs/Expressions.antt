@@ -1,40 +1,8 @@
 -- The polynomial of an expression says its value.
-use Rattle.std.proofs.Common.{◌≡◌, ℕ, ◌<◌, ℤ, pos, negsuc, Bool, true, false, ◌||◌, List, [], ◌∷◌, Option, Some, None, Ok, refl, sym, ap, ap₂, subst, ◌∙◌, arith}
-use Rattle.std.proofs.lemmas.Bool.{or_left, or_right, and_parts}
-use Rattle.std.proofs.lemmas.List.Elements.{All-replicate}
-use Rattle.std.specs.List.{list_any}
-use Rattle.std.specs.Option.{option_map}
-use Rattle.definitions.specs.Category.{Structure, PreadditiveLaws}
-use Rattle.definitions.specs.Poly.{Poly, SamePolynomial, poly_multiple}
-use Rattle.definitions.specs.Quiver.{Quiver, IsQuiver, letters, source, target, is_path}
-use Rattle.definitions.specs.Representation.{Representation, Represents, multiple}
-use Rattle.nc_polynomial.specs.Terms.{negated, scaled, products}
-use Rattle.nc_polynomial.specs.Arithmetic.{multiple_result}
-use Rattle.nc_polynomial.proofs.Chains.{finished-value}
-use Rattle.nc_polynomial.proofs.Values.{SamePolynomial-scaled, negated-multiple}
-use Rattle.quiver.specs.declared.named.Sig.{Sig}
-use Rattle.quiver.specs.declared.named.Named.{Named}
+use Rattle.statement_meaning.proofs.Prelude.{◌≡◌, ℕ, ◌<◌, ℤ, pos, negsuc, Bool, true, false, ◌||◌, List, [], ◌∷◌, Option, Some, None, Ok, refl, sym, ap, ap₂, subst, ◌∙◌, arith, or_left, or_right, and_parts, All-replicate, list_any, option_map, Structure, PreadditiveLaws, Poly, SamePolynomial, poly_multiple, Quiver, IsQuiver, letters, source, target, is_path, Representation, Represents, multiple, negated, scaled, products, multiple_result, finished-value, SamePolynomial-scaled, negated-multiple, Sig, Named, named_in, object_count, quiver_of, identity_in, ObjectsFirst, IsDeclared, letters-quiver_of, is_named, identity_is, is_quiver, Number, Primary, Letter, Identity, Bracket, Term, Term', Row_of-Factor, end_of-Factor, more_of-Factor, Sum, Sum', Row_of-Term, end_of-Term, more_of-Term, is_map, is_object, letter_number, object_number, letter_of, object_of, are_names, are_names_of_terms, are_names_of_term, are_names_of_factors, are_names_of_primary, is_adjoint, has_quote, has_quote_in_terms, has_quote_in_term, has_quote_in_factors, has_quote_in_primary, ◌>>=◌, Part, from_to, letter_signature, marked_signature, letter_poly, marked_poly, scaled_by, Summand, signed, bound, same_value, OfValues, values-ok, values-bind, path-letter, IsPathOf, typed-sum, Words, words-negated, words-multiple, Reading, plus, composite, marks_value, scaled_value, signed_value, sum_value, terms_value, term_value, factor_values, primary_value}
 use Rattle.quiver.specs.declared.named.Named.TheVariants as variant
-use Rattle.quiver.specs.Declarations.{named_in, object_count, quiver_of, identity_in, ObjectsFirst, IsDeclared}
-use Rattle.quiver.proofs.Counts.{letters-quiver_of}
-use Rattle.quiver.proofs.Found.{is_named}
-use Rattle.quiver.proofs.Identities.{identity_is, is_quiver}
-use Rattle.statement_syntax.specs.declared.tree.Number.{Number}
-use Rattle.statement_syntax.specs.declared.tree.Primary.{Primary, Letter, Identity, Bracket}
-use Rattle.statement_syntax.specs.declared.tree.Term.{Term, Term', Row_of-Factor, end_of-Factor, more_of-Factor}
-use Rattle.statement_syntax.specs.declared.tree.Sum.{Sum, Sum', Row_of-Term, end_of-Term, more_of-Term}
-use Rattle.abbreviations.specs.Names.{is_map, is_object, letter_number, object_number, letter_of, object_of, are_names, are_names_of_terms, are_names_of_term, are_names_of_factors, are_names_of_primary}
-use Rattle.abbreviations.specs.Occurrences.{is_adjoint, has_quote, has_quote_in_terms, has_quote_in_term, has_quote_in_factors, has_quote_in_primary}
-use Rattle.expressions.specs.Results.{◌>>=◌}
 use Rattle.expressions.specs.Signatures as signatures
-use Rattle.expressions.specs.Signatures.{Part, from_to, letter_signature, marked_signature}
 use Rattle.expressions.specs.Polynomials as polynomials
-use Rattle.expressions.specs.Polynomials.{letter_poly, marked_poly, scaled_by, Summand, signed}
-use Rattle.expressions.proofs.Sequences.{bound, same_value, OfValues, values-ok, values-bind}
-use Rattle.expressions.proofs.TypedParts.{path-letter, IsPathOf}
-use Rattle.expressions.proofs.Typed.{typed-sum}
-use Rattle.expressions.proofs.Words.{Words, words-negated, words-multiple}
-use Rattle.statement_meaning.specs.Values.{Reading, plus, composite, marks_value, scaled_value, signed_value, sum_value, terms_value, term_value, factor_values, primary_value}
 use Rattle.statement_meaning.proofs.Polynomials.{value_in, value-same, value-multiple, value-term}
 use Rattle.statement_meaning.proofs.Denoted.{value_of, Denotes}
 use Rattle.statement_meaning.proofs.Sums.{AreTerms, no_term, one_term, total_value, summed, total_is, denotes-summed}

@@ -1,3 +1,4 @@
+mod Prelude
 pub mod Polynomials
 pub mod Adjoints
 pub mod Denoted

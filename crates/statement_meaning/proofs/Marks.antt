@@ -1,29 +1,5 @@
 -- The value of a factor with quotes and carets.
-use Rattle.std.proofs.Common.{◌≡◌, ℕ, zero, suc, ◌<◌, ℤ, pos, negsuc, true, cond, List, [], ◌∷◌, replicate, Option, Some, None, Ok, sym, refl, ap, subst, ◌∙◌}
-use Rattle.std.proofs.lemmas.Bool.{or_left, or_right}
-use Rattle.std.specs.Option.{option_map}
-use Rattle.std.specs.List.{list_any}
-use Rattle.definitions.specs.Category.{Structure, IsArrow, PreadditiveLaws}
-use Rattle.definitions.specs.Poly.{Poly, SamePolynomial}
-use Rattle.definitions.specs.Quiver.{Quiver, IsQuiver, is_path}
-use Rattle.definitions.specs.Generators.{adjoint_poly}
-use Rattle.definitions.specs.Representation.{Representation, Represents, value_at}
-use Rattle.definitions.proofs.Adjoints.{is_path-adjoint_word}
-use Rattle.nc_polynomial.specs.Product.{product_result}
-use Rattle.nc_polynomial.specs.Collected.{collected, additions, collection_result}
-use Rattle.nc_polynomial.proofs.Chains.{finished-value}
-use Rattle.nc_polynomial.proofs.CollectedTerms.{coefficient_of-collected}
-use Rattle.quiver.specs.declared.named.Sig.{Sig}
-use Rattle.statement_tokens.specs.declared.place.Spot.{Spot}
-use Rattle.statement_syntax.specs.declared.tree.Mark.{Mark}
-use Rattle.statement_syntax.specs.declared.tree.Mark.TheVariants.{Adjoint, Power}
-use Rattle.abbreviations.specs.Occurrences.{is_adjoint}
-use Rattle.expressions.specs.Signatures.{turned, is_repeated, repeated, mark_signature, marked_signature}
-use Rattle.expressions.specs.Polynomials.{product_from, product_poly, power_poly, mark_poly, marked_poly}
-use Rattle.expressions.proofs.Sequences.{bound, same_value, OfValues, values-ok, values-bind}
-use Rattle.expressions.proofs.TypedParts.{no_fault, meets_passed}
-use Rattle.expressions.proofs.Words.{words-collection, words-adjoint}
-use Rattle.statement_meaning.specs.Values.{Reading, iterated, power, marked, marks_value}
+use Rattle.statement_meaning.proofs.Prelude.{◌≡◌, ℕ, zero, suc, ◌<◌, ℤ, pos, negsuc, true, cond, List, [], ◌∷◌, replicate, Option, Some, None, Ok, sym, refl, ap, subst, ◌∙◌, or_left, or_right, option_map, list_any, Structure, IsArrow, PreadditiveLaws, Poly, SamePolynomial, Quiver, IsQuiver, is_path, adjoint_poly, Representation, Represents, value_at, is_path-adjoint_word, product_result, collected, additions, collection_result, finished-value, coefficient_of-collected, Sig, Spot, Mark, Adjoint, Power, is_adjoint, turned, is_repeated, repeated, mark_signature, marked_signature, product_from, product_poly, power_poly, mark_poly, marked_poly, bound, same_value, OfValues, values-ok, values-bind, no_fault, meets_passed, words-collection, words-adjoint, Reading, iterated, power, marked, marks_value}
 use Rattle.statement_meaning.proofs.Polynomials.{ArePaths, value_in, value-same}
 use Rattle.statement_meaning.proofs.Denoted.{value_of, DenotesAt, Denotes}
 use Rattle.statement_meaning.proofs.Products.{denotes-after}

@@ -1,26 +1,6 @@
 -- What the answers on a claim say of the equations of its file.
-use Rattle.std.proofs.Common.{◌≡◌, ℕ, zero, suc, ◌↔◌, List, [], ◌∷◌, get_or, slice_get, Option, Some, sym, subst, ◌∙◌}
-use Rattle.std.specs.List.{AllByRecursion}
-use Rattle.definitions.specs.Category.{Structure, PreadditiveLaws}
-use Rattle.definitions.specs.Representation.{Representation, Represents, StarRepresents}
-use Rattle.definitions.specs.Soundness.{HasValueZero}
+use Rattle.statement_meaning.proofs.Prelude.{◌≡◌, ℕ, zero, suc, ◌↔◌, List, [], ◌∷◌, get_or, slice_get, Option, Some, sym, subst, ◌∙◌, AllByRecursion, Structure, PreadditiveLaws, Representation, Represents, StarRepresents, HasValueZero, Declaration, quiver_of, matrices, transpose, matrices_laws, transpose_laws, Model, Statement, Equation, assumptions_of, claims_of, Problem, polynomials, claim_at, representation_of, Holds, declarations_of, reading, AreRead, IsRead, IsClaim, AssumptionsHold, ClaimHolds, ProvedClaimsHold, RefutedClaimsFail}
 use Rattle.nc_polynomial.specs.declared.poly.Poly as made
-use Rattle.quiver.specs.Declarations.{Declaration, quiver_of}
-use Rattle.matrix_models.specs.Matrices.{matrices, transpose}
-use Rattle.matrix_models.specs.Laws.{matrices_laws, transpose_laws}
-use Rattle.matrix_models.specs.declared.model.Model.{Model}
-use Rattle.statement_syntax.specs.declared.tree.Statement.{Statement}
-use Rattle.abbreviations.specs.declared.written.Equation.{Equation}
-use Rattle.abbreviations.specs.Written.{assumptions_of, claims_of}
-use Rattle.adjoint_rules.specs.declared.problem.Problem.{Problem}
-use Rattle.adjoint_rules.specs.Problem.{polynomials}
-use Rattle.adjoint_rules.specs.Claims.{claim_at}
-use Rattle.model_checker.specs.Representations.{representation_of}
-use Rattle.statement_meaning.specs.Values.{Holds}
-use Rattle.statement_names.specs.Numbered.{declarations_of}
-use Rattle.statement_meaning.specs.Laws.{reading, AreRead, IsRead}
-use Rattle.statement_meaning.specs.Claims.{IsClaim, AssumptionsHold, ClaimHolds}
-use Rattle.statement_meaning.specs.Meanings.{ProvedClaimsHold, RefutedClaimsFail}
 use Rattle.statement_meaning.proofs.Statements.{statements_are_read, starred_statements_are_read}
 
 module _ {Object Arrow : Type 0} (s : Structure Object Arrow) (involution : Arrow → Arrow) (ds : List Declaration) (f : Representation Object Arrow) where

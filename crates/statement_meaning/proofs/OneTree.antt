@@ -1,16 +1,5 @@
 -- A file has one tree: the reader returns the tree of each list of lines that the bytes are.
-use Rattle.std.proofs.Common.{◌≡◌, ◌⊎◌, inl, inr, ℕ, List, ◌++◌, refl, sym, ap, subst, ◌∙◌}
-use Rattle.statement_syntax.specs.Steps.{run}
-use Rattle.statement_syntax.specs.Lines.{file_step}
-use Rattle.statement_syntax.specs.Grammar.{StatedLine, IsFileOf, file_tokens}
-use Rattle.statement_syntax.specs.Tree.{file_tree}
-use Rattle.statement_syntax.specs.Texts.{IsStatements}
-use Rattle.statement_syntax.specs.Stages.{first_statements, begun, left, AllRead}
-use Rattle.statement_tokens.specs.Language.{language_of}
-use Rattle.statement_syntax.proofs.FirstLine.{file_language, divided}
-use Rattle.statement_syntax.proofs.FileReads.{lines_run}
-use Rattle.statement_syntax.proofs.Stopping.{is_only}
-use Rattle.statement_meaning.specs.Laws.{FilesHaveOneTree}
+use Rattle.statement_meaning.proofs.Prelude.{◌≡◌, ◌⊎◌, inl, inr, ℕ, List, ◌++◌, refl, sym, ap, subst, ◌∙◌, run, file_step, StatedLine, IsFileOf, file_tokens, file_tree, IsStatements, first_statements, begun, left, AllRead, language_of, file_language, divided, lines_run, is_only, FilesHaveOneTree}
 
 -- what holds within a limit, within it
 within : {F A B : Type 0} (r s : A) → (F × (r ≡ s)) ⊎ ((F → ⊥) × B) → F → r ≡ s

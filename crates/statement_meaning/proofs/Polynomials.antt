@@ -1,17 +1,6 @@
 -- The values of sums, multiples and products of polynomials.
-use Rattle.std.proofs.Common.{◌≡◌, ℕ, ◌<◌, ℤ, ◌*ℤ◌, true, cond, List, [], ◌∷◌, ◌++◌, map, sym, ap, ap₂, subst, ◌∙◌}
-use Rattle.std.specs.List.{All}
-use Rattle.std.proofs.lemmas.List.Elements.{All-head, All-tail}
-use Rattle.definitions.specs.Category.{Structure, IsArrow, PreadditiveLaws}
-use Rattle.definitions.specs.Poly.{Poly, Term, SamePolynomial, poly_sum, poly_multiple, poly_product}
-use Rattle.definitions.specs.Quiver.{Quiver, is_path}
-use Rattle.definitions.specs.Representation.{Representation, Represents, multiple, word_value, value_at}
-use Rattle.definitions.proofs.Group.{IsGroup}
-use Rattle.definitions.proofs.Multiples.{times, times_in, times-*ℤ, times-add, times-none, additive-none, additive-times}
-use Rattle.definitions.proofs.Linear.{linear_in, linear-append, linear-scale, linear_same}
-use Rattle.definitions.proofs.Values.{multiple-times, word_at, word_at_is_arrow, word_value_is_arrow, group_at, value_at-linear}
-use Rattle.definitions.proofs.Rows.{path_value-append}
-use Rattle.expressions.proofs.TypedParts.{path-append}
+use Rattle.statement_meaning.proofs.Prelude.{◌≡◌, ℕ, ◌<◌, ℤ, ◌*ℤ◌, true, cond, List, [], ◌∷◌, ◌++◌, map, sym, ap, ap₂, subst, ◌∙◌, All, All-head, All-tail, Structure, IsArrow, PreadditiveLaws, Poly, SamePolynomial, poly_sum, poly_multiple, poly_product, Quiver, is_path, Representation, Represents, multiple, word_value, value_at, IsGroup, times, times_in, times-*ℤ, times-add, times-none, additive-none, additive-times, linear_in, linear-append, linear-scale, linear_same, multiple-times, word_at, word_at_is_arrow, word_value_is_arrow, group_at, value_at-linear, path_value-append, path-append}
+use Rattle.definitions.specs.Poly.{Term}
 
 -- all words are paths of the signature (u, v)
 abbrev pub ArePaths : Quiver → ℕ → ℕ → Poly → Type 0

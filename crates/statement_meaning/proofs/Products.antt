@@ -1,19 +1,7 @@
 -- The value of a product is the composite of the values of its factors.
-use Rattle.std.proofs.Common.{◌≡◌, ℕ, true, List, [], ◌∷◌, Option, Some, None, Ok, sym, refl, ap, ap₂, subst, ◌∙◌}
-use Rattle.definitions.specs.Category.{Structure, IsArrow, PreadditiveLaws}
-use Rattle.definitions.specs.Poly.{Poly}
-use Rattle.definitions.specs.Quiver.{Quiver, is_path}
-use Rattle.definitions.specs.Representation.{Representation, Represents}
-use Rattle.nc_polynomial.specs.Product.{product_result}
-use Rattle.nc_polynomial.proofs.Products.{product_value}
-use Rattle.quiver.specs.declared.named.Sig.{Sig}
+use Rattle.statement_meaning.proofs.Prelude.{◌≡◌, ℕ, true, List, [], ◌∷◌, Option, Some, None, Ok, sym, refl, ap, ap₂, subst, ◌∙◌, Structure, IsArrow, PreadditiveLaws, Poly, Quiver, is_path, Representation, Represents, product_result, product_value, Sig, Part, from_to, bound, same_value, path-append, no_fault, joins, product_passed, words-product, after, composite}
 use Rattle.expressions.specs.Signatures as signatures
-use Rattle.expressions.specs.Signatures.{Part, from_to}
 use Rattle.expressions.specs.Polynomials as polynomials
-use Rattle.expressions.proofs.Sequences.{bound, same_value}
-use Rattle.expressions.proofs.TypedParts.{path-append, no_fault, joins, product_passed}
-use Rattle.expressions.proofs.Words.{words-product}
-use Rattle.statement_meaning.specs.Values.{after, composite}
 use Rattle.statement_meaning.proofs.Polynomials.{ArePaths, value_in, value-same, value-product}
 use Rattle.statement_meaning.proofs.Denoted.{value_of, DenotesAt, Denotes}
 

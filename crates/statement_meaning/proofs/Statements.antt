@@ -1,31 +1,6 @@
 -- The assumptions and the claims of a statement are zero exactly where its equations hold.
-use Rattle.std.proofs.Common.{◌≡◌, true, ◌↔◌, List, [], ◌∷◌, None, Result, Ok, Err, refl, sym, ap, subst, ◌∙◌, true≢false}
-use Rattle.std.specs.List.{All, AllByRecursion, AllZip}
-use Rattle.definitions.specs.Category.{Structure, PreadditiveLaws}
-use Rattle.definitions.specs.Representation.{Representation, Represents}
-use Rattle.definitions.specs.Soundness.{HasValueZero}
+use Rattle.statement_meaning.proofs.Prelude.{◌≡◌, true, ◌↔◌, List, [], ◌∷◌, None, Result, Ok, Err, refl, sym, ap, subst, ◌∙◌, true≢false, All, AllByRecursion, AllZip, Structure, PreadditiveLaws, Representation, Represents, HasValueZero, Sig, Declaration, quiver_of, is_quiver, Statement, Equation, equations_of, assumptions_of, claims_in, claims_of, SignatureFault, Problem, polynomials, is_starred, HasNames, IsReady, file_ready, first_among, told_signature, told_polynomial, signature_in, polynomial_in, polynomials_of, wrong_signature, wrong_polynomial, IsProblemOf, names_clean, none_wrong, each_with_both, IsCounted, assumptions_counted, claims_counted, IsValue, AreValues, all_values, values, zipped, Holds, reading, AreRead, IsRead, StatementsAreRead, StarredStatementsAreRead}
 use Rattle.nc_polynomial.specs.declared.poly.Poly as made
-use Rattle.quiver.specs.declared.named.Sig.{Sig}
-use Rattle.quiver.specs.Declarations.{Declaration, quiver_of}
-use Rattle.quiver.proofs.Identities.{is_quiver}
-use Rattle.statement_syntax.specs.declared.tree.Statement.{Statement}
-use Rattle.abbreviations.specs.declared.written.Equation.{Equation}
-use Rattle.abbreviations.specs.Written.{equations_of, assumptions_of, claims_in, claims_of}
-use Rattle.expressions.specs.declared.fault.SignatureFault.{SignatureFault}
-use Rattle.adjoint_rules.specs.declared.problem.Problem.{Problem}
-use Rattle.adjoint_rules.specs.Problem.{polynomials}
-use Rattle.statement_names.specs.Starred.{is_starred}
-use Rattle.statement_names.specs.Ready.{HasNames, IsReady}
-use Rattle.statement_names.proofs.FileReady.{file_ready}
-use Rattle.signature_typing.specs.First.{first_among}
-use Rattle.signature_typing.specs.Fault.{told_signature, told_polynomial}
-use Rattle.signature_typing.specs.Typing.{signature_in, polynomial_in, polynomials_of, wrong_signature, wrong_polynomial, IsProblemOf}
-use Rattle.signature_typing.proofs.EachStatement.{names_clean, none_wrong}
-use Rattle.signature_typing.proofs.Each.{each_with_both}
-use Rattle.signature_typing.proofs.InPlay.{IsCounted, assumptions_counted, claims_counted}
-use Rattle.signature_typing.proofs.Values.{IsValue, AreValues, all_values, values, zipped}
-use Rattle.statement_meaning.specs.Values.{Holds}
-use Rattle.statement_meaning.specs.Laws.{reading, AreRead, IsRead, StatementsAreRead, StarredStatementsAreRead}
 use Rattle.statement_meaning.proofs.Adjoints.{value-adjoint}
 use Rattle.statement_meaning.proofs.Equations.{equation_is_read}
 use Rattle.statement_meaning.proofs.Marks.{AdjointsAre}

@@ -1,22 +1,8 @@
 -- The value of a sum is the sum of the values of its terms.
-use Rattle.std.proofs.Common.{◌≡◌, ◌<◌, true, false, List, [], ◌∷◌, ◌++◌, Option, Some, None, Ok, ◌⊎◌, inl, inr, sym, refl, ap, subst, ◌∙◌}
-use Rattle.std.proofs.lemmas.List.{append-nil, append_assoc}
-use Rattle.std.proofs.lemmas.List.Elements.{All-nil, All-append}
-use Rattle.definitions.specs.Category.{Structure, PreadditiveLaws}
-use Rattle.definitions.specs.Poly.{Poly, SamePolynomial}
-use Rattle.definitions.specs.Quiver.{Quiver, is_path}
-use Rattle.definitions.specs.Representation.{Representation, Represents}
-use Rattle.definitions.proofs.Coefficients.{Same_refl, Same_trans, SamePolynomial-append}
-use Rattle.nc_polynomial.specs.Terms.{negated}
+use Rattle.statement_meaning.proofs.Prelude.{◌≡◌, ◌<◌, true, false, List, [], ◌∷◌, ◌++◌, Option, Some, None, Ok, ◌⊎◌, inl, inr, sym, refl, ap, subst, ◌∙◌, append-nil, append_assoc, All-nil, All-append, Structure, PreadditiveLaws, Poly, SamePolynomial, Quiver, is_path, Representation, Represents, Same_refl, Same_trans, SamePolynomial-append, negated, Sig, Part, Summand, signed, bound, same_value, same_passed, sum_passed, plus}
 use Rattle.nc_polynomial.proofs.Units.{sum_value}
-use Rattle.quiver.specs.declared.named.Sig.{Sig}
 use Rattle.expressions.specs.Signatures as signatures
-use Rattle.expressions.specs.Signatures.{Part}
 use Rattle.expressions.specs.Polynomials as polynomials
-use Rattle.expressions.specs.Polynomials.{Summand, signed}
-use Rattle.expressions.proofs.Sequences.{bound, same_value}
-use Rattle.expressions.proofs.TypedParts.{same_passed, sum_passed}
-use Rattle.statement_meaning.specs.Values.{plus}
 use Rattle.statement_meaning.proofs.Polynomials.{ArePaths, value-sum}
 use Rattle.statement_meaning.proofs.Denoted.{value_of, DenotesAt, Denotes}
 

@@ -1,18 +1,5 @@
 -- Declarations of different names.
-use Rattle.std.proofs.Common.{◌≡◌, ◌≢◌, ℕ, true, false, cond, not, is_some, List, [], ◌∷◌, ◌++◌, Option, Some, None, refl, ap, ap₂, sym, subst, ◌∙◌, arith}
-use Rattle.std.specs.Cmp.{IsEquivalence}
-use Rattle.std.specs.List.{IsDistinct, filter}
-use Rattle.std.specs.Map.{keys_of, lookup}
-use Rattle.std.specs.Option.{option_or}
-use Rattle.std.specs.Str.{bytes_eq}
-use Rattle.std.proofs.lemmas.List.{map-append}
-use Rattle.std.proofs.lemmas.List.Sorted.{IsPermutation-filter_both, IsPermutation-map}
-use Rattle.std.proofs.lemmas.Map.Entries.{option_filter, lookup-filter-values}
-use Rattle.std.proofs.lemmas.Map.Keys.{IsDistinct-push, IsDistinct-head, IsDistinct-tail, IsDistinct-IsPermutation}
-use Rattle.std.proofs.lemmas.Map.Made.{is_some-lookup}
-use Rattle.std.proofs.lemmas.Slice.Eq.{bytes_eq-Decides}
-use Rattle.statement_names.specs.Types.{Kind, Object, Map}
-use Rattle.statement_names.specs.Faults.{kind_in, is_kind}
+use Rattle.statement_names.proofs.Prelude.{◌≡◌, ◌≢◌, ℕ, true, false, cond, not, is_some, List, [], ◌∷◌, ◌++◌, Option, Some, None, refl, ap, ap₂, sym, subst, ◌∙◌, arith, IsEquivalence, IsDistinct, filter, keys_of, lookup, option_or, bytes_eq, map-append, IsPermutation-filter_both, IsPermutation-map, option_filter, lookup-filter-values, IsDistinct-push, IsDistinct-head, IsDistinct-tail, IsDistinct-IsPermutation, is_some-lookup, bytes_eq-Decides, Kind, Object, Map, kind_in, is_kind}
 use Rattle.statement_names.proofs.Each.{Each, Each-right}
 use Rattle.statement_names.proofs.KindsFound.{same_bytes, kind_in-append}
 

@@ -1,11 +1,5 @@
 -- Numbers that pass a test, ascending.
-use Rattle.std.proofs.Common.{◌≡◌, ℕ, ◌<◌, Bool, true, length, get_or, map, All, AllPairs, ap, arith}
-use Rattle.std.specs.List.{range_with_len}
-use Rattle.std.proofs.lemmas.List.{length-map, get_or-map}
-use Rattle.std.proofs.lemmas.List.Elements.{All-filter, All-map, filter_passes}
-use Rattle.std.proofs.lemmas.List.FromFn.{length-range_with_len, get_or-range_with_len}
-use Rattle.std.proofs.lemmas.List.Kept.{AllPairs-filter}
-use Rattle.statement_names.specs.Solved.{numbers_that}
+use Rattle.statement_names.proofs.Prelude.{◌≡◌, ℕ, ◌<◌, Bool, true, length, get_or, map, All, AllPairs, ap, arith, range_with_len, length-map, get_or-map, All-filter, All-map, filter_passes, length-range_with_len, get_or-range_with_len, AllPairs-filter, numbers_that}
 
 -- the numbers of a range
 range_below : (n : ℕ) → All (λ k. k < n) (range_with_len 0 n)

@@ -1,18 +1,5 @@
 -- The search by the room that is left finds the fault that is defined by the occurrences before.
-use Rattle.std.proofs.Common.{◌≡◌, ℕ, ◌+◌, ◌-◌, ◌≤◌, Bool, if◌then◌else◌, is_some, List, [], ◌∷◌, ◌++◌, length, take, Option, Some, None, refl, ap, ap₂, sym, subst, ◌∙◌, arith, append_assoc}
-use Rattle.std.specs.Result.{result_err}
-use Rattle.std.specs.List.{sum_by}
-use Rattle.std.specs.Option.{option_or}
-use Rattle.std.proofs.lemmas.Bool.Decides.{nat_tests}
-use Rattle.std.proofs.lemmas.List.{append-nil, length-append}
-use Rattle.std.proofs.lemmas.List.Sums.{fold-append, sum_by-cons, sum_by_push}
-use Rattle.quiver.specs.Limits.{object_limit}
-use Rattle.statement_names.specs.Types.{Statement, Placed, Kind, Object, Map, Survey}
-use Rattle.adjoint_rules.specs.Limits.{assumption_limit, claim_limit, shape_limit}
-use Rattle.statement_names.specs.Limits.{map_limit_of}
-use Rattle.statement_names.specs.Occurrences.{occurrences_of, Occurrence, declares_object, declares_map, begins_order, begins_assumptions, begins_claim, begins_shape}
-use Rattle.statement_names.specs.Faults.{declared_by, Counted, Objects, Maps, Orders, Assumptions, Claims, Shapes, limit_of, amount, declared_in, kind_in, short_of, fault_of, known_behind, first_fault, name_fault_of}
-use Rattle.statement_names.specs.Survey.{with_kind, with_kinds, declared_count, declared_before, room_of, fault_at, behind, goes_on, run}
+use Rattle.statement_names.proofs.Prelude.{◌≡◌, ℕ, ◌+◌, ◌-◌, ◌≤◌, Bool, if◌then◌else◌, is_some, List, [], ◌∷◌, ◌++◌, length, take, Option, Some, None, refl, ap, ap₂, sym, subst, ◌∙◌, arith, append_assoc, result_err, sum_by, option_or, nat_tests, append-nil, length-append, fold-append, sum_by-cons, sum_by_push, object_limit, Statement, Placed, Kind, Object, Map, Survey, assumption_limit, claim_limit, shape_limit, map_limit_of, occurrences_of, Occurrence, declares_object, declares_map, begins_order, begins_assumptions, begins_claim, begins_shape, declared_by, Counted, Objects, Maps, Orders, Assumptions, Claims, Shapes, limit_of, amount, declared_in, kind_in, short_of, fault_of, known_behind, first_fault, name_fault_of, with_kind, with_kinds, declared_count, declared_before, room_of, fault_at, behind, goes_on, run}
 use Rattle.statement_names.proofs.KindsFound.{kind_in-with_kinds, take-with_kinds}
 use Rattle.statement_names.proofs.Clean.{head_clean, tail_clean, declared_push, new_name, or_else_none}
 

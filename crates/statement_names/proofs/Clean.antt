@@ -1,11 +1,5 @@
 -- What holds of occurrences none of which has a fault.
-use Rattle.std.proofs.Common.{◌≡◌, ℕ, Bool, true, false, ◌&&◌, is_some, List, [], ◌∷◌, ◌++◌, Option, Some, None, ap, sym, subst, ◌∙◌, arith, append_assoc, if◌then◌else◌}
-use Rattle.std.proofs.lemmas.Grind.{flat_map-append}
-use Rattle.std.proofs.lemmas.List.{append-nil}
-use Rattle.definitions.specs.Moduli.{is_field_modulus}
-use Rattle.statement_names.specs.Types.{Statement, Placed, Kind, Object, Map}
-use Rattle.statement_names.specs.Occurrences.{Occurrence, declares_object, declares_map, uses, lists, counts, modulus}
-use Rattle.statement_names.specs.Faults.{declared_by, declared_in, is_kind, are_two_objects, is_among, is_between, value_of, or_else, fault_of, known_behind, first_fault, kind_within}
+use Rattle.statement_names.proofs.Prelude.{◌≡◌, ℕ, Bool, true, false, ◌&&◌, is_some, List, [], ◌∷◌, ◌++◌, Option, Some, None, ap, sym, subst, ◌∙◌, arith, append_assoc, if◌then◌else◌, flat_map-append, append-nil, is_field_modulus, Statement, Placed, Kind, Object, Map, Occurrence, declares_object, declares_map, uses, lists, counts, modulus, declared_by, declared_in, is_kind, are_two_objects, is_among, is_between, value_of, or_else, fault_of, known_behind, first_fault, kind_within}
 use Rattle.statement_names.proofs.Apart.{Apart, Apart-push, both_none}
 use Rattle.statement_names.proofs.Each.{Each}
 

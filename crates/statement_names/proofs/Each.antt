@@ -1,6 +1,5 @@
 -- What holds of each item of a list, by the list's own recursion.
-use Rattle.std.proofs.Common.{◌≡◌, ℕ, ◌<◌, List, [], ◌∷◌, ◌++◌, length, get_or, map, subst, sym}
-use Rattle.std.specs.List.{flat_map}
+use Rattle.statement_names.proofs.Prelude.{◌≡◌, ℕ, ◌<◌, List, [], ◌∷◌, ◌++◌, length, get_or, map, subst, sym, flat_map}
 pub use Rattle.std.specs.List.{AllByRecursion as Each}
 pub use Rattle.std.proofs.lemmas.List.Elements.{All-from_recursion as Each-at}
 pub use Rattle.definitions.proofs.UnitSound.{all-append as Each-append}

@@ -1,14 +1,5 @@
 -- What a file of the second language says.
-use Rattle.std.proofs.Common.{◌≡◌, ℕ, pos, true, false, List, [], ◌∷◌, Some, None, refl}
-use Rattle.statement_names.specs.Types.{Spot, Name, Adjoint, Power, Number, Statement, StatementKind, statement, Map, Block, Unknown, Double, BadNumber, placed}
-use Rattle.std.specs.List.{flat_map}
-use Rattle.statement_names.specs.Uses.{map_use}
-use Rattle.statement_names.specs.Faults.{kind_in, first_fault, name_fault_of}
-use Rattle.statement_names.specs.Limits.{map_limit_of}
-use Rattle.statement_names.specs.Starred.{is_starred}
-use Rattle.statement_names.specs.Numbered.{declarations_of}
-use Rattle.statement_names.specs.Occurrences.{Occurrence, uses, mark_occurrences}
-use Rattle.statement_names.specs.Ordered.{letter, order_of}
+use Rattle.statement_names.proofs.Prelude.{◌≡◌, ℕ, pos, true, false, List, [], ◌∷◌, Some, None, refl, Spot, Name, Adjoint, Power, Number, Statement, StatementKind, statement, Map, Block, Unknown, Double, BadNumber, placed, flat_map, map_use, kind_in, first_fault, name_fault_of, map_limit_of, is_starred, declarations_of, Occurrence, uses, mark_occurrences, letter, order_of}
 
 abbrev here : Spot
 here = record { line = 1; column = 1 }

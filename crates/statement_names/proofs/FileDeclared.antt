@@ -1,27 +1,5 @@
 -- The declarations of a file in whose names nothing is wrong are those of a quiver.
-use Rattle.std.proofs.Common.{◌≡◌, ℕ, ◌+◌, ◌<◌, ◌≤◌, Bool, true, false, ◌&&◌, ◌||◌, not, nat_eq, is_some, IsTrue, List, [], ◌∷◌, ◌++◌, length, map, take, drop, get_or, Option, Some, None, refl, ap, ap₂, sym, subst, ◌∙◌, arith, append_assoc}
-use Rattle.std.specs.List.{list_all, flat_map}
-use Rattle.std.specs.Map.{lookup}
-use Rattle.std.specs.Option.{option_or}
-use Rattle.std.specs.Str.{bytes_eq}
-use Rattle.std.proofs.lemmas.Bool.{lt-ltb}
-use Rattle.std.proofs.lemmas.Bool.Decides.{Decides-eqb}
-use Rattle.std.proofs.lemmas.Grind.{flat_map-append}
-use Rattle.std.proofs.lemmas.List.{take-append-drop}
-use Rattle.std.proofs.lemmas.List.Folds.{list_all-append}
-use Rattle.std.proofs.lemmas.Map.Entries.{option_filter}
-use Rattle.statement_names.specs.Types.{Named, named, Spot, Name, Statement, StatementKind, statement, Kind, Object, Map}
-use Rattle.quiver.specs.Limits.{map_limit}
-use Rattle.quiver.specs.Declarations.{Declaration, object, arrow, object_count, map_count, named_in, naming_table, has_ends, IsDeclared, objects_first, ObjectsFirst, is_arrow}
-use Rattle.quiver.proofs.Counts.{object_count-append}
-use Rattle.quiver.proofs.Growth.{naming_table-append}
-use Rattle.quiver.proofs.Found.{is_named}
-use Rattle.abbreviations.specs.Names.{is_object, object_number, object_of}
-use Rattle.statement_names.specs.Faults.{Objects, Maps, kind_in, is_kind, are_two_objects, kind_within, name_fault_of}
-use Rattle.statement_names.specs.Limits.{map_limit_after, map_limit_of}
-use Rattle.statement_names.specs.Occurrences.{declares_map, uses, kind_occurrences, statement_occurrences, occurrences_of}
-use Rattle.statement_names.specs.Uses.{object_use}
-use Rattle.statement_names.specs.Numbered.{objects_in, maps_in, declared_objects, declared_maps, declarations_of, HasEnds, AreFirst}
+use Rattle.statement_names.proofs.Prelude.{◌≡◌, ℕ, ◌+◌, ◌<◌, ◌≤◌, Bool, true, false, ◌&&◌, ◌||◌, not, nat_eq, is_some, IsTrue, List, [], ◌∷◌, ◌++◌, length, map, take, drop, get_or, Option, Some, None, refl, ap, ap₂, sym, subst, ◌∙◌, arith, append_assoc, list_all, flat_map, lookup, option_or, bytes_eq, lt-ltb, Decides-eqb, flat_map-append, take-append-drop, list_all-append, option_filter, Named, named, Spot, Name, Statement, StatementKind, statement, Kind, Object, Map, map_limit, Declaration, object, arrow, object_count, map_count, named_in, naming_table, has_ends, IsDeclared, objects_first, ObjectsFirst, is_arrow, object_count-append, naming_table-append, is_named, is_object, object_number, object_of, Objects, Maps, kind_in, is_kind, are_two_objects, kind_within, name_fault_of, map_limit_after, map_limit_of, declares_map, uses, kind_occurrences, statement_occurrences, occurrences_of, object_use, objects_in, maps_in, declared_objects, declared_maps, declarations_of, HasEnds, AreFirst}
 use Rattle.statement_names.proofs.Apart.{kind_in-among}
 use Rattle.statement_names.proofs.Bridge.{within_limits}
 use Rattle.statement_names.proofs.Clean.{IsGood, AreGood, each_good}

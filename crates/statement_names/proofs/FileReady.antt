@@ -1,16 +1,5 @@
 -- A file in whose names nothing is wrong is ready for the stages after.
-use Rattle.std.proofs.Common.{◌≡◌, ◌<◌, ◌≤◌, List, None, refl, sym, subst}
-use Rattle.quiver.specs.Declarations.{object_count, letter_count}
-use Rattle.statement_names.specs.Types.{Statement}
-use Rattle.statement_names.specs.Faults.{Assumptions, Claims, name_fault_of}
-use Rattle.statement_names.specs.Marked.{an_object, is_marked}
-use Rattle.statement_names.specs.Numbered.{declarations_of}
-use Rattle.statement_names.specs.Ordered.{letter}
-use Rattle.statement_names.specs.Ready.{HasNames, IsReady}
-use Rattle.statement_names.specs.Solved.{is_solved, solved_names}
-use Rattle.abbreviations.specs.Written.{assumptions_of, claims_of}
-use Rattle.adjoint_rules.specs.Limits.{assumption_limit, claim_limit}
-use Rattle.adjoint_rules.specs.Problem.{IsDeclaredMap}
+use Rattle.statement_names.proofs.Prelude.{◌≡◌, ◌<◌, ◌≤◌, List, None, refl, sym, subst, object_count, letter_count, Statement, Assumptions, Claims, name_fault_of, an_object, is_marked, declarations_of, letter, HasNames, IsReady, is_solved, solved_names, assumptions_of, claims_of, assumption_limit, claim_limit, IsDeclaredMap}
 use Rattle.statement_names.proofs.Ascending.{numbers_ascend, numbers_hold}
 use Rattle.statement_names.proofs.Bridge.{within_limits}
 use Rattle.statement_names.proofs.Each.{Each-at}

@@ -1,10 +1,5 @@
 -- The names and exponents of a sum and of a term, by lists in place of rows.
-use Rattle.std.proofs.Common.{◌≡◌, ◌++◌, refl, ap, ◌∙◌}
-use Rattle.std.specs.List.{flat_map}
-use Rattle.statement_names.specs.Types.{Term, Term', out-Term, Row_of-Factor, end_of-Factor, more_of-Factor, items-the_row-Factor, Sum, Sum', out-Sum}
-use Rattle.statement_names.specs.Types.{Row_of-Term, end_of-Term, more_of-Term, items-the_row-Term}
-use Rattle.abbreviations.proofs.Trees.{of_sum, of_term}
-use Rattle.statement_names.specs.Occurrences.{mark_occurrences, primary_occurrences, factor_occurrences, factors_occurrences, term_occurrences, terms_occurrences, sum_occurrences}
+use Rattle.statement_names.proofs.Prelude.{◌≡◌, ◌++◌, refl, ap, ◌∙◌, flat_map, Term, Term', out-Term, Row_of-Factor, end_of-Factor, more_of-Factor, items-the_row-Factor, Sum, Sum', out-Sum, Row_of-Term, end_of-Term, more_of-Term, items-the_row-Term, of_sum, of_term, mark_occurrences, primary_occurrences, factor_occurrences, factors_occurrences, term_occurrences, terms_occurrences, sum_occurrences}
 
 flat-factors : (n : _) (k : Row_of-Factor n) → factors_occurrences k ≡ flat_map factor_occurrences (items-the_row-Factor n k)
 flat-factors n end_of-Factor = refl

@@ -1,19 +1,6 @@
 -- The declarations that names stand for.
-use Rattle.std.proofs.Common.{◌≡◌, ℕ, zero, suc, ◌+◌, ◌<◌, ◌≤◌, Bool, true, false, cond, if◌then◌else◌, nat_eq, List, [], ◌∷◌, ◌++◌, length, Option, Some, refl, ap, sym, subst, ◌∙◌, arith}
-use Rattle.std.specs.Map.{lookup}
-use Rattle.std.specs.Option.{option_or}
-use Rattle.std.specs.Str.{bytes_eq}
-use Rattle.std.proofs.lemmas.Bool.Decides.{nat_tests, Decides-eqb}
-use Rattle.statement_names.specs.Types.{Letter, Named, named}
-use Rattle.definitions.specs.Quiver.{star}
-use Rattle.quiver.specs.Declarations.{Declaration, object, arrow, letters_of, object_count, letter_count, named_in, naming_table, letter_at, object_name, letter_name, quiver_of}
-use Rattle.quiver.proofs.Counts.{letter_count-append}
-use Rattle.quiver.proofs.Found.{plus_zero, letter_at-split, object_name-split, letter_name-split}
-use Rattle.quiver.proofs.Growth.{names_from, naming_table-append}
-use Rattle.quiver.proofs.Letters.{star-quiver_of}
-use Rattle.abbreviations.specs.Names.{letter_number}
+use Rattle.statement_names.proofs.Prelude.{◌≡◌, ℕ, zero, suc, ◌+◌, ◌<◌, ◌≤◌, Bool, true, false, cond, if◌then◌else◌, nat_eq, List, [], ◌∷◌, ◌++◌, length, Option, Some, refl, ap, sym, subst, ◌∙◌, arith, lookup, option_or, bytes_eq, nat_tests, Decides-eqb, Letter, Named, named, star, Declaration, object, arrow, letters_of, object_count, letter_count, named_in, naming_table, letter_at, object_name, letter_name, quiver_of, letter_count-append, plus_zero, letter_at-split, object_name-split, letter_name-split, names_from, naming_table-append, star-quiver_of, letter_number, letter, with_star}
 use Rattle.statement_names.proofs.Apart.{Apart, own_bytes}
-use Rattle.statement_names.specs.Ordered.{letter, with_star}
 use Rattle.statement_names.proofs.Each.{Each}
 use Rattle.statement_names.proofs.Fresh.{fresh_name}
 use Rattle.statement_names.proofs.KindsFound.{same_bytes, lookup-append}

@@ -1,21 +1,5 @@
 -- Nothing is wrong with a declaration of a list that a quiver may have.
-use Rattle.std.proofs.Common.{◌≡◌, ◌≢◌, ℕ, ◌+◌, ◌≤◌, Bool, true, false, ◌&&◌, ◌||◌, not, nat_eq, nat_le, if◌then◌else◌, is_some, List, [], ◌∷◌, ◌++◌, map, AllPairs, Some, None, refl, ap, ap₂, sym, subst, ◌∙◌, arith, append_assoc}
-use Rattle.std.specs.List.{IsDistinct, list_all}
-use Rattle.std.specs.Map.{keys_of}
-use Rattle.std.specs.Str.{bytes_eq}
-use Rattle.std.proofs.lemmas.Bool.{and_parts}
-use Rattle.std.proofs.lemmas.Bool.Decides.{nat_tests}
-use Rattle.std.proofs.lemmas.List.Folds.{list_all-append}
-use Rattle.std.proofs.lemmas.List.{map-append}
-use Rattle.std.proofs.lemmas.Map.Made.{IsDistinct-from_AllPairs, AllPairs-from_IsDistinct}
-use Rattle.std.proofs.lemmas.Slice.Eq.{bytes_eq-Decides}
-use Rattle.quiver.specs.declared.fault.QuiverFault.TheVariants.{DoubleName, TooMany, NotSquare}
-use Rattle.quiver.specs.Declarations.{Declaration, object, arrow, name_of, object_count, map_count, named_in, has_ends, IsDeclared}
-use Rattle.quiver.specs.Limits.{object_limit, map_limit}
-use Rattle.quiver.specs.Refusals.{object_fault, map_fault}
-use Rattle.quiver.proofs.Letters.{ends_of}
-use Rattle.quiver.proofs.Counts.{object_count-append, map_count-append}
-use Rattle.statement_names.specs.Numbered.{AreFirst}
+use Rattle.statement_names.proofs.Prelude.{◌≡◌, ◌≢◌, ℕ, ◌+◌, ◌≤◌, Bool, true, false, ◌&&◌, ◌||◌, not, nat_eq, nat_le, if◌then◌else◌, is_some, List, [], ◌∷◌, ◌++◌, map, AllPairs, Some, None, refl, ap, ap₂, sym, subst, ◌∙◌, arith, append_assoc, IsDistinct, list_all, keys_of, bytes_eq, and_parts, nat_tests, list_all-append, map-append, IsDistinct-from_AllPairs, AllPairs-from_IsDistinct, bytes_eq-Decides, DoubleName, TooMany, NotSquare, Declaration, object, arrow, name_of, object_count, map_count, named_in, has_ends, IsDeclared, object_limit, map_limit, object_fault, map_fault, ends_of, object_count-append, map_count-append, AreFirst}
 use Rattle.statement_names.proofs.Apart.{Apart, fresh_before}
 use Rattle.statement_names.proofs.NamedKinds.{kind_of, kinds, nothing_named}
 

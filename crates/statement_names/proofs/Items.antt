@@ -1,8 +1,5 @@
 -- The next of some items, between those before it and those after it.
-use Rattle.std.proofs.Common.{◌≡◌, ℕ, ◌+◌, ◌<◌, List, [], ◌∷◌, ◌++◌, length, map, take, drop, get_or, sym, ap, ◌∙◌, add-one, drop-cons, append_assoc}
-use Rattle.std.specs.List.{flat_map}
-use Rattle.std.proofs.lemmas.Grind.{flat_map-append}
-use Rattle.std.proofs.lemmas.List.{map-append, take-append-drop, take_more, append-nil}
+use Rattle.statement_names.proofs.Prelude.{◌≡◌, ℕ, ◌+◌, ◌<◌, List, [], ◌∷◌, ◌++◌, length, map, take, drop, get_or, sym, ap, ◌∙◌, add-one, drop-cons, append_assoc, flat_map, flat_map-append, map-append, take-append-drop, take_more, append-nil}
 
 module _ {A : Type 0} (items : List A) (i : ℕ) (x : A) (below : i < length items) (at : x ≡ get_or items i x) where
   pub rest_is : drop i items ≡ x ∷ drop (i + 1) items

@@ -1,17 +1,5 @@
 -- The names of a map are the bytes of its keys.
-use Rattle.std.proofs.Common.{◌≡◌, Option, ap₂, sym, Bool, false, is_some, if◌then◌else◌, List, [], ◌∷◌, ◌++◌, map, None, Some, cond, refl, ap, ◌∙◌, ℕ, zero, suc, ◌&&◌, nat_lt, length, take, position, string_bytes, Global, String, arith}
-use Rattle.std.specs.List.{position_or_len}
-use Rattle.std.specs.Map.{keys_of, lookup}
-use Rattle.std.proofs.lemmas.Bool.Decides.{nat_tests}
-use Rattle.std.specs.Str.{bytes_eq}
-use Rattle.std.specs.String.{string_eq}
-use Rattle.std.proofs.lemmas.List.{map-append, take-map}
-use Rattle.indexmap.specs.IndexMap.{insert_entry}
-use Rattle.indexmap.proofs.CallerLemmas.{insert_entry-new}
-use Rattle.statement_names.specs.Types.{Kind}
-use Rattle.statement_names.specs.declared.kinds.Kinds.TheInside.{Inside}
-use Rattle.statement_names.specs.Faults.{kind_in}
-use Rattle.statement_names.specs.Survey.{with_kind}
+use Rattle.statement_names.proofs.Prelude.{◌≡◌, Option, ap₂, sym, Bool, false, is_some, if◌then◌else◌, List, [], ◌∷◌, ◌++◌, map, None, Some, cond, refl, ap, ◌∙◌, ℕ, zero, suc, ◌&&◌, nat_lt, length, take, position, string_bytes, Global, String, arith, position_or_len, keys_of, lookup, nat_tests, bytes_eq, string_eq, map-append, take-map, insert_entry, insert_entry-new, Kind, Inside, kind_in, with_kind}
 use Rattle.statement_names.proofs.Clean.{absent_from}
 
 abbrev pub bytes_of : List (String Global × Kind) → List (List ℕ × Kind)

@@ -1,14 +1,5 @@
 -- What is found for a name in lists of declarations.
-use Rattle.std.proofs.Common.{◌≡◌, ℕ, length, take, Bool, true, false, is_some, List, [], ◌∷◌, ◌++◌, Option, None, refl, ap, sym, ◌∙◌, append_assoc, arith, if◌then◌else◌}
-use Rattle.std.proofs.lemmas.List.{append-nil}
-use Rattle.std.proofs.Math.Seq.{take-append_seam}
-use Rattle.std.specs.Map.{lookup}
-use Rattle.std.specs.Option.{option_or}
-use Rattle.std.specs.Str.{bytes_eq}
-use Rattle.std.proofs.lemmas.Slice.Eq.{bytes_eq-Decides}
-use Rattle.statement_names.specs.Types.{Kind}
-use Rattle.statement_names.specs.Faults.{kind_in, is_among}
-use Rattle.statement_names.specs.Survey.{names_in, with_kind, with_kinds}
+use Rattle.statement_names.proofs.Prelude.{◌≡◌, ℕ, length, take, Bool, true, false, is_some, List, [], ◌∷◌, ◌++◌, Option, None, refl, ap, sym, ◌∙◌, append_assoc, arith, if◌then◌else◌, append-nil, take-append_seam, lookup, option_or, bytes_eq, bytes_eq-Decides, Kind, kind_in, is_among, names_in, with_kind, with_kinds}
 
 pub same_bytes : (xs ys : List ℕ) → bytes_eq xs ys ≡ true → xs ≡ ys
 same_bytes xs ys e = (bytes_eq-Decides xs ys).0 e

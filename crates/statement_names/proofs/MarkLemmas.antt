@@ -1,11 +1,6 @@
 -- Tables of marks, and the numbers that are marked.
-use Rattle.std.proofs.Common.{◌≡◌, ℕ, zero, suc, ◌+◌, ◌<◌, ◌≤◌, Bool, false, cond, ◌||◌, List, [], ◌∷◌, ◌++◌, length, filter, get_or, replicate, refl, ap, ap₂, sym, subst, ◌∙◌, arith, add-one}
-use Rattle.std.specs.List.{range_with_len}
-use Rattle.std.proofs.lemmas.List.{length-replicate}
-use Rattle.std.proofs.lemmas.List.Elements.{filter-append}
-use Rattle.word_orders.proofs.BlockReading.{get_or-replicate_default}
-use Rattle.statement_names.specs.Marks.{Marks}
-use Rattle.statement_names.specs.Solved.{numbers_that}
+use Rattle.statement_names.proofs.Prelude.{◌≡◌, ℕ, zero, suc, ◌+◌, ◌<◌, ◌≤◌, Bool, false, cond, ◌||◌, List, [], ◌∷◌, ◌++◌, length, get_or, replicate, refl, ap, ap₂, sym, subst, ◌∙◌, arith, add-one, range_with_len, length-replicate, filter-append, get_or-replicate_default, Marks, numbers_that}
+use Rattle.std.proofs.Common.{filter}
 
 -- the numbers that pass a test
 range_more : (a n : ℕ) → range_with_len a (n + 1) ≡ range_with_len a n ++ (a + n) ∷ []

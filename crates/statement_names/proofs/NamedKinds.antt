@@ -1,20 +1,5 @@
 -- What the names of declarations stand for, and the kinds that they are declared as.
-use Rattle.std.proofs.Common.{◌≡◌, ℕ, ◌+◌, true, false, cond, IsTrue, List, [], ◌∷◌, ◌++◌, map, Option, Some, None, refl, ap, ap₂, sym, subst, ◌∙◌, arith}
-use Rattle.std.specs.List.{flat_map}
-use Rattle.std.specs.Map.{lookup}
-use Rattle.std.specs.Option.{option_map}
-use Rattle.std.specs.Str.{bytes_eq}
-use Rattle.std.proofs.lemmas.List.{map-append}
-use Rattle.std.proofs.lemmas.List.Elements.{filter-append}
-use Rattle.statement_names.specs.Types.{Named, named, Name, Statement, StatementKind, statement, Kind, Object, Map}
-use Rattle.quiver.specs.Declarations.{Declaration, object, arrow, name_of, objects_of, letters_of, Turn, named_by, named_in}
-use Rattle.quiver.proofs.Growth.{names_from}
-use Rattle.abbreviations.specs.Names.{is_map, is_object, object_of}
-use Rattle.statement_names.specs.Faults.{kind_in, is_kind, kind_within, name_fault_of}
-use Rattle.statement_names.specs.Limits.{map_limit_of}
-use Rattle.statement_names.specs.Occurrences.{occurrences_of}
-use Rattle.statement_names.specs.Numbered.{objects_in, maps_in, declared_objects, declared_maps, declarations_of}
-use Rattle.statement_names.specs.Survey.{kinded, kinds_by}
+use Rattle.statement_names.proofs.Prelude.{◌≡◌, ℕ, ◌+◌, true, false, cond, IsTrue, List, [], ◌∷◌, ◌++◌, map, Option, Some, None, refl, ap, ap₂, sym, subst, ◌∙◌, arith, flat_map, lookup, option_map, bytes_eq, map-append, filter-append, Named, named, Name, Statement, StatementKind, statement, Kind, Object, Map, Declaration, object, arrow, name_of, objects_of, letters_of, Turn, named_by, named_in, names_from, is_map, is_object, object_of, kind_in, is_kind, kind_within, name_fault_of, map_limit_of, occurrences_of, objects_in, maps_in, declared_objects, declared_maps, declarations_of, kinded, kinds_by}
 use Rattle.statement_names.proofs.Apart.{Apart, Apart-none, Apart-sorted, kind_in-sorted, among, sorted}
 use Rattle.statement_names.proofs.Clean.{apart_declared}
 use Rattle.statement_names.proofs.Quiet.{declared_statements}

@@ -1,17 +1,5 @@
 -- What the occurrences of a statement declare and begin.
-use Rattle.std.proofs.Common.{◌≡◌, ℕ, ◌+◌, List, [], ◌∷◌, ◌++◌, map, refl, ap, ap₂, sym, ◌∙◌}
-use Rattle.std.specs.List.{flat_map, sum_by}
-use Rattle.std.proofs.lemmas.Grind.{flat_map-append}
-use Rattle.std.proofs.lemmas.List.{append-nil}
-use Rattle.std.proofs.lemmas.List.Sums.{sum_by-cons}
-use Rattle.statement_names.specs.Types.{Spot, Name, Number, Statement, StatementKind, statement, Mark, Adjoint, Power, Primary, Identity, Bracket, Term, Term'}
-use Rattle.statement_names.specs.Types.{Row_of-Factor, end_of-Factor, more_of-Factor, Sum, Sum', Row_of-Term, end_of-Term, more_of-Term, Kind, Object, Map}
-use Rattle.adjoint_rules.specs.Limits.{shape_side_limit}
-use Rattle.word_orders.specs.Limits.{weight_limit}
-use Rattle.statement_names.specs.Uses.{object_use, map_use}
-use Rattle.statement_names.specs.Occurrences.{Occurrence, declares_object, declares_map, begins_order, begins_assumptions, begins_claim, begins_shape, uses, lists, counts, modulus, names_behind, pairs_behind, mark_occurrences, primary_occurrences, factors_occurrences, term_occurrences, terms_occurrences, sum_occurrences, sides_occurrences, kind_occurrences, statement_occurrences, occurrences_of}
-use Rattle.statement_names.specs.Faults.{declared_by, declared_in, Counted, Objects, Maps, Orders, Assumptions, Claims, Shapes, amount}
-use Rattle.statement_names.specs.Survey.{kinded, kinds_by}
+use Rattle.statement_names.proofs.Prelude.{◌≡◌, ℕ, ◌+◌, List, [], ◌∷◌, ◌++◌, map, refl, ap, ap₂, sym, ◌∙◌, flat_map, sum_by, flat_map-append, append-nil, sum_by-cons, Spot, Name, Number, Statement, StatementKind, statement, Mark, Adjoint, Power, Primary, Identity, Bracket, Term, Term', Row_of-Factor, end_of-Factor, more_of-Factor, Sum, Sum', Row_of-Term, end_of-Term, more_of-Term, Kind, Object, Map, shape_side_limit, weight_limit, object_use, map_use, Occurrence, declares_object, declares_map, begins_order, begins_assumptions, begins_claim, begins_shape, uses, lists, counts, modulus, names_behind, pairs_behind, mark_occurrences, primary_occurrences, factors_occurrences, term_occurrences, terms_occurrences, sum_occurrences, sides_occurrences, kind_occurrences, statement_occurrences, occurrences_of, declared_by, declared_in, Counted, Objects, Maps, Orders, Assumptions, Claims, Shapes, amount, kinded, kinds_by}
 use Rattle.statement_names.proofs.Each.{Each, Each-append}
 
 -- it only uses a name or a literal

@@ -1,12 +1,6 @@
 -- How a search for the first fault goes on, and how it stops.
-use Rattle.std.proofs.Common.{◌≡◌, ℕ, ◌+◌, ◌<◌, List, [], ◌∷◌, ◌++◌, length, drop, get_or, Option, Some, None, Result, Ok, Err, refl, sym, ap, ◌∙◌}
-use Rattle.std.specs.Result.{result_err}
-use Rattle.std.specs.List.{flat_map}
-use Rattle.statement_names.specs.Types.{Placed, Stop, stop, Survey}
-use Rattle.statement_names.specs.Occurrences.{Occurrence}
-use Rattle.lists.specs.Stop.{Explains, Gives}
+use Rattle.statement_names.proofs.Prelude.{◌≡◌, ℕ, ◌+◌, ◌<◌, List, [], ◌∷◌, ◌++◌, length, drop, get_or, Option, Some, None, Result, Ok, Err, refl, sym, ap, ◌∙◌, result_err, flat_map, Placed, Stop, stop, Survey, Occurrence, Explains, Gives, fault_at, behind, goes_on, run}
 use Rattle.statement_names.proofs.Items.{rest_is}
-use Rattle.statement_names.specs.Survey.{fault_at, behind, goes_on, run}
 
 -- some occurrences and then others
 abbrev pub then_run : Result Survey Placed → List Occurrence → Result Survey Placed

@@ -1,18 +1,5 @@
 -- The sides that pairs of names and literals give to objects.
-use Rattle.std.proofs.Common.{◌≡◌, ◌≢◌, ℕ, ◌+◌, ◌<◌, ◌≤◌, Bool, true, false, cond, IsTrue, List, [], ◌∷◌, ◌++◌, length, map, take, drop, get_or, set, Option, Some, None, unwrap_or, refl, ap, ap₂, sym, subst, ◌∙◌, arith, get_or-set_same, get_or-set_other}
-use Rattle.std.specs.List.{IsDistinct}
-use Rattle.std.specs.Map.{keys_of, lookup}
-use Rattle.std.specs.Option.{option_or}
-use Rattle.std.specs.Str.{bytes_eq}
-use Rattle.std.proofs.lemmas.Simd.{map-map}
-use Rattle.std.proofs.lemmas.List.{ext_get_or, map-append, take_all}
-use Rattle.statement_names.specs.Types.{Named, named, Name, Number}
-use Rattle.std.proofs.lemmas.List.FromFn.{length-map-range_with_len, get_or-map-range_with_len}
-use Rattle.quiver.specs.Declarations.{Declaration, object_count, object_name, named_in, IsDeclared}
-use Rattle.quiver.proofs.Found.{is_named}
-use Rattle.abbreviations.specs.Names.{is_object, object_number, object_of}
-use Rattle.statement_names.specs.Faults.{value_of}
-use Rattle.statement_names.specs.Shapes.{side_in, sides_of}
+use Rattle.statement_names.proofs.Prelude.{◌≡◌, ◌≢◌, ℕ, ◌+◌, ◌<◌, ◌≤◌, Bool, true, false, cond, IsTrue, List, [], ◌∷◌, ◌++◌, length, map, take, drop, get_or, set, Option, Some, None, unwrap_or, refl, ap, ap₂, sym, subst, ◌∙◌, arith, get_or-set_same, get_or-set_other, IsDistinct, keys_of, lookup, option_or, bytes_eq, map-map, ext_get_or, map-append, take_all, Named, named, Name, Number, length-map-range_with_len, get_or-map-range_with_len, Declaration, object_count, object_name, named_in, IsDeclared, is_named, is_object, object_number, object_of, value_of, side_in, sides_of}
 use Rattle.statement_names.proofs.Apart.{own_bytes, fresh_before}
 use Rattle.statement_names.proofs.Found.{named_object}
 use Rattle.statement_names.proofs.Fresh.{apart_of}

@@ -1,15 +1,5 @@
 -- The letters that a file solves for are declared maps.
-use Rattle.std.proofs.Common.{◌≡◌, ℕ, ◌+◌, ◌≤◌, Bool, true, false, List, [], ◌∷◌, ◌++◌, Option, Some, refl, ap, sym, subst, arith, if◌then◌else◌}
-use Rattle.std.specs.List.{list_any, list_all}
-use Rattle.std.proofs.lemmas.Bool.Decides.{Decides-eqb}
-use Rattle.std.proofs.lemmas.List.Folds.{Any-from_list_any}
-use Rattle.statement_names.specs.Types.{Named, named, Name}
-use Rattle.quiver.specs.Declarations.{Declaration, object, arrow, object_count, letter_count, named_in, objects_first, ObjectsFirst, is_arrow}
-use Rattle.quiver.proofs.Counts.{object_count-append}
-use Rattle.quiver.proofs.Found.{is_named}
-use Rattle.adjoint_rules.specs.Problem.{IsDeclaredMap}
-use Rattle.statement_names.specs.Ordered.{letter}
-use Rattle.statement_names.specs.Solved.{is_the_letter, names_letter}
+use Rattle.statement_names.proofs.Prelude.{◌≡◌, ℕ, ◌+◌, ◌≤◌, Bool, true, false, List, [], ◌∷◌, ◌++◌, Option, Some, refl, ap, sym, subst, arith, if◌then◌else◌, list_any, list_all, Decides-eqb, Any-from_list_any, Named, named, Name, Declaration, object, arrow, object_count, letter_count, named_in, objects_first, ObjectsFirst, is_arrow, object_count-append, is_named, IsDeclaredMap, letter, is_the_letter, names_letter}
 use Rattle.statement_names.proofs.Found.{map_split, map_letters}
 use Rattle.statement_names.proofs.Fresh.{all_right}
 

@@ -1,23 +1,5 @@
 -- Nothing is wrong with the order of a file in whose names nothing is wrong.
-use Rattle.std.proofs.Common.{◌≡◌, ◌≢◌, ℕ, ◌<◌, Bool, true, false, ◌&&◌, if◌then◌else◌, IsTrue, List, [], ◌∷◌, ◌++◌, map, Option, Some, None, refl, ap, ap₂, sym, subst, ◌∙◌, arith}
-use Rattle.std.specs.List.{flat_map}
-use Rattle.std.specs.Option.{option_or}
-use Rattle.std.proofs.lemmas.Bool.{lt-ltb, le-leb}
-use Rattle.std.proofs.lemmas.Bool.Decides.{nat_tests}
-use Rattle.std.specs.Str.{bytes_eq}
-use Rattle.std.proofs.lemmas.List.{map-append}
-use Rattle.std.proofs.lemmas.Map.Keys.{IsDistinct-head, IsDistinct-tail}
-use Rattle.statement_names.specs.Types.{Letter, OrderSpec, Named, named, Name, Number, Statement, StatementKind, statement}
-use Rattle.word_orders.specs.declared.fault.OrderFault.TheVariants.{BadWeight, RepeatedLetter, NoSuchLetter}
-use Rattle.word_orders.specs.Faults.{is_weight, letter_fault, block_fault, entry_fault, HasNoFault}
-use Rattle.word_orders.specs.Lists.{is_listed}
-use Rattle.word_orders.specs.Specified.{IsSound}
-use Rattle.quiver.specs.Declarations.{Declaration, letter_count, letter_name, named_in}
-use Rattle.abbreviations.specs.Names.{is_map, letter_number, letter_of}
-use Rattle.word_orders.specs.Limits.{weight_limit}
-use Rattle.statement_names.specs.Faults.{value_of, name_fault_of}
-use Rattle.statement_names.specs.Numbered.{declarations_of}
-use Rattle.statement_names.specs.Ordered.{letters_for, weights_of, order_or, order_of}
+use Rattle.statement_names.proofs.Prelude.{◌≡◌, ◌≢◌, ℕ, ◌<◌, Bool, true, false, ◌&&◌, if◌then◌else◌, IsTrue, List, [], ◌∷◌, ◌++◌, map, Option, Some, None, refl, ap, ap₂, sym, subst, ◌∙◌, arith, flat_map, option_or, lt-ltb, le-leb, nat_tests, bytes_eq, map-append, IsDistinct-head, IsDistinct-tail, Letter, OrderSpec, Named, named, Name, Number, Statement, StatementKind, statement, BadWeight, RepeatedLetter, NoSuchLetter, is_weight, letter_fault, block_fault, entry_fault, HasNoFault, is_listed, IsSound, Declaration, letter_count, letter_name, named_in, is_map, letter_number, letter_of, weight_limit, value_of, name_fault_of, declarations_of, letters_for, weights_of, order_or, order_of}
 use Rattle.statement_names.proofs.Apart.{differ_by}
 use Rattle.statement_names.proofs.Each.{Each, Each-right, Each-append, Each-weaker}
 use Rattle.statement_names.proofs.Found.{letters_from_number, IsLetterOf, HasLetters, map_letters}

@@ -1,18 +1,5 @@
 -- The shapes of a file in whose names nothing is wrong.
-use Rattle.std.proofs.Common.{◌≡◌, ℕ, ◌≤◌, Bool, true, false, cond, List, [], ◌∷◌, length, map, replicate, All, Some, None, unwrap_or, refl, sym, subst, arith}
-use Rattle.std.specs.List.{flat_map, range_with_len}
-use Rattle.std.specs.Map.{lookup}
-use Rattle.std.specs.Str.{bytes_eq}
-use Rattle.std.proofs.lemmas.List.{length-replicate}
-use Rattle.std.proofs.lemmas.List.FromFn.{length-map-range_with_len}
-use Rattle.std.proofs.lemmas.List.Elements.{All-map, All-replicate}
-use Rattle.quiver.specs.Declarations.{Declaration, object_count, object_name}
-use Rattle.adjoint_rules.specs.Limits.{shape_limit, shape_side_limit}
-use Rattle.adjoint_rules.specs.Problem.{IsShape, IsSide}
-use Rattle.statement_names.specs.Types.{Shape, Name, Number, Statement, StatementKind, statement}
-use Rattle.statement_names.specs.Faults.{Shapes, value_of, name_fault_of}
-use Rattle.statement_names.specs.Numbered.{declarations_of}
-use Rattle.statement_names.specs.Shapes.{shape, side_in, shapes_in, default_shapes, or_shapes, shapes_of}
+use Rattle.statement_names.proofs.Prelude.{◌≡◌, ℕ, ◌≤◌, Bool, true, false, cond, List, [], ◌∷◌, length, map, replicate, All, Some, None, unwrap_or, refl, sym, subst, arith, flat_map, range_with_len, lookup, bytes_eq, length-replicate, length-map-range_with_len, All-map, All-replicate, Declaration, object_count, object_name, shape_limit, shape_side_limit, IsShape, IsSide, Shape, Name, Number, Statement, StatementKind, statement, Shapes, value_of, name_fault_of, declarations_of, shape, side_in, shapes_in, default_shapes, or_shapes, shapes_of}
 use Rattle.statement_names.proofs.Bridge.{within_limits}
 use Rattle.statement_names.proofs.Each.{Each, Each-at, Each-weaker, Each-flat_map}
 use Rattle.statement_names.proofs.Stated.{AreBetween, IsStated, all_stated}

@@ -1,23 +1,5 @@
 -- What the names and literals of a statement are, in a file in whose names nothing is wrong.
-use Rattle.std.proofs.Common.{◌≡◌, ℕ, ◌<◌, ◌≤◌, true, nat_eq, nat_le, IsTrue, List, [], ◌∷◌, ◌++◌, map, length, get_or, Option, None, All, refl, sym, subst, arith, append_assoc}
-use Rattle.std.specs.List.{IsDistinct}
-use Rattle.std.specs.Str.{bytes_eq}
-use Rattle.std.proofs.lemmas.Bool.{and_parts, leb-true}
-use Rattle.std.proofs.lemmas.Bool.Decides.{Decides-eqb}
-use Rattle.std.proofs.lemmas.List.Folds.{Any-from_list_any}
-use Rattle.std.proofs.lemmas.List.Sums.{AllPass-from_list_all}
-use Rattle.std.proofs.lemmas.List.{append-nil}
-use Rattle.std.proofs.lemmas.Map.Keys.{IsDistinct-push}
-use Rattle.std.proofs.lemmas.Simd.{map-map}
-use Rattle.definitions.specs.Moduli.{field_moduli, is_field_modulus}
-use Rattle.quiver.specs.Declarations.{Declaration, named_in}
-use Rattle.abbreviations.specs.Names.{is_map, is_object}
-use Rattle.statement_names.specs.Types.{Spot, Name, Number, Statement, StatementKind, statement, Kind, Object, Map}
-use Rattle.adjoint_rules.specs.Limits.{shape_side_limit}
-use Rattle.word_orders.specs.Limits.{weight_limit}
-use Rattle.statement_names.specs.Faults.{is_kind, value_of, kind_within, name_fault_of}
-use Rattle.statement_names.specs.Occurrences.{names_behind, pairs_behind, kind_occurrences, statement_occurrences}
-use Rattle.statement_names.specs.Numbered.{declarations_of}
+use Rattle.statement_names.proofs.Prelude.{◌≡◌, ℕ, ◌<◌, ◌≤◌, true, nat_eq, nat_le, IsTrue, List, [], ◌∷◌, ◌++◌, map, length, get_or, Option, None, All, refl, sym, subst, arith, append_assoc, IsDistinct, bytes_eq, and_parts, leb-true, Decides-eqb, Any-from_list_any, AllPass-from_list_all, append-nil, IsDistinct-push, map-map, field_moduli, is_field_modulus, Declaration, named_in, is_map, is_object, Spot, Name, Number, Statement, StatementKind, statement, Kind, Object, Map, shape_side_limit, weight_limit, is_kind, value_of, kind_within, name_fault_of, names_behind, pairs_behind, kind_occurrences, statement_occurrences, declarations_of}
 use Rattle.statement_names.proofs.Apart.{Apart-none, bytes_equivalence}
 use Rattle.statement_names.proofs.Clean.{IsGood, AreGood}
 use Rattle.statement_names.proofs.Each.{Each, Each-at, Each-unmap, Each-weaker, Each-item}

@@ -1,17 +1,5 @@
 -- How much the statements of a file declare and begin.
-use Rattle.std.proofs.Common.{◌≡◌, ℕ, ◌+◌, Bool, List, [], ◌∷◌, ◌++◌, length, map, refl, ap, ap₂, sym, ◌∙◌}
-use Rattle.std.specs.List.{flat_map, sum_by}
-use Rattle.std.proofs.lemmas.List.{length-append}
-use Rattle.std.proofs.lemmas.List.Sums.{sum_by-cons, sum_by-append}
-use Rattle.quiver.specs.Declarations.{Declaration, object, arrow, object_count, map_count}
-use Rattle.quiver.proofs.Counts.{object_count-append, map_count-append}
-use Rattle.quiver.proofs.Found.{plus_zero}
-use Rattle.statement_names.specs.Types.{Spot, Name, Statement, StatementKind, statement}
-use Rattle.statement_names.specs.Occurrences.{Occurrence, declares_object, declares_map, kind_occurrences, statement_occurrences, occurrences_of}
-use Rattle.statement_names.specs.Faults.{Counted, Objects, Maps, Assumptions, Claims, Shapes, amount}
-use Rattle.statement_names.specs.Numbered.{objects_in, maps_in, declared_objects, declared_maps}
-use Rattle.statement_names.specs.Shapes.{shapes_in}
-use Rattle.abbreviations.specs.Written.{equations_in, equations_of, assumptions_of, claims_in, claims_of}
+use Rattle.statement_names.proofs.Prelude.{◌≡◌, ℕ, ◌+◌, Bool, List, [], ◌∷◌, ◌++◌, length, map, refl, ap, ap₂, sym, ◌∙◌, flat_map, sum_by, length-append, sum_by-cons, sum_by-append, Declaration, object, arrow, object_count, map_count, object_count-append, map_count-append, plus_zero, Spot, Name, Statement, StatementKind, statement, Occurrence, declares_object, declares_map, kind_occurrences, statement_occurrences, occurrences_of, Counted, Objects, Maps, Assumptions, Claims, Shapes, amount, objects_in, maps_in, declared_objects, declared_maps, shapes_in, equations_in, equations_of, assumptions_of, claims_in, claims_of}
 use Rattle.statement_names.proofs.Quiet.{begun_by, parts_of, amount-quiet}
 
 module _ (c : Counted) where

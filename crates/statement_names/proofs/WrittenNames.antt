@@ -1,22 +1,6 @@
 -- The names in equations stand for maps and objects.
-use Rattle.std.proofs.Common.{◌≡◌, ℕ, ◌<◌, true, false, ◌&&◌, IsTrue, List, [], ◌∷◌, ◌++◌, map, Option, Some, None, refl, ap, ap₂, sym, subst, ◌∙◌}
-use Rattle.std.specs.List.{list_all, flat_map}
-use Rattle.quiver.specs.Declarations.{Declaration, object_count, letter_count, named_in, quiver_of, IsDeclared}
-use Rattle.abbreviations.specs.Names.{is_map, is_object, are_names, are_names_of_terms, are_names_of_term, are_names_of_factors, are_names_of_primary, AreNames}
-use Rattle.abbreviations.proofs.Trees.{are_names_of_factor, names-term, names-sum}
-use Rattle.statement_names.specs.Types.{Spot, Primary, Identity, Bracket, Factor, Adjoint, Term, Term', out-roll-Term, Row_of-Factor, end_of-Factor}
-use Rattle.statement_names.specs.Types.{more_of-Factor, Sum, Sum', out-roll-Sum, Row_of-Term, end_of-Term, more_of-Term, Statement, StatementKind, statement}
-use Rattle.statement_names.specs.Types.{Named, named, Kind, Object, Map}
-use Rattle.statement_syntax.specs.Nodes.{factor_of, term_of}
-use Rattle.definitions.specs.Quiver.{IsQuiver, source, target}
-use Rattle.quiver.proofs.Counts.{letters-quiver_of}
-use Rattle.quiver.proofs.Found.{is_named}
-use Rattle.quiver.proofs.Identities.{is_quiver}
-use Rattle.statement_names.specs.Faults.{is_kind, kind_within, name_fault_of}
-use Rattle.statement_names.specs.Numbered.{declarations_of}
-use Rattle.statement_names.specs.Occurrences.{mark_occurrences, primary_occurrences, factors_occurrences, term_occurrences, terms_occurrences, sum_occurrences, sides_occurrences, kind_occurrences, statement_occurrences}
-use Rattle.statement_names.specs.Ready.{HasNames}
-use Rattle.abbreviations.specs.Written.{letter_at, word_at, adjoint_at, product_at, identity_at, marked_letter, equation, inner_equation, adjoint_equation, identity_equation, projection_equations, end_name, source_name, target_name, equations_in, equations_of, assumptions_of, claims_in, claims_of}
+use Rattle.statement_names.proofs.Prelude.{◌≡◌, ℕ, ◌<◌, true, false, ◌&&◌, IsTrue, List, [], ◌∷◌, ◌++◌, map, Option, Some, None, refl, ap, ap₂, sym, subst, ◌∙◌, list_all, flat_map, Declaration, object_count, letter_count, named_in, quiver_of, IsDeclared, is_map, is_object, are_names, are_names_of_terms, are_names_of_term, are_names_of_factors, are_names_of_primary, AreNames, are_names_of_factor, names-term, names-sum, Spot, Primary, Identity, Bracket, Factor, Adjoint, Term, Term', out-roll-Term, Row_of-Factor, end_of-Factor, more_of-Factor, Sum, Sum', out-roll-Sum, Row_of-Term, end_of-Term, more_of-Term, Statement, StatementKind, statement, Named, named, Kind, Object, Map, factor_of, term_of, IsQuiver, source, target, letters-quiver_of, is_named, is_quiver, is_kind, kind_within, name_fault_of, declarations_of, mark_occurrences, primary_occurrences, factors_occurrences, term_occurrences, terms_occurrences, sum_occurrences, sides_occurrences, kind_occurrences, statement_occurrences, HasNames, word_at, adjoint_at, product_at, identity_at, marked_letter, equation, inner_equation, adjoint_equation, identity_equation, projection_equations, end_name, source_name, target_name, equations_in, equations_of, assumptions_of, claims_in, claims_of}
+use Rattle.abbreviations.specs.Written.{letter_at}
 use Rattle.statement_names.proofs.Clean.{IsGood, AreGood}
 use Rattle.statement_names.proofs.Each.{Each, Each-left, Each-right, Each-weaker, Each-flat_map}
 use Rattle.statement_names.proofs.FileDeclared.{statements_good, file_declared, file_objects_first}

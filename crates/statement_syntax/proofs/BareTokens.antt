@@ -1,14 +1,5 @@
 -- The tokens of statements without their places are among those of the statements.
-use Rattle.std.proofs.Common.{List, [], ◌∷◌, ◌++◌, Option, Some, None, subst}
-use Rattle.std.proofs.lemmas.List.{map-append}
-use Rattle.statement_syntax.specs.Types.{Token, TokenKind as kind, Language, Name, Number}
-use Rattle.statement_syntax.specs.Grammar.{no_sign, lead_plus, lead_minus, Sign, plus, minus, Expr, first, joined, Product, zero_alone, factors, Factors, one}
-use Rattle.statement_syntax.specs.Grammar.{beside, Marked, plain, marked, raised, Prime, name, identity, bracket, sign_token, signed_token, literal_tokens}
-use Rattle.statement_syntax.specs.Grammar.{expr_tokens, product_tokens, factors_tokens, marked_tokens, prime_tokens, Ending, no_word, self_word, ending_tokens}
-use Rattle.statement_syntax.specs.Grammar.{names_tokens, pairs_tokens, Stated, listed, mapped, sides, by_weight, modelled, stated_tokens, StatedLine}
-use Rattle.statement_syntax.specs.Grammar.{line_tokens, file_tokens}
-use Rattle.statement_syntax.specs.Places.{bare_literal, bare_sign, bare, bare_product, bare_factors, bare_marked, bare_prime, bare_ending, bare_names}
-use Rattle.statement_syntax.specs.Places.{bare_pairs, bare_stated}
+use Rattle.statement_syntax.proofs.Prelude.{List, [], ◌∷◌, ◌++◌, Option, Some, None, subst, map-append, Token, kind, Language, Name, Number, no_sign, lead_plus, lead_minus, Sign, plus, minus, Expr, first, joined, Product, zero_alone, factors, Factors, one, beside, Marked, plain, marked, raised, Prime, name, identity, bracket, sign_token, signed_token, literal_tokens, expr_tokens, product_tokens, factors_tokens, marked_tokens, prime_tokens, Ending, no_word, self_word, ending_tokens, names_tokens, pairs_tokens, Stated, listed, mapped, sides, by_weight, modelled, stated_tokens, StatedLine, line_tokens, file_tokens, bare_literal, bare_sign, bare, bare_product, bare_factors, bare_marked, bare_prime, bare_ending, bare_names, bare_pairs, bare_stated}
 use Rattle.statement_syntax.proofs.Moved.{kinds}
 use Rattle.statement_syntax.proofs.Spelled.{IsToken, IsFileToken, AllKinds, AllKinds-append, AllKinds-split}
 

@@ -1,8 +1,5 @@
 -- Carets are tokens of the second language alone, which is determined by the tokens of a file's first line.
-use Rattle.std.proofs.Common.{◌≡◌, ◌&&◌, List, ◌∷◌, ◌++◌, refl}
-use Rattle.std.specs.Prelude.{if◌then◌else◌}
-use Rattle.statement_syntax.specs.Types.{Token, TokenKind, Language, First, Second}
-use Rattle.statement_tokens.specs.Language.{is_language_word, is_two, is_end, language_of}
+use Rattle.statement_syntax.proofs.Prelude.{◌≡◌, ◌&&◌, List, ◌∷◌, ◌++◌, refl, if◌then◌else◌, Token, TokenKind, Language, First, Second, is_language_word, is_two, is_end, language_of}
 use Rattle.statement_syntax.proofs.Moved.{kinds}
 
 -- a caret is a token of the language

@@ -1,19 +1,6 @@
 -- Each text has a tree or a first fault.
-use Rattle.std.proofs.Common.{◌≡◌, ◌⊎◌, inl, inr, ℕ, Bool, true, false, List, [], ◌∷◌, ◌++◌, Result, Ok, Err, refl, sym, ap, ◌∙◌, append_assoc, append-nil, true≢false}
-use Rattle.std.specs.Str.{IsUtf8, is_utf8, chars}
-use Rattle.std.specs.Str.Lossy.{utf8_valid_len}
-use Rattle.std.proofs.lemmas.Str.{IsUtf8-from_is_utf8, is_utf8-from_IsUtf8}
-use Rattle.statement_syntax.specs.Types.{Spot, Token, Statement, Progress, Fault, Fault as fault}
-use Rattle.statement_syntax.specs.Steps.{run}
-use Rattle.statement_syntax.specs.Lines.{file_step}
-use Rattle.statement_tokens.specs.Language.{language_of}
-use Rattle.statement_tokens.specs.Tokens.{AreTokens}
-use Rattle.statement_tokens.specs.Laws.{HasTokensOrFault}
-use Rattle.statement_tokens.proofs.TokenLaws.{each_text_has_tokens_or_fault}
-use Rattle.statement_syntax.specs.Fault.{IsFirstFault, not_utf8, TellsFirstFault, fault_at}
-use Rattle.statement_syntax.specs.Texts.{IsTreeOf}
-use Rattle.statement_syntax.specs.Stages.{begun, left, StoppedAt, AllRead}
-use Rattle.statement_syntax.specs.Laws.{EachTextIsRead}
+use Rattle.statement_syntax.proofs.Prelude.{◌≡◌, ◌⊎◌, inl, inr, ℕ, Bool, true, false, List, [], ◌∷◌, ◌++◌, Result, Ok, Err, refl, sym, ap, ◌∙◌, append_assoc, true≢false, IsUtf8, is_utf8, chars, utf8_valid_len, IsUtf8-from_is_utf8, is_utf8-from_IsUtf8, Spot, Token, Statement, Progress, Fault, fault, run, file_step, language_of, AreTokens, HasTokensOrFault, each_text_has_tokens_or_fault, IsFirstFault, not_utf8, TellsFirstFault, fault_at, IsTreeOf, begun, left, StoppedAt, AllRead, EachTextIsRead}
+use Rattle.std.proofs.Common.{append-nil}
 use Rattle.statement_syntax.proofs.Stopping.{Runs, goes_on, is_found, is_first, told_scanned}
 
 -- all tokens are read, or one is the first that isn't

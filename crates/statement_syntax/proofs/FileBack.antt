@@ -1,22 +1,6 @@
 -- What is written of a tree is in the language, and its tree is the same but for its places.
-use Rattle.std.proofs.Common.{◌≡◌, ℕ, zero, suc, ◌+◌, ◌≤◌, true, List, [], ◌∷◌, ◌++◌, inl, inr, length, Result, Ok, refl, sym, ap, ap₂, subst, ◌∙◌}
-use Rattle.std.proofs.Common.{append_assoc, arith}
-use Rattle.std.specs.Prelude.{pos, codes}
-use Rattle.std.specs.Str.{IsUtf8, chars, encode_utf8_all}
-use Rattle.std.proofs.Math.Utf8.{scalars}
-use Rattle.std.proofs.lemmas.List.{map-append}
-use Rattle.std.proofs.lemmas.Str.{encode_ascii, chars_from_encodes, scalars-chars}
-use Rattle.statement_syntax.specs.Types.{Spot, Token, TokenKind as kind, Language, First, Second, Statement, Placed}
-use Rattle.statement_tokens.specs.Tokens.{end_of}
-use Rattle.statement_tokens.specs.Items.{item_in}
-use Rattle.statement_tokens.proofs.Reading.{◌>>=◌, tokens_from, tokens_of, with_front}
-use Rattle.statement_syntax.specs.Grammar.{Stated, listed, second_language, stated_tokens, StatedLine, NamesLanguage, IsFileOf, file_tokens, FileFits}
-use Rattle.statement_syntax.specs.Tree.{file_tree}
-use Rattle.statement_syntax.specs.Texts.{HasText}
-use Rattle.statement_syntax.specs.Places.{bare_stated, bare_file, ReadsBackAs}
-use Rattle.statement_syntax.specs.Written.{tree_text}
-use Rattle.statement_tokens.proofs.Scanning.{spot}
-use Rattle.statement_tokens.proofs.TokenLaws.{read_are, are_read}
+use Rattle.statement_syntax.proofs.Prelude.{◌≡◌, ℕ, zero, suc, ◌+◌, ◌≤◌, true, List, [], ◌∷◌, ◌++◌, inl, inr, length, Result, Ok, refl, sym, ap, ap₂, subst, ◌∙◌, append_assoc, arith, pos, codes, IsUtf8, chars, encode_utf8_all, scalars, map-append, encode_ascii, chars_from_encodes, scalars-chars, Spot, Token, kind, Language, First, Second, Statement, Placed, end_of, item_in, tokens_from, tokens_of, with_front, Stated, listed, second_language, stated_tokens, StatedLine, NamesLanguage, IsFileOf, file_tokens, FileFits, file_tree, HasText, bare_stated, bare_file, ReadsBackAs, tree_text, spot, read_are, are_read}
+use Rattle.statement_tokens.proofs.Reading.{◌>>=◌}
 use Rattle.statement_syntax.proofs.Moved.{kinds, file_moved}
 use Rattle.statement_syntax.proofs.FirstLine.{file_language}
 use Rattle.statement_syntax.proofs.Carets.{HasCarets, Allows, carets_stay, language_by}

@@ -1,12 +1,5 @@
 -- Lines are read one by one: what was read is written so, can go on, and where a token is a misfit nothing goes on with it.
-use Rattle.std.proofs.Common.{◌≡◌, List, [], ◌∷◌, ◌++◌, inl, inr, Option, Some, None, Result, Ok, Err, refl, sym, ap, subst, ◌∙◌, append_assoc}
-use Rattle.std.proofs.lemmas.List.{append-nil, map-append}
-use Rattle.statement_syntax.specs.Types.{Spot, Token, Language, TokenKind, TokenKind as kind, Name, Number, Statement, Fault, Expected, TooDeep}
-use Rattle.statement_syntax.specs.Types.{MapRest as rest, Line, Line as line, Progress}
-use Rattle.statement_syntax.specs.Steps.{◌>>=◌, run}
-use Rattle.statement_syntax.specs.Grammar.{sign_token, Stated, stated_tokens, StatedLine, AreLinesOf, file_tokens, FileFits}
-use Rattle.statement_syntax.specs.Tree.{stated_tree, file_tree}
-use Rattle.statement_syntax.specs.Lines.{Lined, pairs_by, line_step, file_step}
+use Rattle.statement_syntax.proofs.Prelude.{◌≡◌, List, [], ◌∷◌, ◌++◌, inl, inr, Option, Some, None, Result, Ok, Err, refl, sym, ap, subst, ◌∙◌, append_assoc, append-nil, map-append, Spot, Token, Language, TokenKind, kind, Name, Number, Statement, Fault, Expected, TooDeep, rest, Line, line, Progress, ◌>>=◌, run, sign_token, Stated, stated_tokens, StatedLine, AreLinesOf, file_tokens, FileFits, stated_tree, file_tree, Lined, pairs_by, line_step, file_step}
 use Rattle.statement_syntax.proofs.Run.{IfDeep, if_deep, Upto, then_on, before_it, after_it, run_upto, inside_upto, one_step, failing, run_front, bind_ok, ok_is}
 use Rattle.statement_syntax.proofs.Viable.{somewhere}
 use Rattle.statement_syntax.proofs.LineReads.{LineReads, Grows, line_grows}

@@ -1,14 +1,5 @@
 -- The first line of a file of the second language: its tokens determine the language, and lines of the language follow it.
-use Rattle.std.proofs.Common.{◌≡◌, Bool, true, false, List, [], ◌∷◌, ◌++◌, refl, sym, ap, subst, ◌∙◌, append_assoc}
-use Rattle.std.specs.Prelude.{◌&&◌, if◌then◌else◌, pos, codes}
-use Rattle.std.proofs.lemmas.Slice.Eq.{bytes_eq-Decides}
-use Rattle.std.proofs.lemmas.Bool.Decides.{Decides-int_eq}
-use Rattle.statement_syntax.specs.Types.{Spot, Token, TokenKind, TokenKind as kind, Language, First, Second, StatementKind as statement}
-use Rattle.statement_syntax.specs.Types.{Eliminate, Assume, Pinv}
-use Rattle.statement_tokens.specs.Language.{is_language_word, is_two, is_end, language_of}
-use Rattle.statement_syntax.specs.Grammar.{sign_token, number_token, word_token, two_at, Stated, listed, sides, paired, second_language, stated_tokens, IsOf, NamesLanguage, StatedLine, AreLinesOf, IsFileOf, file_tokens, FileFits}
-use Rattle.statement_syntax.specs.Tree.{file_tree}
-use Rattle.statement_syntax.specs.Stages.{first_statements, behind_first}
+use Rattle.statement_syntax.proofs.Prelude.{◌≡◌, Bool, true, false, List, [], ◌∷◌, ◌++◌, refl, sym, ap, subst, ◌∙◌, append_assoc, ◌&&◌, if◌then◌else◌, pos, codes, bytes_eq-Decides, Decides-int_eq, Spot, Token, TokenKind, kind, Language, First, Second, statement, Eliminate, Assume, Pinv, is_language_word, is_two, is_end, language_of, sign_token, number_token, word_token, two_at, Stated, listed, sides, paired, second_language, stated_tokens, IsOf, NamesLanguage, StatedLine, AreLinesOf, IsFileOf, file_tokens, FileFits, file_tree, first_statements, behind_first}
 
 -- the tokens of a file determine its language
 abbrev chosen : Bool → Language

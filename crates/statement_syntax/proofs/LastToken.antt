@@ -1,11 +1,6 @@
 -- The tokens of a text end with the end of a line.
-use Rattle.std.proofs.Common.{◌≡◌, ℕ, zero, suc, ◌+◌, ◌≤◌, List, [], ◌∷◌, ◌++◌, ◌⊎◌, inl, inr, Result, Ok, Err, refl, ap, subst, arith, append_assoc}
-use Rattle.std.proofs.lemmas.List.{append-nil}
-use Rattle.statement_syntax.specs.Types.{Spot, Token, TokenKind as kind, Item, Item as item, Fault, Placed}
-use Rattle.statement_tokens.specs.Tokens.{end_of, right_of, below}
-use Rattle.statement_tokens.specs.Items.{item_at}
-use Rattle.statement_tokens.proofs.Reading.{◌>>=◌, tokens_from, placed}
-use Rattle.statement_syntax.specs.Grammar.{sign_token}
+use Rattle.statement_syntax.proofs.Prelude.{◌≡◌, ℕ, zero, suc, ◌+◌, ◌≤◌, List, [], ◌∷◌, ◌++◌, ◌⊎◌, inl, inr, Result, Ok, Err, refl, ap, subst, arith, append_assoc, append-nil, Spot, Token, kind, Item, item, Fault, Placed, end_of, right_of, below, item_at, tokens_from, placed, sign_token}
+use Rattle.statement_tokens.proofs.Reading.{◌>>=◌}
 
 -- they end so, or there are none and there is no token before them in their line
 abbrev pub EndsWell : ℕ → List Token → Type 0

@@ -1,13 +1,6 @@
 -- Where a line may end it is a statement's, and each line can go on to one.
-use Rattle.std.proofs.Common.{◌≡◌, false, List, [], ◌∷◌, ◌++◌, Option, Some, None, Result, Ok, Err, refl, sym, ap, ap₂, ◌∙◌, append_assoc, append-nil}
-use Rattle.std.specs.Prelude.{codes, pos}
-use Rattle.statement_syntax.specs.Types.{Spot, Token, Language, TokenKind as kind, Name, Number, Sum, Statement, StatementKind as statement}
-use Rattle.statement_syntax.specs.Types.{Fault, Expected, Reading, SidesWord, MapRest as rest, Line, Line as line}
-use Rattle.statement_syntax.specs.Steps.{◌>>=◌, whole_sum}
-use Rattle.statement_syntax.specs.Grammar.{expr_tokens, sign_token, name_token, number_token, word_token, names_tokens, pairs_tokens, sides_text, no_word}
-use Rattle.statement_syntax.specs.Grammar.{Stated, listed, mapped, sides, paired, projected, by_degree, by_weight, modelled, stated_tokens, StatedFits, IsOf}
-use Rattle.statement_syntax.specs.Tree.{sides_kind, stated_tree}
-use Rattle.statement_syntax.specs.Lines.{pairs_end, weights_by, statement_by, line_end}
+use Rattle.statement_syntax.proofs.Prelude.{◌≡◌, false, List, [], ◌∷◌, ◌++◌, Option, Some, None, Result, Ok, Err, refl, sym, ap, ap₂, ◌∙◌, append_assoc, codes, pos, Spot, Token, Language, kind, Name, Number, Sum, Statement, statement, Fault, Expected, Reading, SidesWord, rest, Line, line, ◌>>=◌, whole_sum, expr_tokens, sign_token, name_token, number_token, word_token, names_tokens, pairs_tokens, sides_text, no_word, Stated, listed, mapped, sides, paired, projected, by_degree, by_weight, modelled, stated_tokens, StatedFits, IsOf, sides_kind, stated_tree, pairs_end, weights_by, statement_by, line_end}
+use Rattle.std.proofs.Common.{append-nil}
 use Rattle.statement_syntax.proofs.Viable.{reading_ends, reading_lacks, viable, somewhere, some_name, some_expr}
 use Rattle.statement_syntax.proofs.LineReads.{MapReads, SecondSide, half_tokens, WholeReads, list_speaks, LineReads, pairs_more}
 

@@ -1,18 +1,6 @@
 -- The tokens that bring a line to what has been read of it; with each step there is one more, and where the line may end they are a statement's.
-use Rattle.std.proofs.Common.{◌≡◌, ℕ, Bool, true, false, cond, List, [], ◌∷◌, ◌++◌, Option, Some, None, Result, Ok, Err, refl, ap, ◌∙◌, append_assoc}
-use Rattle.std.specs.Prelude.{bytes_eq, codes}
-use Rattle.std.proofs.lemmas.List.{append-nil, map-append}
-use Rattle.std.proofs.lemmas.Grind.{flat_map-append}
-use Rattle.std.proofs.lemmas.Slice.Eq.{bytes_eq-Decides}
-use Rattle.statement_syntax.specs.Types.{Spot, Token, Language, First, Second, TokenKind, TokenKind as kind, Name, Number, Sum, Statement, Fault}
-use Rattle.statement_syntax.specs.Types.{Reading, ListWord, Eliminate, SidesWord, Opening, MapRest, MapRest as rest, Pairs, Line, Line as line}
-use Rattle.statement_syntax.specs.Limits.{bracket_limit}
-use Rattle.statement_syntax.specs.Steps.{◌>>=◌, run, token_step, whole_sum}
-use Rattle.statement_syntax.specs.Grammar.{Expr, expr_tokens, ExprFits, sign_token, name_token, number_token, word_token, names_tokens, pairs_tokens, list_text}
-use Rattle.statement_syntax.specs.Grammar.{sides_text, pair_text, self_word, Stated, listed, mapped, sides, paired, projected, by_degree, stated_tokens}
-use Rattle.statement_syntax.specs.Grammar.{StatedFits, IsOf}
-use Rattle.statement_syntax.specs.Tree.{expr_tree, stated_tree}
-use Rattle.statement_syntax.specs.Lines.{Lined, named, common_opening, opening_in, colon_after, start_reading, begun, sides_step, pairs_by, line_step}
+use Rattle.statement_syntax.proofs.Prelude.{◌≡◌, ℕ, Bool, true, false, cond, List, [], ◌∷◌, ◌++◌, Option, Some, None, Result, Ok, Err, refl, ap, ◌∙◌, append_assoc, bytes_eq, codes, append-nil, map-append, flat_map-append, bytes_eq-Decides, Spot, Token, Language, First, Second, TokenKind, kind, Name, Number, Sum, Statement, Fault, Reading, ListWord, Eliminate, SidesWord, Opening, MapRest, rest, Pairs, Line, line, bracket_limit, ◌>>=◌, run, token_step, whole_sum, Expr, expr_tokens, ExprFits, sign_token, name_token, number_token, word_token, names_tokens, pairs_tokens, list_text, sides_text, pair_text, self_word, Stated, listed, mapped, sides, paired, projected, by_degree, stated_tokens, StatedFits, IsOf, expr_tree, stated_tree, Lined, named, common_opening, opening_in, colon_after, start_reading, sides_step, pairs_by, line_step}
+use Rattle.statement_syntax.specs.Lines.{begun}
 use Rattle.statement_syntax.proofs.Run.{run_front, IfDeep, if_deep}
 use Rattle.statement_syntax.proofs.StateReads.{reading_step}
 use Rattle.statement_syntax.proofs.Viable.{ExprReads, reading_ends, reading_lacks, deep, somewhere, some_name, some_expr}

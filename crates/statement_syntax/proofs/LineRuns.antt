@@ -1,17 +1,5 @@
 -- Each statement is read as itself where it is within the limit, and else stops at a bracket that is too deep.
-use Rattle.std.proofs.Common.{◌≡◌, List, [], ◌∷◌, ◌++◌, inl, Some, None, Result, Ok, Err, refl, sym, ap, ◌∙◌, append_assoc}
-use Rattle.std.specs.Prelude.{ℕ, codes}
-use Rattle.std.proofs.lemmas.List.{append-nil}
-use Rattle.statement_syntax.specs.Types.{Spot, Token, Language, First, Second, TokenKind, TokenKind as kind, Name, Number, Sum, Fault, Expected, ListWord}
-use Rattle.statement_syntax.specs.Types.{Eliminate, SidesWord, Assume, Pinv, Reading, Focus, Focus as focus, Opening, Opening as opening, MapRest as rest}
-use Rattle.statement_syntax.specs.Types.{Pairs, Line, Line as line}
-use Rattle.statement_syntax.specs.Limits.{bracket_limit}
-use Rattle.statement_syntax.specs.Steps.{◌>>=◌, run, focus_step, token_step, whole_sum}
-use Rattle.statement_syntax.specs.Grammar.{Expr, expr_tokens, ExprFits, sign_token, name_token, number_token, word_token, names_tokens, pairs_tokens, list_text}
-use Rattle.statement_syntax.specs.Grammar.{sides_text, pair_text, Ending, no_word, self_word, ending_tokens, Stated, listed, mapped, sides, paired, projected}
-use Rattle.statement_syntax.specs.Grammar.{by_degree, by_weight, modelled, second_language, stated_tokens, StatedFits, IsOf}
-use Rattle.statement_syntax.specs.Tree.{expr_tree, stated_tree, sides_kind}
-use Rattle.statement_syntax.specs.Lines.{Lined, opened, start_reading, line_step, line_end, statement_by}
+use Rattle.statement_syntax.proofs.Prelude.{◌≡◌, List, [], ◌∷◌, ◌++◌, inl, Some, None, Result, Ok, Err, refl, sym, ap, ◌∙◌, append_assoc, ℕ, codes, append-nil, Spot, Token, Language, First, Second, TokenKind, kind, Name, Number, Sum, Fault, Expected, ListWord, Eliminate, SidesWord, Assume, Pinv, Reading, Focus, focus, Opening, opening, rest, Pairs, Line, line, bracket_limit, ◌>>=◌, run, focus_step, token_step, whole_sum, Expr, expr_tokens, ExprFits, sign_token, name_token, number_token, word_token, names_tokens, pairs_tokens, list_text, sides_text, pair_text, Ending, no_word, self_word, ending_tokens, Stated, listed, mapped, sides, paired, projected, by_degree, by_weight, modelled, second_language, stated_tokens, StatedFits, IsOf, expr_tree, stated_tree, sides_kind, Lined, opened, start_reading, line_step, line_end, statement_by}
 use Rattle.statement_syntax.proofs.Seen.{reading_of, tree_or}
 use Rattle.statement_syntax.proofs.StateReads.{reading_step}
 use Rattle.statement_syntax.proofs.Run.{Upto, then_on, before_it, run_upto, inside_upto, one_step}

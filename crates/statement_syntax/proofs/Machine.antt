@@ -1,8 +1,5 @@
 -- Reading tokens one by one: what has been read of an expression that isn't at its end.
-use Rattle.std.specs.Prelude.{zero, List, [], ◌∷◌, ◌++◌, Option, Some, None, ℤ, pos}
-use Rattle.statement_syntax.specs.Types.{Spot, Token, TokenKind as kind, Name, Number}
-use Rattle.statement_syntax.specs.Grammar.{Lead, no_sign, Sign, Expr, first, joined, Product, zero_alone, factors, Factors, one, beside, plain, marked, raised}
-use Rattle.statement_syntax.specs.Grammar.{Prime, sign_token, name_token, number_token, lead_tokens, signed_token, literal_tokens, expr_tokens, factors_tokens}
+use Rattle.statement_syntax.proofs.Prelude.{zero, List, [], ◌∷◌, ◌++◌, Option, Some, None, ℤ, pos, Spot, Token, kind, Name, Number, Lead, no_sign, Sign, Expr, first, joined, Product, zero_alone, factors, Factors, one, beside, plain, marked, raised, Prime, sign_token, name_token, number_token, lead_tokens, signed_token, literal_tokens, expr_tokens, factors_tokens}
 
 -- the sum before the term that is read
 pub data Head : Type 0 where

@@ -1,19 +1,5 @@
 -- Tokens of the same kinds as those of statements without their places are the tokens of the same statements at other places.
-use Rattle.std.proofs.Common.{◌≡◌, ℕ, suc, List, [], ◌∷◌, ◌++◌, map, Option, Some, None, refl, sym, ap, ap₂, ◌∙◌, append_assoc}
-use Rattle.std.specs.Prelude.{codes, pos}
-use Rattle.std.proofs.lemmas.List.{append-nil, map-append}
-use Rattle.std.proofs.Math.Path.{transport}
-use Rattle.statement_syntax.specs.Types.{Spot, Token, Language, First, Second, TokenKind, TokenKind as kind, Name, Number, Eliminate}
-use Rattle.statement_syntax.specs.Limits.{bracket_limit}
-use Rattle.statement_syntax.specs.Grammar.{Lead, no_sign, lead_minus, Sign, plus, minus, Expr, first, joined, Product, zero_alone, factors, Factors}
-use Rattle.statement_syntax.specs.Grammar.{one, beside, Marked, plain, marked, raised, Prime, name, identity, bracket, sign_token, name_token, number_token}
-use Rattle.statement_syntax.specs.Grammar.{lead_tokens, signed_token, literal_tokens, expr_tokens, product_tokens, factors_tokens, marked_tokens, prime_tokens}
-use Rattle.statement_syntax.specs.Grammar.{ExprFits, ProductFits, FactorsFit, MarkedFits, PrimeFits, list_text, sides_text, pair_text, Ending, no_word}
-use Rattle.statement_syntax.specs.Grammar.{self_word, ending_tokens, names_tokens, pairs_tokens, Stated, listed, mapped, sides, paired, projected, by_degree}
-use Rattle.statement_syntax.specs.Grammar.{by_weight, modelled, second_language, stated_tokens, StatedFits, IsOf, NamesLanguage, StatedLine, AreLinesOf}
-use Rattle.statement_syntax.specs.Grammar.{IsFileOf, line_tokens, file_tokens, FileFits}
-use Rattle.statement_syntax.specs.Places.{somewhere, bare_name, bare_number, bare_literal, bare_lead, bare_sign, bare, bare_product, bare_factors, bare_marked}
-use Rattle.statement_syntax.specs.Places.{bare_prime, bare_ending, bare_names, bare_pairs, bare_stated, bare_line, bare_file}
+use Rattle.statement_syntax.proofs.Prelude.{◌≡◌, ℕ, suc, List, [], ◌∷◌, ◌++◌, map, Option, Some, None, refl, sym, ap, ap₂, ◌∙◌, append_assoc, codes, pos, append-nil, map-append, transport, Spot, Token, Language, First, Second, TokenKind, kind, Name, Number, Eliminate, bracket_limit, Lead, no_sign, lead_minus, Sign, plus, minus, Expr, first, joined, Product, zero_alone, factors, Factors, one, beside, Marked, plain, marked, raised, Prime, name, identity, bracket, sign_token, name_token, number_token, lead_tokens, signed_token, literal_tokens, expr_tokens, product_tokens, factors_tokens, marked_tokens, prime_tokens, ExprFits, ProductFits, FactorsFit, MarkedFits, PrimeFits, list_text, sides_text, pair_text, Ending, no_word, self_word, ending_tokens, names_tokens, pairs_tokens, Stated, listed, mapped, sides, paired, projected, by_degree, by_weight, modelled, second_language, stated_tokens, StatedFits, IsOf, NamesLanguage, StatedLine, AreLinesOf, IsFileOf, line_tokens, file_tokens, FileFits, somewhere, bare_name, bare_number, bare_literal, bare_lead, bare_sign, bare, bare_product, bare_factors, bare_marked, bare_prime, bare_ending, bare_names, bare_pairs, bare_stated, bare_line, bare_file}
 
 abbrev pub kinds : List Token → List TokenKind
 kinds ts = map (λ t. t.kind) ts

@@ -1,29 +1,9 @@
 -- A written text is read as tokens of the kinds that it was written from.
-use Rattle.std.proofs.Common.{◌≡◌, ℕ, ◌+◌, ◌≤◌, ◌||◌, ◌&&◌, Bool, true, false, cond, List, [], ◌∷◌, ◌++◌, inl, inr, length, get_or, drop, Result, Ok, Err, refl}
-use Rattle.std.proofs.Common.{sym, ap, ap₂, subst, ◌∙◌, append_assoc, arith}
-use Rattle.std.specs.Prelude.{ℤ, decimal, nat_lt}
-use Rattle.std.specs.Fmt.{signed_decimal}
-use Rattle.std.specs.Str.{encode_utf8_all}
-use Rattle.std.proofs.Math.Utf8.{scalar, scalars}
-use Rattle.std.proofs.lemmas.Bool.{le-leb, lt-ltb, ltb-true}
-use Rattle.std.proofs.lemmas.List.{append-nil}
-use Rattle.std.proofs.lemmas.Str.{encodes-append, encode_ascii}
-use Rattle.statement_syntax.specs.Types.{Token, TokenKind, TokenKind as kind, Item as item, BadToken, Placed, Language}
-use Rattle.statement_tokens.specs.Language.{language_of}
-use Rattle.statement_tokens.specs.Pieces.{is_digit}
-use Rattle.statement_tokens.specs.Tokens.{value_from}
-use Rattle.statement_tokens.specs.Items.{item_at, item_in, name_of}
-use Rattle.statement_tokens.proofs.Reading.{◌>>=◌, tokens_from, with_front}
-use Rattle.statement_tokens.specs.Limits.{name_limit}
-use Rattle.statement_syntax.specs.Written.{opens, closes, kind_text, gap, text_from}
-use Rattle.statement_tokens.proofs.Scanning.{spot}
+use Rattle.statement_syntax.proofs.Prelude.{◌≡◌, ℕ, ◌+◌, ◌≤◌, ◌||◌, ◌&&◌, Bool, true, false, cond, List, [], ◌∷◌, ◌++◌, inl, inr, length, get_or, drop, Result, Ok, Err, refl, sym, ap, ap₂, subst, ◌∙◌, append_assoc, arith, ℤ, decimal, nat_lt, signed_decimal, encode_utf8_all, scalar, scalars, le-leb, lt-ltb, ltb-true, append-nil, encodes-append, encode_ascii, Token, TokenKind, kind, item, BadToken, Placed, Language, language_of, is_digit, value_from, item_at, item_in, name_of, tokens_from, with_front, name_limit, opens, closes, kind_text, gap, text_from, spot, and_first, and_second, EachIs, EndsBefore, Ender, one_token, name_back, stops_name, stops_digits, colon_back, equals_back, plus_back, minus_back, arrow_back, open_back, close_back, open_square_back, close_square_back, quote_back, caret_back, Digits, decimal_digits, plain_digit, literal_back}
+use Rattle.statement_tokens.proofs.Reading.{◌>>=◌}
 use Rattle.statement_syntax.proofs.Moved.{kinds}
 use Rattle.statement_syntax.proofs.Carets.{Allows, carets_stay, carets_second}
-use Rattle.statement_tokens.proofs.EachCharacter.{and_first, and_second, EachIs}
 use Rattle.statement_syntax.proofs.Spelled.{SpellsName, SpellsNumber, IsToken, AllKinds}
-use Rattle.statement_tokens.proofs.Rescan.{EndsBefore, Ender, one_token, name_back, stops_name, stops_digits, colon_back, equals_back, plus_back}
-use Rattle.statement_tokens.proofs.Rescan.{minus_back, arrow_back, open_back, close_back, open_square_back, close_square_back, quote_back, caret_back}
-use Rattle.statement_tokens.proofs.Literals.{Digits, decimal_digits, plain_digit, literal_back}
 
 -- the characters of a token
 pub digits_of : (v : ℤ) → (t : SpellsNumber v) → Digits t.size (decimal t.size)

@@ -1,7 +1,5 @@
 -- Items read one after another, whatever a step does.
-use Rattle.std.proofs.Common.{◌≡◌, List, [], ◌∷◌, ◌++◌, ◌⊎◌, inl, inr, Result, Ok, Err, refl, sym, ap, ◌∙◌}
-use Rattle.statement_syntax.specs.Types.{Token, Fault, Expected, TooDeep}
-use Rattle.statement_syntax.specs.Steps.{◌>>=◌, run}
+use Rattle.statement_syntax.proofs.Prelude.{◌≡◌, List, [], ◌∷◌, ◌++◌, ◌⊎◌, inl, inr, Result, Ok, Err, refl, sym, ap, ◌∙◌, Token, Fault, Expected, TooDeep, ◌>>=◌, run}
 
 pub bind_ok : {A B : Type 0} (r : Result A Fault) (f : A → Result B Fault) (y : B) → (r >>= f) ≡ Ok y → (x : A) × (r ≡ Ok x) × (f x ≡ Ok y)
 bind_ok (Ok x) f y e = (x, refl, e)

@@ -1,16 +1,7 @@
 -- Each expression is read: after its tokens the state is the one that it ends in.
-use Rattle.std.proofs.Common.{◌≡◌, ℕ, zero, suc, ◌+◌, List, [], ◌∷◌, ◌++◌, length, inl, inr, Option, Some, None, Result, Ok, refl, ap}
-use Rattle.std.proofs.Common.{append_assoc, arith}
-use Rattle.std.proofs.lemmas.Bool.{lt-ltb, le-ltb}
-use Rattle.statement_syntax.specs.Types.{Spot, Token, TokenKind as kind, Number, Reading, Fault}
-use Rattle.statement_syntax.specs.Limits.{bracket_limit}
+use Rattle.statement_syntax.proofs.Prelude.{◌≡◌, ℕ, zero, suc, ◌+◌, List, [], ◌∷◌, ◌++◌, length, inl, inr, Option, Some, None, Result, Ok, refl, ap, append_assoc, arith, lt-ltb, le-ltb, Spot, Token, kind, Number, Reading, Fault, bracket_limit, ◌>>=◌, run, no_sign, Sign, plus, Expr, first, joined, Product, zero_alone, factors, Factors, one, beside, Marked, plain, marked, raised, Prime, name, identity, bracket, sign_token, number_token, signed_token, zero_at, expr_tokens, product_tokens, factors_tokens, marked_tokens, prime_tokens, ExprFits, ProductFits, FactorsFit, MarkedFits, PrimeFits}
 use Rattle.statement_syntax.specs.Steps as steps
-use Rattle.statement_syntax.specs.Steps.{◌>>=◌, run}
 use Rattle.statement_syntax.proofs.Run.{Upto, then_on, before_it, after_it, one_step}
-use Rattle.statement_syntax.specs.Grammar.{no_sign, Sign, plus, Expr, first, joined, Product, zero_alone, factors, Factors, one, beside, Marked, plain}
-use Rattle.statement_syntax.specs.Grammar.{marked, raised, Prime, name, identity, bracket, sign_token, number_token, signed_token}
-use Rattle.statement_syntax.specs.Grammar.{zero_at, expr_tokens, product_tokens, factors_tokens, marked_tokens, prime_tokens, ExprFits}
-use Rattle.statement_syntax.specs.Grammar.{ProductFits, FactorsFit, MarkedFits, PrimeFits}
 use Rattle.statement_syntax.proofs.Machine.{Head, led, after, Part, nothing, scaled, product, Level, State, at_outside, fresh, add, whole_term, with_term}
 use Rattle.statement_syntax.proofs.Machine.{whole}
 use Rattle.statement_syntax.proofs.Seen.{head_of, levels_of, reading_of}

@@ -1,11 +1,6 @@
 -- What the program's steps make of a state, seen without the places of signs.
-use Rattle.std.proofs.Common.{◌≡◌, zero, Bool, false, List, [], ◌∷◌, ◌++◌, Option, Some, None, Result, Ok, Err, refl, ap, ap₂, ◌∙◌}
-use Rattle.std.specs.Prelude.{ℤ, pos}
-use Rattle.statement_syntax.specs.Types.{Spot, Adjoint, Power, Bracket, Number, Term, out-Term, out-roll-Term, Part as part, Fault, Expected}
-use Rattle.statement_syntax.specs.Grammar.{no_sign, Sign, Product, zero_alone, factors, Factors, one, beside, Prime, bracket}
+use Rattle.statement_syntax.proofs.Prelude.{◌≡◌, zero, Bool, false, List, [], ◌∷◌, ◌++◌, Option, Some, None, Result, Ok, Err, refl, ap, ap₂, ◌∙◌, ℤ, pos, Spot, Adjoint, Power, Bracket, Number, Term, out-Term, out-roll-Term, part, Fault, Expected, no_sign, Sign, Product, zero_alone, factors, Factors, one, beside, Prime, bracket, ◌>>=◌, prime_at, prime_tree, product_at, product_tree, expr_at, expr_terms, expr_tree, is_minus, last_tree}
 use Rattle.statement_syntax.specs.Steps as steps
-use Rattle.statement_syntax.specs.Steps.{◌>>=◌}
-use Rattle.statement_syntax.specs.Tree.{prime_at, prime_tree, product_at, product_tree, expr_at, expr_terms, expr_tree, is_minus, last_tree}
 use Rattle.statement_syntax.proofs.Machine.{Head, led, after, Part, nothing, scaled, product, Focus, outside, Level, State, at_outside, add, with_mark}
 use Rattle.statement_syntax.proofs.Machine.{with_power, lone_literal, whole_term, with_term, end_by, whole}
 use Rattle.statement_syntax.proofs.Seen.{head_of, product_of, part_of, focus_of, levels_of, reading_of, tree_or}

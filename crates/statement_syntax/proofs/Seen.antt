@@ -1,8 +1,5 @@
 -- What the program keeps of a state, which is all but the places of signs.
-use Rattle.std.specs.Prelude.{true, false, List, [], ◌∷◌, Option, Some, None, Result, Ok, Err}
-use Rattle.statement_syntax.specs.Types.{Number, Sum, Fault, OpenProduct, Part, Part as part, Head, Level, Reading, Focus, Focus as focus}
-use Rattle.statement_syntax.specs.Grammar.{no_sign, lead_plus, lead_minus, Expr, Factors}
-use Rattle.statement_syntax.specs.Tree.{expr_at, expr_terms, expr_tree, is_minus, literal_or, factors_at, front_trees, last_tree}
+use Rattle.statement_syntax.proofs.Prelude.{true, false, List, [], ◌∷◌, Option, Some, None, Result, Ok, Err, Number, Sum, Fault, OpenProduct, Part, part, Head, Level, Reading, Focus, focus, no_sign, lead_plus, lead_minus, Expr, Factors, expr_at, expr_terms, expr_tree, is_minus, literal_or, factors_at, front_trees, last_tree}
 use Rattle.statement_syntax.proofs.Machine as machine
 
 abbrev pub head_of : machine.Head → Head

@@ -1,20 +1,5 @@
 -- What is read as a name or a literal is spelled as one.
-use Rattle.std.proofs.Common.{◌≡◌, ℕ, zero, suc, ◌+◌, ◌≤◌, ◌<◌, ◌^◌, ◌==◌, ◌&&◌, ◌||◌, Bool, true, false, cond, List, [], ◌∷◌, ◌++◌, length, take, Result, Ok}
-use Rattle.std.proofs.Common.{Err, refl, ap, subst, ◌∙◌, append_assoc}
-use Rattle.std.specs.Prelude.{ℤ, pos, nat_le, nat_lt}
-use Rattle.std.specs.List.{prefix_len, take_while}
-use Rattle.std.specs.Str.{encode_utf8_all}
-use Rattle.std.proofs.Math.Utf8.{scalars}
-use Rattle.std.proofs.lemmas.Bool.{leb-true, ltb-true}
-use Rattle.unicode_ident.specs.Ident.{is_xid_continue}
-use Rattle.statement_syntax.specs.Types.{Spot, Token, TokenKind, TokenKind as kind, Item, Item as item, Fault, Placed, Language, First, Second}
-use Rattle.statement_tokens.specs.Language.{language_of}
-use Rattle.statement_tokens.specs.Pieces.{starts_name, is_digit}
-use Rattle.statement_tokens.specs.Tokens.{end_of, right_of, below}
-use Rattle.statement_tokens.specs.Items.{item_at, item_in, sign_in, caret_in, begins_with, name_of, literal_of}
-use Rattle.statement_tokens.proofs.Reading.{tokens_from, placed}
-use Rattle.statement_tokens.specs.Limits.{name_limit}
-use Rattle.statement_tokens.proofs.EachCharacter.{EachIs, EachIs-take_while, and_first, and_second}
+use Rattle.statement_syntax.proofs.Prelude.{◌≡◌, ℕ, zero, suc, ◌+◌, ◌≤◌, ◌<◌, ◌^◌, ◌==◌, ◌&&◌, ◌||◌, Bool, true, false, cond, List, [], ◌∷◌, ◌++◌, length, take, Result, Ok, Err, refl, ap, subst, ◌∙◌, append_assoc, ℤ, pos, nat_le, nat_lt, prefix_len, take_while, encode_utf8_all, scalars, leb-true, ltb-true, is_xid_continue, Spot, Token, TokenKind, kind, Item, item, Fault, Placed, Language, First, Second, language_of, starts_name, is_digit, end_of, right_of, below, item_at, item_in, sign_in, caret_in, begins_with, name_of, literal_of, tokens_from, placed, name_limit, EachIs, EachIs-take_while, and_first, and_second}
 use Rattle.statement_syntax.proofs.LastToken.{scan_ok, tokens_is}
 use Rattle.statement_syntax.proofs.Moved.{kinds}
 use Rattle.statement_syntax.proofs.Carets.{HasCarets, carets_stay}

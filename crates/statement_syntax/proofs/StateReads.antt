@@ -1,16 +1,6 @@
 -- What a state has read is what it was given, token by token.
-use Rattle.std.proofs.Common.{◌≡◌, zero, suc, Bool, true, false, cond, List, [], ◌∷◌, ◌++◌, length, Option, Some, None, Result, Ok, Err, refl, sym, ap, subst}
-use Rattle.std.proofs.Common.{◌∙◌, append_assoc}
-use Rattle.std.specs.Prelude.{ℤ, pos, negsuc, nat_lt}
-use Rattle.std.proofs.lemmas.List.{append-nil}
-use Rattle.statement_syntax.specs.Types.{Spot, Token, TokenKind, TokenKind as kind, Name, Number, Reading, Fault, TooDeep}
-use Rattle.statement_syntax.specs.Limits.{bracket_limit}
+use Rattle.statement_syntax.proofs.Prelude.{◌≡◌, zero, suc, Bool, true, false, cond, List, [], ◌∷◌, ◌++◌, length, Option, Some, None, Result, Ok, Err, refl, sym, ap, subst, ◌∙◌, append_assoc, ℤ, pos, negsuc, nat_lt, append-nil, Spot, Token, TokenKind, kind, Name, Number, Reading, Fault, TooDeep, bracket_limit, ◌>>=◌, run, no_sign, lead_plus, lead_minus, Sign, plus, minus, Product, zero_alone, factors, Factors, one, beside, Prime, name, identity, bracket, sign_token, name_token, number_token, signed_token, expr_tokens, product_tokens, factors_tokens, prime_tokens, is_minus}
 use Rattle.statement_syntax.specs.Steps as steps
-use Rattle.statement_syntax.specs.Steps.{◌>>=◌, run}
-use Rattle.statement_syntax.specs.Grammar.{no_sign, lead_plus, lead_minus, Sign, plus, minus, Product, zero_alone, factors, Factors, one, beside, Prime, name}
-use Rattle.statement_syntax.specs.Grammar.{identity, bracket, sign_token, name_token, number_token, signed_token, expr_tokens, product_tokens, factors_tokens}
-use Rattle.statement_syntax.specs.Grammar.{prime_tokens}
-use Rattle.statement_syntax.specs.Tree.{is_minus}
 use Rattle.statement_syntax.proofs.Run.{bind_ok, IfDeep}
 use Rattle.statement_syntax.proofs.Machine.{Head, led, after, Part, nothing, scaled, product, Focus, outside, square, named, behind_caret, Level, State}
 use Rattle.statement_syntax.proofs.Machine.{at_outside, fresh, add, with_mark, with_power, lone_literal, whole_term, with_term, head_tokens, part_tokens}

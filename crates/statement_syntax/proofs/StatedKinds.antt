@@ -1,21 +1,5 @@
 -- The tokens that are written of a tree are those of its statements without their places.
-use Rattle.std.proofs.Common.{◌≡◌, Bool, true, false, List, [], ◌∷◌, ◌++◌, Option, Some, None, refl, ap, ◌∙◌, append_assoc}
-use Rattle.std.specs.List.{flat_map}
-use Rattle.std.proofs.lemmas.List.{append-nil, map-append}
-use Rattle.std.proofs.lemmas.Grind.{flat_map-append}
-use Rattle.statement_syntax.specs.Types.{Spot, Token, TokenKind, TokenKind as kind, Name, Number, Mark, Adjoint, Power, Factor, Term, out-roll-Term}
-use Rattle.statement_syntax.specs.Types.{out-roll-Sum, Object, Assume, Pinv}
-use Rattle.statement_syntax.specs.Nodes.{term_of, sum_of}
-use Rattle.statement_syntax.specs.Grammar.{Lead, no_sign, lead_plus, lead_minus, Sign, plus, minus, Expr, first, joined, Product, zero_alone, factors, Factors}
-use Rattle.statement_syntax.specs.Grammar.{one, beside, Marked, plain, marked, raised, Prime, name, identity, bracket, zero_at, lead_tokens, signed_token}
-use Rattle.statement_syntax.specs.Grammar.{literal_tokens, expr_tokens, product_tokens, factors_tokens, marked_tokens, prime_tokens, Ending, no_word, self_word}
-use Rattle.statement_syntax.specs.Grammar.{ending_tokens, names_tokens, pairs_tokens, Stated, listed, mapped, sides, paired, by_weight, modelled, stated_tokens}
-use Rattle.statement_syntax.specs.Tree.{prime_tree, marked_tree, front_trees, last_tree, product_tree, expr_terms, expr_tree, expr_at, is_minus, is_negative}
-use Rattle.statement_syntax.specs.Tree.{literal_or, factors_at, is_self, stated_kind}
-use Rattle.statement_syntax.specs.Places.{bare_literal, bare_lead, bare_sign, bare, bare_product, bare_factors, bare_marked, bare_prime, bare_ending}
-use Rattle.statement_syntax.specs.Places.{bare_names, bare_pairs, bare_stated}
-use Rattle.statement_syntax.specs.Written.{name_kinds, literal_kinds, sign_kinds, mark_kinds, primary_kinds, factor_kinds, term_kinds, sum_kinds, pair_kinds}
-use Rattle.statement_syntax.specs.Written.{self_kinds, statement_kinds}
+use Rattle.statement_syntax.proofs.Prelude.{◌≡◌, Bool, true, false, List, [], ◌∷◌, ◌++◌, Option, Some, None, refl, ap, ◌∙◌, append_assoc, flat_map, append-nil, map-append, flat_map-append, Spot, Token, TokenKind, kind, Name, Number, Mark, Adjoint, Power, Factor, Term, out-roll-Term, out-roll-Sum, Object, Assume, Pinv, term_of, sum_of, Lead, no_sign, lead_plus, lead_minus, Sign, plus, minus, Expr, first, joined, Product, zero_alone, factors, Factors, one, beside, Marked, plain, marked, raised, Prime, name, identity, bracket, zero_at, lead_tokens, signed_token, literal_tokens, expr_tokens, product_tokens, factors_tokens, marked_tokens, prime_tokens, Ending, no_word, self_word, ending_tokens, names_tokens, pairs_tokens, Stated, listed, mapped, sides, paired, by_weight, modelled, stated_tokens, prime_tree, marked_tree, front_trees, last_tree, product_tree, expr_terms, expr_tree, expr_at, is_minus, is_negative, literal_or, factors_at, is_self, stated_kind, bare_literal, bare_lead, bare_sign, bare, bare_product, bare_factors, bare_marked, bare_prime, bare_ending, bare_names, bare_pairs, bare_stated, name_kinds, literal_kinds, sign_kinds, mark_kinds, primary_kinds, factor_kinds, term_kinds, sum_kinds, pair_kinds, self_kinds, statement_kinds}
 use Rattle.statement_syntax.proofs.TreeKinds.{terms_of, term-flat, sum-flat}
 use Rattle.statement_syntax.proofs.Moved.{kinds}
 

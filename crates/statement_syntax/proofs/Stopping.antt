@@ -1,20 +1,5 @@
 -- The loop over the tokens of a file, and what its end says of the bytes.
-use Rattle.std.proofs.Common.{◌≡◌, ℕ, List, [], ◌∷◌, ◌++◌, inl, inr, Ok, Err, refl, sym, ap, subst, ◌∙◌, append_assoc}
-use Rattle.std.proofs.lemmas.List.{append-nil, map-append}
-use Rattle.std.specs.Str.{IsUtf8, chars}
-use Rattle.statement_syntax.specs.Types.{Spot, Token, Language, TokenKind as kind, Statement, Expected, TooDeep, Line as line, Progress, Fault}
-use Rattle.statement_syntax.specs.Types.{Fault as fault, SyntaxFault, SyntaxFault as refusal, Stop, stop}
-use Rattle.lists.specs.Stop.{Explains}
-use Rattle.statement_syntax.specs.Steps.{run}
-use Rattle.statement_tokens.specs.Language.{language_of}
-use Rattle.statement_tokens.specs.Tokens.{AreTokens, IsFirstScanFault}
-use Rattle.statement_syntax.specs.Grammar.{sign_token, StatedLine, IsFileOf, file_tokens, FileFits}
-use Rattle.statement_syntax.specs.Tree.{stated_tree, file_tree}
-use Rattle.statement_syntax.specs.Lines.{line_end, ended, file_step}
-use Rattle.statement_syntax.specs.Fault.{GoesOn, GoesOnWithin, IsMisfit, IsFirstFault, no_token, not_utf8, expected, too_deep, TellsFirstFault, IsWantOfMemory, fault_at}
-use Rattle.statement_syntax.specs.Texts.{IsStatements, IsTreeOf}
-use Rattle.statement_syntax.specs.Stages.{first_statements, begun, left, StoppedAt, AllRead, Refused, IsRefusal}
-use Rattle.statement_tokens.proofs.TokenLaws.{read_are, tokens_are_unique, tokens_have_no_fault}
+use Rattle.statement_syntax.proofs.Prelude.{◌≡◌, ℕ, List, [], ◌∷◌, ◌++◌, inl, inr, Ok, Err, refl, sym, ap, subst, ◌∙◌, append_assoc, append-nil, map-append, IsUtf8, chars, Spot, Token, Language, kind, Statement, Expected, TooDeep, line, Progress, Fault, fault, SyntaxFault, refusal, Stop, stop, Explains, run, language_of, AreTokens, IsFirstScanFault, sign_token, StatedLine, IsFileOf, file_tokens, FileFits, stated_tree, file_tree, line_end, ended, file_step, GoesOn, GoesOnWithin, IsMisfit, IsFirstFault, no_token, not_utf8, expected, too_deep, TellsFirstFault, IsWantOfMemory, fault_at, IsStatements, IsTreeOf, first_statements, begun, left, StoppedAt, AllRead, Refused, IsRefusal, read_are, tokens_are_unique, tokens_have_no_fault}
 use Rattle.statement_syntax.proofs.Run.{IfDeep, if_deep, bind_ok, ok_is, run-append, run_front, one_step, upto_ok}
 use Rattle.statement_syntax.proofs.LastToken.{EndsWell, ends_from, rest_ends}
 use Rattle.statement_syntax.proofs.LineReads.{LineReads}

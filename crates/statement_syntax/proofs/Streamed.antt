@@ -1,22 +1,6 @@
 -- Tokens that come one after another, and what has been read of a file that begins with them.
-use Rattle.std.proofs.Common.{◌≡◌, ◌<◌, ℕ, List, [], ◌∷◌, ◌++◌, ◌⊎◌, inl, inr, length, Some, None, Result, Ok, Err, MatchResult, refl, sym, ap, ap₂, subst, ◌∙◌, append_assoc, append-nil, length-append, ◌+◌, arith}
-use Rattle.statement_syntax.specs.Types.{Token, Language, First, Second, Placed, Stop, stop, Scanner, Statement, Line as line, Progress}
-use Rattle.statement_syntax.specs.Types.{SyntaxFault, SyntaxFault as refusal}
-use Rattle.statement_tokens.specs.Language.{language_of}
-use Rattle.statement_tokens.specs.Tokens.{AreTokens}
-use Rattle.statement_tokens.specs.Scanned.{Tells, Leaves, HasWhole, Hands, with_front}
-use Rattle.statement_tokens.proofs.Reading.{unread}
-use Rattle.statement_tokens.proofs.Pieces.{front_none}
-use Rattle.statement_tokens.proofs.TokenLaws.{fronts, leaves, leaves_unread, unread_is, handed}
-use Rattle.statement_syntax.specs.Steps.{run}
-use Rattle.statement_syntax.specs.Lines.{file_step}
-use Rattle.statement_syntax.specs.Fault.{TellsFirstFault, IsWantOfMemory, TellsScan}
-use Rattle.statement_syntax.specs.Texts.{IsStatements, IsTreeOf}
-use Rattle.std.specs.Result.{IsErrAnd, IfErr}
-use Rattle.std.specs.Str.{IsUtf8, chars}
-use Rattle.statement_syntax.specs.Grammar.{StatedLine}
-use Rattle.statement_syntax.specs.Tree.{file_tree}
-use Rattle.statement_syntax.specs.Stages.{first_statements, behind_first, begun, left, Refused, IsReadSoFar, Goes, IsFault, IsFront, LeavesFault, TextRead}
+use Rattle.statement_syntax.proofs.Prelude.{◌≡◌, ◌<◌, ℕ, List, [], ◌∷◌, ◌++◌, ◌⊎◌, inl, inr, length, Some, None, Result, Ok, Err, MatchResult, refl, sym, ap, ap₂, subst, ◌∙◌, append_assoc, length-append, ◌+◌, arith, Token, Language, First, Second, Placed, Stop, stop, Scanner, Statement, line, Progress, SyntaxFault, refusal, language_of, AreTokens, Tells, Leaves, HasWhole, Hands, with_front, unread, front_none, fronts, leaves, leaves_unread, unread_is, handed, run, file_step, TellsFirstFault, IsWantOfMemory, TellsScan, IsStatements, IsTreeOf, IsErrAnd, IfErr, IsUtf8, chars, StatedLine, file_tree, first_statements, behind_first, begun, left, Refused, IsReadSoFar, Goes, IsFault, IsFront, LeavesFault, TextRead}
+use Rattle.std.proofs.Common.{append-nil}
 use Rattle.statement_syntax.proofs.Stopping.{goes_on, stops_at, is_found, is_only, is_first, told_scanned}
 
 -- the tokens are three or more, and determine the language

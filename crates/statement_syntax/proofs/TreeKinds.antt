@@ -1,10 +1,5 @@
 -- The tokens of a tree, by lists in place of rows.
-use Rattle.std.proofs.Common.{◌≡◌, Bool, true, false, List, [], ◌++◌, ◌∷◌, refl, sym, ap, ◌∙◌}
-use Rattle.std.specs.List.{flat_map}
-use Rattle.statement_syntax.specs.Types.{TokenKind, Term, out-Term, Sum, out-Sum}
-use Rattle.statement_syntax.specs.declared.tree.Term.{Term', outs-Term', Row_of-Factor, end_of-Factor, more_of-Factor, items-the_row-Factor, items_shown-the_row-Factor-1}
-use Rattle.statement_syntax.specs.declared.tree.Sum.{Sum', outs-Sum', Row_of-Term, end_of-Term, more_of-Term, items-the_row-Term, items_shown-the_row-Term-0}
-use Rattle.statement_syntax.specs.Written.{literal_kinds, sign_kinds, mark_kinds, primary_kinds, factor_kinds, factors_kinds, term_kinds, terms_kinds, sum_kinds}
+use Rattle.statement_syntax.proofs.Prelude.{◌≡◌, Bool, true, false, List, [], ◌++◌, ◌∷◌, refl, sym, ap, ◌∙◌, flat_map, TokenKind, Term, out-Term, Sum, out-Sum, Term', outs-Term', Row_of-Factor, end_of-Factor, more_of-Factor, items-the_row-Factor, items_shown-the_row-Factor-1, Sum', outs-Sum', Row_of-Term, end_of-Term, more_of-Term, items-the_row-Term, items_shown-the_row-Term-0, literal_kinds, sign_kinds, mark_kinds, primary_kinds, factor_kinds, factors_kinds, term_kinds, terms_kinds, sum_kinds}
 
 -- the tokens of terms, of which the first is the sum's first or not
 abbrev pub terms_of : Bool → List Term → List TokenKind

@@ -1,14 +1,6 @@
 -- The tokens that a state has read are a prefix of an expression; with the token of a fault they aren't.
-use Rattle.std.proofs.Common.{◌≡◌, List, [], ◌∷◌, ◌++◌, Option, Some, None, Ok, Err, refl, sym, ap, ◌∙◌, append_assoc, arith}
-use Rattle.std.specs.Prelude.{pos}
-use Rattle.std.proofs.lemmas.List.{append-nil}
-use Rattle.statement_syntax.specs.Types.{Token, TokenKind as kind, Number, Name, Sum, Reading, Fault, Expected}
-use Rattle.statement_syntax.specs.Limits.{bracket_limit}
+use Rattle.statement_syntax.proofs.Prelude.{◌≡◌, List, [], ◌∷◌, ◌++◌, Option, Some, None, Ok, Err, refl, sym, ap, ◌∙◌, append_assoc, arith, pos, append-nil, Token, kind, Number, Name, Sum, Reading, Fault, Expected, bracket_limit, run, whole_sum, no_sign, Expr, first, Product, factors, one, beside, plain, Prime, name, identity, bracket, sign_token, name_token, number_token, expr_tokens, ExprFits, expr_tree, prime_tree, prime_at}
 use Rattle.statement_syntax.specs.Steps as steps
-use Rattle.statement_syntax.specs.Steps.{run, whole_sum}
-use Rattle.statement_syntax.specs.Grammar.{no_sign, Expr, first, Product, factors, one, beside, plain, Prime, name, identity, bracket, sign_token, name_token}
-use Rattle.statement_syntax.specs.Grammar.{number_token, expr_tokens, ExprFits}
-use Rattle.statement_syntax.specs.Tree.{expr_tree, prime_tree, prime_at}
 pub use Rattle.statement_syntax.specs.Places.{somewhere}
 use Rattle.statement_syntax.proofs.Machine.{Head, Part, nothing, scaled, product, Focus, outside, square, named, behind_caret, Level, State, at_outside, fresh}
 use Rattle.statement_syntax.proofs.Machine.{add, with_power, whole_term, with_term, whole, end_by, state_tokens}

@@ -1,7 +1,5 @@
 -- Characters that all pass a test.
-use Rattle.std.proofs.Common.{◌≡◌, ℕ, suc, ◌+◌, ◌≤◌, ◌==◌, ◌&&◌, Bool, true, false, cond, List, [], ◌∷◌, ◌++◌, length, take, refl, sym, ap, ◌∙◌, arith}
-use Rattle.std.specs.List.{prefix_len, take_while, list_all}
-use Rattle.std.proofs.lemmas.Bool.{and_parts, both_ways, ne_eqb}
+use Rattle.statement_tokens.proofs.Prelude.{◌≡◌, ℕ, suc, ◌+◌, ◌≤◌, ◌==◌, ◌&&◌, Bool, true, false, cond, List, [], ◌∷◌, ◌++◌, length, take, refl, sym, ap, ◌∙◌, arith, prefix_len, take_while, list_all, and_parts, both_ways, ne_eqb}
 
 -- each character passes
 abbrev pub EachIs : (ℕ → Bool) → List ℕ → Type 0

@@ -1,10 +1,5 @@
 -- Rows of texts with their tokens or their first faults.
-use Rattle.std.proofs.Common.{[], ◌∷◌, Err, refl, arith}
-use Rattle.std.specs.Prelude.{pos, codes}
-use Rattle.unicode_ident.proofs.IdentLemmas.{is_xid_start-ascii}
-use Rattle.statement_tokens.specs.Types.{TokenKind as kind, BadToken}
-use Rattle.statement_tokens.specs.Tokens.{AreTokens, IsFirstScanFault}
-use Rattle.statement_tokens.specs.Items.{item_in}
+use Rattle.statement_tokens.proofs.Prelude.{[], ◌∷◌, Err, refl, arith, pos, codes, is_xid_start-ascii, kind, BadToken, AreTokens, IsFirstScanFault, item_in}
 use Rattle.statement_tokens.proofs.Reading.{tokens_from}
 use Rattle.statement_tokens.proofs.Scanning.{spot}
 use Rattle.statement_tokens.proofs.TokenLaws.{are_read, tells}

@@ -1,16 +1,5 @@
 -- The result of the reader of a name, and how long items are.
-use Rattle.std.proofs.Common.{◌≡◌, ℕ, ◌≤◌, List, ◌∷◌, length, Result, Ok, Err, take, refl, sym, ap, ap₂, subst, ◌∙◌}
-use Rattle.std.specs.Result.{IfOk}
-use Rattle.std.specs.List.{prefix_len, take_while}
-use Rattle.std.specs.Str.{encode_utf8_all}
-use Rattle.unicode_ident.specs.Ident.{is_xid_continue}
-use Rattle.std.proofs.lemmas.Bool.{le-leb}
-use Rattle.std.proofs.lemmas.Result.{IfOk-from_err, IfOk-at_ok}
-use Rattle.std.proofs.lemmas.List.Sums.{prefix_len-le-length}
-use Rattle.statement_tokens.specs.Limits.{name_limit}
-use Rattle.statement_tokens.specs.Types.{TokenKind as kind, Item, Item as item, Fault, Stop}
-use Rattle.lists.specs.Stop.{Gives}
-use Rattle.statement_tokens.specs.Items.{name_of, more_of}
+use Rattle.statement_tokens.proofs.Prelude.{◌≡◌, ℕ, ◌≤◌, List, ◌∷◌, length, Result, Ok, Err, take, refl, sym, ap, ap₂, subst, ◌∙◌, IfOk, prefix_len, take_while, encode_utf8_all, is_xid_continue, le-leb, IfOk-from_err, IfOk-at_ok, prefix_len-le-length, name_limit, kind, Item, item, Fault, Stop, Gives, name_of, more_of}
 
 pub name_read : (first : ℕ) (rest text : List ℕ) (more : ℕ) → more ≡ prefix_len is_xid_continue rest → text ≡ encode_utf8_all (first ∷ take more rest)
     → length text ≤ name_limit

@@ -1,15 +1,5 @@
 -- A written literal is read as its value.
-use Rattle.std.proofs.Common.{◌≡◌, ℕ, ◌+◌, ◌-◌, ◌*◌, ◌%◌, ◌<◌, ◌≤◌, ◌^◌, Bool, true, false, List, [], ◌∷◌, ◌++◌, length, Ok, refl, ap, ◌∙◌, arith}
-use Rattle.std.specs.Prelude.{nat_le, pos, decimal}
-use Rattle.std.specs.List.{prefix_len}
-use Rattle.std.proofs.lemmas.Fmt.{decimal_by_steps_wide}
-use Rattle.std.proofs.lemmas.Bool.{and_parts, le-leb, leb-true, lt-leb, lt-ltb}
-use Rattle.std.proofs.lemmas.List.{take_at}
-use Rattle.unicode_ident.proofs.IdentLemmas.{is_xid_start-ascii}
-use Rattle.statement_tokens.specs.Types.{Token, TokenKind as kind, Item as item}
-use Rattle.statement_tokens.specs.Pieces.{is_digit, starts_name}
-use Rattle.statement_tokens.specs.Tokens.{value_from}
-use Rattle.statement_tokens.specs.Items.{item_at, item_in, literal_of}
+use Rattle.statement_tokens.proofs.Prelude.{◌≡◌, ℕ, ◌+◌, ◌-◌, ◌*◌, ◌%◌, ◌<◌, ◌≤◌, ◌^◌, Bool, true, false, List, [], ◌∷◌, ◌++◌, length, Ok, refl, ap, ◌∙◌, arith, nat_le, pos, decimal, prefix_len, decimal_by_steps_wide, and_parts, le-leb, leb-true, lt-leb, lt-ltb, take_at, is_xid_start-ascii, Token, kind, item, is_digit, starts_name, value_from, item_at, item_in, literal_of}
 use Rattle.statement_tokens.proofs.EachCharacter.{EachIs, differs}
 use Rattle.statement_tokens.proofs.Rescan.{StopsAt, prefix_is}
 

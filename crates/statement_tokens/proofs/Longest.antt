@@ -1,18 +1,5 @@
 -- What a text begins with: a longest piece, or none.
-use Rattle.std.proofs.Common.{◌≡◌, ℕ, ◌+◌, ◌≤◌, ◌==◌, ◌&&◌, ◌||◌, Bool, true, false, not, List, [], ◌∷◌, ◌++◌}
-use Rattle.std.proofs.Common.{length, get_or, drop, suc, refl, sym, ap, ap₂, subst, ◌∙◌, arith, ◌⊎◌, inl, inr}
-use Rattle.std.specs.Prelude.{if◌then◌else◌, nat_lt}
-use Rattle.std.specs.Char.{is_ascii_alphabetic}
-use Rattle.std.specs.List.{prefix_len, take_while, list_all, list_any}
-use Rattle.std.proofs.lemmas.List.{take-append-drop}
-use Rattle.std.proofs.lemmas.List.Folds.{length-prefix_len}
-use Rattle.std.proofs.lemmas.Bool.{eqb-true, ltb-true, not-true, both_ways, and_parts, or_parts, or_cases}
-use Rattle.unicode_ident.specs.Ident.{is_xid_continue}
-use Rattle.unicode_ident.proofs.IdentLemmas.{is_xid_start-ascii}
-use Rattle.statement_tokens.specs.Types.{TokenKind, TokenKind as kind}
-use Rattle.statement_tokens.specs.Pieces.{Piece, line_feed, return_and_line_feed, blank, tab, comment, name, literal, sign, piece_text, is_piece, IsLongest}
-use Rattle.statement_tokens.specs.Pieces.{BeginsNone, starts_name, is_digit, is_inside_line}
-use Rattle.statement_tokens.specs.Items.{begins_with}
+use Rattle.statement_tokens.proofs.Prelude.{◌≡◌, ℕ, ◌+◌, ◌≤◌, ◌==◌, ◌&&◌, ◌||◌, Bool, true, false, not, List, [], ◌∷◌, ◌++◌, length, get_or, drop, suc, refl, sym, ap, ap₂, subst, ◌∙◌, arith, ◌⊎◌, inl, inr, if◌then◌else◌, nat_lt, is_ascii_alphabetic, prefix_len, take_while, list_all, list_any, take-append-drop, length-prefix_len, eqb-true, ltb-true, not-true, both_ways, and_parts, or_parts, or_cases, is_xid_continue, is_xid_start-ascii, TokenKind, kind, Piece, line_feed, return_and_line_feed, blank, tab, comment, name, literal, sign, piece_text, is_piece, IsLongest, BeginsNone, starts_name, is_digit, is_inside_line, begins_with}
 use Rattle.statement_tokens.proofs.EachCharacter.{EachIs-take_while, all_are, front_passes, differs}
 use Rattle.statement_tokens.proofs.Rescan.{no_start}
 use Rattle.statement_tokens.proofs.Literals.{plain_digit}

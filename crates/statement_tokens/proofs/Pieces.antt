@@ -1,21 +1,5 @@
 -- The scanner reads a text piece by piece.
-use Rattle.std.proofs.Common.{◌≡◌, ℕ, ◌+◌, Bool, true, false, List, [], ◌∷◌, ◌++◌}
-use Rattle.std.proofs.Common.{length, drop, Option, Some, None, Result, Ok, Err, refl, sym, ap, ◌∙◌, append-nil, length-append, arith}
-use Rattle.std.specs.Prelude.{if◌then◌else◌, pos}
-use Rattle.std.specs.List.{prefix_len, take_while, list_all}
-use Rattle.std.specs.Str.{encode_utf8_all}
-use Rattle.std.proofs.lemmas.Grind.{common_steps}
-use Rattle.std.proofs.lemmas.List.{drop_at, take-append-drop}
-use Rattle.std.proofs.lemmas.List.Folds.{length-prefix_len}
-use Rattle.std.proofs.lemmas.Bool.{and_parts, false_from_ne_true}
-use Rattle.unicode_ident.specs.Ident.{is_xid_continue}
-use Rattle.statement_tokens.specs.Types.{Spot, Token, TokenKind, TokenKind as kind, Language, First, Second, Item as item, Fault, BadToken}
-use Rattle.statement_tokens.specs.Types.{LiteralTooLarge, Placed}
-use Rattle.statement_tokens.specs.Language.{language_of}
-use Rattle.statement_tokens.specs.Pieces.{Piece, line_feed, return_and_line_feed, blank, tab, comment, name, literal, sign, piece_text, is_piece, IsLongest}
-use Rattle.statement_tokens.specs.Pieces.{BeginsNone, starts_name, is_digit, is_inside_line}
-use Rattle.statement_tokens.specs.Tokens.{behind, tokens_with, past_behind, sign_fault, fault_of, value_from, right_of}
-use Rattle.statement_tokens.specs.Items.{item_at, item_in, caret_in, begins_with}
+use Rattle.statement_tokens.proofs.Prelude.{◌≡◌, ℕ, ◌+◌, Bool, true, false, List, [], ◌∷◌, ◌++◌, length, drop, Option, Some, None, Result, Ok, Err, refl, sym, ap, ◌∙◌, append-nil, length-append, arith, if◌then◌else◌, pos, prefix_len, take_while, list_all, encode_utf8_all, common_steps, drop_at, take-append-drop, length-prefix_len, and_parts, false_from_ne_true, is_xid_continue, Spot, Token, TokenKind, kind, Language, First, Second, item, Fault, BadToken, LiteralTooLarge, Placed, language_of, Piece, line_feed, return_and_line_feed, blank, tab, comment, name, literal, sign, piece_text, is_piece, IsLongest, BeginsNone, starts_name, is_digit, is_inside_line, behind, tokens_with, past_behind, sign_fault, fault_of, value_from, right_of, item_at, item_in, caret_in, begins_with}
 use Rattle.statement_tokens.proofs.Reading.{tokens_from, with_front}
 use Rattle.statement_tokens.proofs.Scanning.{turn_fault, turn_gap, turn_token}
 use Rattle.statement_tokens.proofs.EachCharacter.{EachIs-take_while, all_are, front_passes}

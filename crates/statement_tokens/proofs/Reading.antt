@@ -1,9 +1,6 @@
 -- The scanner's function: it goes over the characters once, and reads an item after another.
-use Rattle.std.specs.Prelude.{◌≡◌, ℕ, zero, suc, ◌+◌, List, [], ◌∷◌, ◌++◌, Option, Some, None, Result, Ok, Err}
-use Rattle.statement_tokens.specs.Tokens.{right_of, below, end_of}
-use Rattle.statement_tokens.specs.Items.{item_at}
+use Rattle.statement_tokens.proofs.Prelude.{◌≡◌, ℕ, zero, suc, ◌+◌, List, [], ◌∷◌, ◌++◌, Option, Some, None, Result, Ok, Err, right_of, below, end_of, item_at, Spot, Token, Item, item, Fault, Placed, Stop, stop, Scanner}
 pub use Rattle.statement_tokens.specs.Scanned.{◌>>=◌, with_front}
-use Rattle.statement_tokens.specs.Types.{Spot, Token, Item, Item as item, Fault, Placed, Stop, stop, Scanner}
 
 abbrev pub placed : List Token → Result Item Fault → Spot → ℕ → (List Token → ℕ → Spot → ℕ → Result (List Token) Placed) → Result (List Token) Placed
 placed before (Err e) at past next = Err (record { fault = e; at = at })

@@ -1,16 +1,5 @@
 -- A token's text is read as that token, where what follows it begins no longer one.
-use Rattle.std.proofs.Common.{◌≡◌, ℕ, ◌+◌, ◌<◌, ◌==◌, ◌||◌, eqb, get_or, Bool, true, false, List}
-use Rattle.std.proofs.Common.{cond, [], ◌∷◌, ◌++◌, length, Ok, refl, sym, ap, ◌∙◌, length-append, arith, ◌⊎◌, inl, inr}
-use Rattle.std.specs.List.{prefix_len}
-use Rattle.std.specs.Str.{encode_utf8_all}
-use Rattle.std.proofs.lemmas.List.{drop_at, take_at}
-use Rattle.std.specs.Char.{is_ascii_alphabetic, is_ascii_alphanumeric}
-use Rattle.unicode_ident.specs.Ident.{is_xid_continue}
-use Rattle.unicode_ident.proofs.IdentLemmas.{is_xid_start-ascii, is_xid_continue-ascii}
-use Rattle.statement_tokens.specs.Types.{Token, TokenKind, TokenKind as kind, Item as item, Second}
-use Rattle.statement_tokens.specs.Language.{language_of}
-use Rattle.statement_tokens.specs.Pieces.{starts_name, is_digit, sign_text}
-use Rattle.statement_tokens.specs.Items.{item_at, item_in, begins_with, name_of, caret_in}
+use Rattle.statement_tokens.proofs.Prelude.{◌≡◌, ℕ, ◌+◌, ◌<◌, ◌==◌, ◌||◌, eqb, get_or, Bool, true, false, List, cond, [], ◌∷◌, ◌++◌, length, Ok, refl, sym, ap, ◌∙◌, length-append, arith, ◌⊎◌, inl, inr, prefix_len, encode_utf8_all, drop_at, take_at, is_ascii_alphabetic, is_ascii_alphanumeric, is_xid_continue, is_xid_start-ascii, is_xid_continue-ascii, Token, TokenKind, kind, item, Second, language_of, starts_name, is_digit, sign_text, item_at, item_in, begins_with, name_of, caret_in}
 use Rattle.statement_tokens.proofs.Reading.{◌>>=◌, tokens_from, with_front}
 use Rattle.statement_tokens.proofs.Scanning.{spot, turn_token}
 use Rattle.statement_tokens.proofs.EachCharacter.{EachIs, differs}

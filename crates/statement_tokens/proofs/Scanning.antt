@@ -1,12 +1,5 @@
 -- A turn of the scanner reads one item of what is left.
-use Rattle.std.proofs.Common.{◌≡◌, ℕ, zero, suc, ◌+◌, ◌*◌, ◌-◌, ◌<◌, ◌≤◌, List, [], ◌∷◌, ◌++◌, length, length-drop, drop, take, get_or, Option, Some, None, Result, Ok, Err, refl, sym, ap, ap₂, ◌∙◌, arith}
-use Rattle.std.specs.Prelude.{MatchOption}
-use Rattle.std.proofs.lemmas.List.{drop_more, take_rest}
-use Rattle.statement_tokens.specs.Types.{Spot, Token, TokenKind, Item, Item as item, Fault, Language, Scanner}
-use Rattle.statement_tokens.specs.Tokens.{right_of, below, end_of}
-use Rattle.statement_tokens.specs.Items.{item_at, item_in}
-use Rattle.statement_tokens.specs.Language.{language_of}
-use Rattle.statement_tokens.specs.Scanned.{Lessens, one_if_some, most_tokens, with_front}
+use Rattle.statement_tokens.proofs.Prelude.{◌≡◌, ℕ, zero, suc, ◌+◌, ◌*◌, ◌-◌, ◌<◌, ◌≤◌, List, [], ◌∷◌, ◌++◌, length, length-drop, drop, take, get_or, Option, Some, None, Result, Ok, Err, refl, sym, ap, ap₂, ◌∙◌, arith, MatchOption, drop_more, take_rest, Spot, Token, TokenKind, Item, item, Fault, Language, Scanner, right_of, below, end_of, item_at, item_in, language_of, Lessens, one_if_some, most_tokens, with_front}
 use Rattle.statement_tokens.proofs.Reading.{tokens_from, placed, unread, HandsRead}
 
 abbrev pub spot : ℕ → ℕ → Spot

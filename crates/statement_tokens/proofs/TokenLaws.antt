@@ -1,16 +1,5 @@
 -- Each text has one list of tokens or one first fault, and the scanner reads them.
-use Rattle.std.proofs.Common.{◌≡◌, ℕ, ◌≤◌, ◌&&◌, true, false, zero, suc, List, [], ◌∷◌, ◌++◌, length, Option}
-use Rattle.std.proofs.Common.{Some, None, Result, Ok, Err, refl, sym, ap, subst, ◌∙◌, append_assoc, append-nil, length-append, arith, inl, inr}
-use Rattle.std.proofs.lemmas.Bool.{and_right}
-use Rattle.statement_tokens.specs.Types.{Spot, Token, TokenKind as kind, Fault, BadToken, Placed, Scanner}
-use Rattle.statement_tokens.specs.Types.{Stop, stop}
-use Rattle.statement_tokens.specs.Language.{is_language_word, is_two, language_of}
-use Rattle.statement_tokens.specs.Pieces.{Piece, line_feed, name, literal}
-use Rattle.statement_tokens.specs.Pieces.{sign, sign_text, piece_text, pieces_text, is_some, is_piece, IsLongest, BeginsNone}
-use Rattle.statement_tokens.specs.Tokens.{behind, place_behind, tokens_with, past_behind, tokens_at, sign_fault, fault_of, AreGood, AreTokens}
-use Rattle.statement_tokens.specs.Tokens.{Begins, end_of}
-use Rattle.statement_tokens.specs.Laws.{HasTokensOrFault, EachTextHasTokensOrFault, TokensAreUnique, FirstScanFaultsAreUnique, TokensHaveNoFault}
-use Rattle.statement_tokens.specs.Scanned.{TellsBehind, Tells, Leaves, Hands, with_front}
+use Rattle.statement_tokens.proofs.Prelude.{◌≡◌, ℕ, ◌≤◌, ◌&&◌, true, false, zero, suc, List, [], ◌∷◌, ◌++◌, length, Option, Some, None, Result, Ok, Err, refl, sym, ap, subst, ◌∙◌, append_assoc, append-nil, length-append, arith, inl, inr, and_right, Spot, Token, kind, Fault, BadToken, Placed, Scanner, Stop, stop, is_language_word, is_two, language_of, Piece, line_feed, name, literal, sign, sign_text, piece_text, pieces_text, is_some, is_piece, IsLongest, BeginsNone, behind, place_behind, tokens_with, past_behind, tokens_at, sign_fault, fault_of, AreGood, AreTokens, Begins, end_of, HasTokensOrFault, EachTextHasTokensOrFault, TokensAreUnique, FirstScanFaultsAreUnique, TokensHaveNoFault, TellsBehind, Tells, Leaves, Hands, with_front}
 use Rattle.statement_tokens.proofs.Reading.{tokens_from, tokens_of, unread, HandsRead}
 use Rattle.statement_tokens.proofs.Longest.{Longest, begins_with_longest}
 use Rattle.statement_tokens.proofs.Pieces.{Read, front_none, outcome, reads_piece, stops_none}

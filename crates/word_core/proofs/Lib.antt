@@ -1,3 +1,4 @@
+mod Prelude
 pub mod CanonicalLaws
 pub mod MeasuredLaws
 pub mod Order

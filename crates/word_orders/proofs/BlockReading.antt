@@ -1,15 +1,5 @@
 -- What a block says of the letters, when one more letter is read.
-use Rattle.std.proofs.Common.{◌≡◌, ◌≢◌, ◌⊎◌, inl, inr, ◌<◌, ◌≤◌, ◌||◌, ℕ, zero, suc, Bool, true, false, List, [], ◌∷◌, ◌++◌, Some, None, length, get_or, set, replicate, nat_eq, nat_lt, nat_le, refl, sym, ap, ◌∙◌, arith, if◌then◌else◌}
-use Rattle.std.proofs.lemmas.Bool.Decides.{nat_tests, eqb_tells, leb_tells}
-use Rattle.std.proofs.lemmas.Grind.{get_or-set_at}
-use Rattle.std.proofs.lemmas.List.{get_or-set_other, length-set, length-replicate}
-use Rattle.std.proofs.lemmas.List.Folds.{list_any-append}
-use Rattle.word_core.specs.declared.letter.Letter.{Letter}
-use Rattle.word_orders.specs.declared.fault.OrderFault.{OrderFault}
-use Rattle.word_orders.specs.declared.fault.OrderFault.TheVariants.{RepeatedLetter, NoSuchLetter}
-use Rattle.word_orders.specs.Faults.{letter_fault, block_fault, HasNoFault, Explains}
-use Rattle.word_orders.specs.Lists.{is_listed}
-use Rattle.word_orders.specs.Tables.{is_in, fault_in_block}
+use Rattle.word_orders.proofs.Prelude.{◌≡◌, ◌≢◌, ◌⊎◌, inl, inr, ◌<◌, ◌≤◌, ◌||◌, ℕ, zero, suc, Bool, true, false, List, [], ◌∷◌, ◌++◌, Some, None, length, get_or, set, replicate, nat_eq, nat_lt, nat_le, refl, sym, ap, ◌∙◌, arith, if◌then◌else◌, nat_tests, eqb_tells, leb_tells, get_or-set_at, get_or-set_other, length-set, length-replicate, list_any-append, Letter, OrderFault, RepeatedLetter, NoSuchLetter, letter_fault, block_fault, HasNoFault, Explains, is_listed, is_in, fault_in_block}
 use Rattle.word_orders.proofs.FirstFault.{HasNoFault-nil, HasNoFault-more, Explains-first}
 
 -- a table with nothing in it

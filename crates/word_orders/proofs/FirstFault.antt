@@ -1,10 +1,5 @@
 -- The first fault of a list that is read from the front.
-use Rattle.std.proofs.Common.{◌≡◌, ◌⊎◌, inl, inr, List, [], ◌∷◌, ◌++◌, Option, None, ℕ, suc, ◌<◌, length, take, drop, get_or, refl, sym, ap, ap₂, ◌∙◌, arith}
-use Rattle.std.proofs.Math.Seq.{drop-cons}
-use Rattle.std.proofs.lemmas.List.{length-append, take-append-drop}
-use Rattle.word_orders.specs.declared.fault.OrderFault.{OrderFault}
-use Rattle.word_orders.specs.declared.fault.OrderFault.TheVariants.{BadWeight, RepeatedLetter, NoSuchLetter, Memory}
-use Rattle.word_orders.specs.Faults.{HasNoFault, IsFirstFault, Explains}
+use Rattle.word_orders.proofs.Prelude.{◌≡◌, ◌⊎◌, inl, inr, List, [], ◌∷◌, ◌++◌, Option, None, ℕ, suc, ◌<◌, length, take, drop, get_or, refl, sym, ap, ap₂, ◌∙◌, arith, drop-cons, length-append, take-append-drop, OrderFault, BadWeight, RepeatedLetter, NoSuchLetter, Memory, HasNoFault, IsFirstFault, Explains}
 
 module _ {A : Type 0} where
   not_empty : (before : List A) (item : A) (after : List A) → [] ≡ before ++ (item ∷ after) → ⊥

@@ -1,3 +1,4 @@
+mod Prelude
 pub mod AskedOrders
 pub mod BlockReading
 pub mod FirstFault

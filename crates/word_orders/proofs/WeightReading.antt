@@ -1,18 +1,7 @@
 -- What a list of weights says of the letters, when one more entry is read.
-use Rattle.std.proofs.Common.{◌≡◌, ◌≢◌, ◌⊎◌, inl, inr, ◌<◌, ℕ, Bool, true, false, List, [], ◌∷◌, ◌++◌, Option, Some, None, length, map, is_some, get_or, set, replicate, nat_eq, ◌||◌, refl, sym, ap, ◌∙◌, if◌then◌else◌}
-use Rattle.std.proofs.lemmas.Bool.Decides.{eqb_tells}
-use Rattle.std.proofs.lemmas.List.{get_or-set_other, length-set, length-replicate}
-use Rattle.std.proofs.lemmas.Grind.{get_or-set_at}
-use Rattle.std.proofs.lemmas.List.Folds.{find-append}
-use Rattle.std.specs.Option.{option_or, option_map}
-use Rattle.std.specs.List.{find}
-use Rattle.word_core.specs.declared.letter.Letter.{Letter}
-use Rattle.word_orders.specs.declared.fault.OrderFault.{OrderFault}
-use Rattle.word_orders.specs.Faults.{letter_fault, weight_fault, entry_fault, HasNoFault, Explains}
-use Rattle.word_orders.specs.Tables.{fault_in}
+use Rattle.word_orders.proofs.Prelude.{◌≡◌, ◌≢◌, ◌⊎◌, inl, inr, ◌<◌, ℕ, Bool, true, false, List, [], ◌∷◌, ◌++◌, Option, Some, None, length, map, is_some, get_or, set, replicate, nat_eq, ◌||◌, refl, sym, ap, ◌∙◌, if◌then◌else◌, eqb_tells, get_or-set_other, length-set, length-replicate, get_or-set_at, find-append, option_or, option_map, find, Letter, OrderFault, letter_fault, weight_fault, entry_fault, HasNoFault, Explains, fault_in, is_listed, listed_weight}
 use Rattle.word_orders.proofs.BlockReading.{get_or-replicate_default, letter_fault-none}
 use Rattle.word_orders.proofs.FirstFault.{HasNoFault-nil, HasNoFault-more, Explains-first}
-use Rattle.word_orders.specs.Lists.{is_listed, listed_weight}
 
 -- a letter is listed exactly where it is given a weight
 some_behind : (first : Bool) (entry : Letter × ℕ) (found : Option (Letter × ℕ)) (rest : Bool) → is_some (option_map (λ e. e.1) found) ≡ rest

@@ -1,6 +1,4 @@
-use Rattle.std.proofs.Common.{◌≡◌, arith, rules, pos, to_z}
-use Rattle.std.specs.Int.RustNames.{unsigned_abs}
-use Rattle.std.proofs.lemmas.Int.{ints}
+use Rattle.coef_int.proofs.Prelude.{◌≡◌, arith, rules, pos, to_z, unsigned_abs, ints}
 use mir.Syntax.{w128}
 use Rattle.coef_int.proofs.gcd.Goals as goal
 

@@ -1,5 +1,4 @@
-use Rattle.std.proofs.Common.{arith}
-use Rattle.std.proofs.lemmas.Nat.Gcd.{IsGcd-from_mod, IsGcd-from_zero}
+use Rattle.coef_int.proofs.Prelude.{arith, IsGcd-from_mod, IsGcd-from_zero}
 use Rattle.coef_int.proofs.gcd_of.Goals as goal
 
 pub loop-right-preserved : goal.loop-right-preserved

@@ -1,5 +1,4 @@
-use Rattle.std.proofs.Common.{ℕ, ◌<◌, ◌^◌}
-use Rattle.std.specs.Int.{IsGcd}
+use Rattle.coef_int.proofs.Prelude.{ℕ, ◌<◌, ◌^◌, IsGcd}
 use Rattle.coef_int.proofs.gcd_of.Given as goal
 
 abbrev pub invariant-loop-right : goal.invariant-loop-right

@@ -1,5 +1,4 @@
-use Rattle.std.proofs.Common.{arith}
-use Rattle.std.proofs.lemmas.Grind.{common_steps}
+use Rattle.abbreviations.proofs.Prelude.{arith, common_steps}
 use Rattle.abbreviations.proofs.Trees.{mark-sum, mark-term}
 use Rattle.abbreviations.proofs.occurrence.+marks.Goals as goal
 

@@ -1,6 +1,4 @@
-use Rattle.std.proofs.Common.{◌≡◌, drop}
-use Rattle.std.specs.List.{list_any}
-use Rattle.abbreviations.specs.Occurrences.{has_quote_in_term}
+use Rattle.abbreviations.proofs.Prelude.{◌≡◌, drop, list_any, has_quote_in_term}
 use Rattle.abbreviations.proofs.Trees.{has_quote_in_factor}
 use Rattle.abbreviations.proofs.occurrence.+marks.Given as goal
 

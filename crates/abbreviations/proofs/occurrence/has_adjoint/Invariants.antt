@@ -1,6 +1,4 @@
-use Rattle.std.proofs.Common.{◌≡◌, drop}
-use Rattle.std.specs.List.{list_any}
-use Rattle.abbreviations.specs.Occurrences.{is_adjoint}
+use Rattle.abbreviations.proofs.Prelude.{◌≡◌, drop, list_any, is_adjoint}
 use Rattle.abbreviations.proofs.occurrence.has_adjoint.Given as goal
 
 abbrev pub invariant-loop-mark : goal.invariant-loop-mark

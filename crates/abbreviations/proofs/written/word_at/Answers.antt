@@ -1,7 +1,4 @@
-use Rattle.std.proofs.Common.{◌≡◌, ◌∙◌, map, IfOk, sym, ap, subst}
-use Rattle.std.proofs.lemmas.List.{take_all}
-use Rattle.std.proofs.lemmas.Simd.{map-map}
-use Rattle.abbreviations.specs.Written.{letter_at, product_at}
+use Rattle.abbreviations.proofs.Prelude.{◌≡◌, ◌∙◌, map, IfOk, sym, ap, subst, take_all, map-map, letter_at, product_at}
 use Rattle.abbreviations.proofs.written.word_at.Goals as goal
 
 pub returns : goal.returns

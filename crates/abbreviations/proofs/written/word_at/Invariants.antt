@@ -1,5 +1,4 @@
-use Rattle.std.proofs.Common.{◌≡◌, map, take}
-use Rattle.abbreviations.specs.Written.{letter_at}
+use Rattle.abbreviations.proofs.Prelude.{◌≡◌, map, take, letter_at}
 use Rattle.abbreviations.proofs.written.word_at.Given as goal
 
 abbrev pub invariant-loop-name : goal.invariant-loop-name

@@ -1,6 +1,4 @@
-use Rattle.std.proofs.Common.{◌≡◌, ◌≤◌, length, drop}
-use Rattle.definitions.specs.Generators.{adjoint_word}
-use Rattle.quiver.specs.Declarations.{quiver_of}
+use Rattle.adjoint_rules.proofs.Prelude.{◌≡◌, ◌≤◌, length, drop, adjoint_word, quiver_of}
 use Rattle.adjoint_rules.proofs.adjoint.adjoint_word.Given as goal
 
 abbrev pub invariant-loop-place : goal.invariant-loop-place

@@ -1,6 +1,4 @@
-use Rattle.std.proofs.Common.{rules, ◌≡◌, sym, subst}
-use Rattle.nc_polynomial.specs.Terms.{negated}
-use Rattle.nc_polynomial.specs.Shape.{IsCanonical}
+use Rattle.adjoint_rules.proofs.Prelude.{rules, ◌≡◌, sym, subst, negated, IsCanonical}
 use Rattle.adjoint_rules.proofs.NewAdjoints.{canonical-negated}
 use Rattle.adjoint_rules.proofs.adjoint.negative_of.Goals as goal
 

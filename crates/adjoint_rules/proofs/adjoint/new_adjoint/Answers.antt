@@ -1,4 +1,4 @@
-use Rattle.std.proofs.Common.{rules}
+use Rattle.adjoint_rules.proofs.Prelude.{rules}
 use Rattle.adjoint_rules.proofs.NewAdjoints.{new_adjoint-plus, new_adjoint-minus, new_adjoint-one}
 use Rattle.adjoint_rules.proofs.adjoint.new_adjoint.Goals as goal
 

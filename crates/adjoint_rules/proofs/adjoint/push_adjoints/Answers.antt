@@ -1,12 +1,4 @@
-use Rattle.std.proofs.Common.{rules, ◌≡◌, ◌++◌, sym, ap, subst, ◌∙◌, take, ◌+◌, option_to_list}
-use Rattle.std.specs.List.{AllZip, flat_map}
-use Rattle.std.proofs.lemmas.List.{append-nil, map-append}
-use Rattle.definitions.specs.Poly.{SamePolynomial}
-use Rattle.definitions.specs.Generators.{new_adjoint}
-use Rattle.nc_polynomial.specs.declared.poly.Poly.{Poly}
-use Rattle.quiver.specs.Declarations.{quiver_of}
-use Rattle.adjoint_rules.specs.Problem.{polynomials}
-use Rattle.lists.proofs.Zips.{AllZip-append}
+use Rattle.adjoint_rules.proofs.Prelude.{rules, ◌≡◌, ◌++◌, sym, ap, subst, ◌∙◌, take, ◌+◌, option_to_list, AllZip, flat_map, append-nil, map-append, SamePolynomial, new_adjoint, Poly, quiver_of, polynomials, AllZip-append}
 use Rattle.adjoint_rules.proofs.Ranges.{flat_map-take_more}
 use Rattle.adjoint_rules.proofs.adjoint.push_adjoints.Goals.{in-Some+in_ok-push, in_default}
 use Rattle.adjoint_rules.proofs.adjoint.push_adjoints.Goals as goal

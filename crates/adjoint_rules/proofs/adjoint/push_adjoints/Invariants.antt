@@ -1,9 +1,4 @@
-use Rattle.std.proofs.Common.{◌++◌, ℕ, ℤ, List, take}
-use Rattle.std.specs.List.{AllZip, flat_map}
-use Rattle.definitions.specs.Poly.{SamePolynomial}
-use Rattle.definitions.specs.Generators.{new_adjoint}
-use Rattle.quiver.specs.Declarations.{quiver_of}
-use Rattle.adjoint_rules.specs.Problem.{polynomials}
+use Rattle.adjoint_rules.proofs.Prelude.{◌++◌, ℕ, ℤ, List, take, AllZip, flat_map, SamePolynomial, new_adjoint, quiver_of, polynomials}
 use Rattle.adjoint_rules.proofs.adjoint.push_adjoints.Given as goal
 
 abbrev pub invariant-loop-assumption : goal.invariant-loop-assumption

@@ -1,8 +1,4 @@
-use Rattle.std.proofs.Common.{rules, ◌≡◌, length, sym, ap, subst, ◌∙◌, arith, take}
-use Rattle.std.proofs.lemmas.List.{length-map, take_all}
-use Rattle.word_core.specs.declared.letter.Letter.{Letter}
-use Rattle.nc_polynomial.specs.Adjoint.{numbers_of, IsInvolution}
-use Rattle.quiver.specs.Declarations.{quiver_of}
+use Rattle.adjoint_rules.proofs.Prelude.{rules, ◌≡◌, length, sym, ap, subst, ◌∙◌, arith, take, length-map, take_all, Letter, numbers_of, IsInvolution, quiver_of}
 use Rattle.adjoint_rules.proofs.Stars.{length-stars, stars_are_involution, numbers_more}
 use Rattle.adjoint_rules.proofs.adjoint.stars_of.Goals as goal
 

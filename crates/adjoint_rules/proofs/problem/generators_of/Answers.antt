@@ -1,11 +1,5 @@
-use Rattle.std.proofs.Common.{◌≡◌, ◌+◌, ◌++◌, length, sym, ap, subst, append_assoc, arith}
-use Rattle.std.specs.List.{AllZip}
-use Rattle.std.proofs.lemmas.List.{length-append, length-map}
-use Rattle.definitions.specs.Poly.{SamePolynomial}
-use Rattle.adjoint_rules.specs.Problem.{polynomials, IsClosed, generators_in}
-use Rattle.adjoint_rules.specs.Parts.{adjoints_in, units_in}
+use Rattle.adjoint_rules.proofs.Prelude.{◌≡◌, ◌+◌, ◌++◌, length, sym, ap, subst, append_assoc, arith, AllZip, length-append, length-map, SamePolynomial, polynomials, IsClosed, generators_in, adjoints_in, units_in, AllZip-append}
 use Rattle.adjoint_rules.proofs.NewAdjoints.{each_same}
-use Rattle.lists.proofs.Zips.{AllZip-append}
 use Rattle.adjoint_rules.proofs.problem.generators_of.Goals as goal
 use Rattle.adjoint_rules.proofs.problem.generators_of.Goals.{After-len}
 

@@ -1,5 +1,4 @@
-use Rattle.std.proofs.Common.{◌≡◌, ◌∷◌, ◌++◌, [], ap, ◌∙◌}
-use Rattle.std.specs.Prelude.{pos, negsuc}
+use Rattle.adjoint_rules.proofs.Prelude.{◌≡◌, ◌∷◌, ◌++◌, [], ap, ◌∙◌, pos, negsuc}
 use Rattle.adjoint_rules.proofs.units.product_less_letter.Goals as goal
 
 pub returns : goal.returns

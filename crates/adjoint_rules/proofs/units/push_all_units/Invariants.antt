@@ -1,8 +1,4 @@
-use Rattle.std.proofs.Common.{◌≡◌, ◌++◌, take}
-use Rattle.std.specs.List.{flat_map}
-use Rattle.definitions.specs.Generators.{units}
-use Rattle.quiver.specs.Declarations.{quiver_of}
-use Rattle.adjoint_rules.specs.Problem.{polynomials, numbers}
+use Rattle.adjoint_rules.proofs.Prelude.{◌≡◌, ◌++◌, take, flat_map, units, quiver_of, polynomials, numbers}
 use Rattle.adjoint_rules.proofs.units.push_all_units.Given as goal
 
 abbrev pub invariant-loop-object : goal.invariant-loop-object

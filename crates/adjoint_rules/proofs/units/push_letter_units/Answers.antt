@@ -1,10 +1,4 @@
-use Rattle.std.specs.Prelude.{nat_eq, nat_le, ◌||◌, true, if◌then◌else◌}
-use Rattle.std.specs.Ordering.{nat_cmp, is_gt}
-use Rattle.std.proofs.Common.{◌≡◌, [], ◌∷◌, ◌++◌, ap, ◌∙◌, sym, refl}
-use Rattle.definitions.specs.Quiver.{source, target, star}
-use Rattle.definitions.specs.Generators.{left_unit, right_unit}
-use Rattle.quiver.specs.Declarations.{quiver_of}
-use Rattle.adjoint_rules.specs.Problem.{polynomials}
+use Rattle.adjoint_rules.proofs.Prelude.{nat_eq, nat_le, ◌||◌, true, if◌then◌else◌, nat_cmp, is_gt, ◌≡◌, [], ◌∷◌, ◌++◌, ap, ◌∙◌, sym, refl, source, target, star, left_unit, right_unit, quiver_of, polynomials}
 use Rattle.adjoint_rules.proofs.UnitLists.{in_play-of_not_gt, polynomials-pushed, polynomials-kept, two_parts}
 use Rattle.adjoint_rules.proofs.units.push_letter_units.Goals as goal
 use Rattle.adjoint_rules.proofs.units.push_letter_units.Goals.{else-not-starred-via-then-not-starred+else-gt, else-not-starred-via-else-not-starred, then-eq+in_ok-product_less_letter+in_ok-push, else-eq}

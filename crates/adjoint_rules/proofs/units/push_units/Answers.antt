@@ -1,12 +1,4 @@
-use Rattle.std.proofs.Common.{◌≡◌, ◌++◌, ◌∷◌, [], ◌-◌, ap, ap₂, ◌∙◌, arith, append_assoc}
-use Rattle.std.specs.List.{flat_map, range_with_len}
-use Rattle.std.proofs.lemmas.List.{map-append}
-use Rattle.definitions.specs.Quiver.{letters}
-use Rattle.definitions.specs.Generators.{left_unit, letter_units}
-use Rattle.nc_polynomial.specs.declared.poly.Poly.{Poly}
-use Rattle.quiver.specs.Declarations.{quiver_of, object_count}
-use Rattle.quiver.proofs.Counts.{letters-quiver_of}
-use Rattle.adjoint_rules.specs.Problem.{polynomials}
+use Rattle.adjoint_rules.proofs.Prelude.{◌≡◌, ◌++◌, ◌∷◌, [], ◌-◌, ap, ap₂, ◌∙◌, arith, append_assoc, flat_map, range_with_len, map-append, letters, left_unit, letter_units, Poly, quiver_of, object_count, letters-quiver_of, polynomials}
 use Rattle.adjoint_rules.proofs.Ranges.{flat_map-range_more}
 use Rattle.adjoint_rules.proofs.units.push_units.Goals as goal
 

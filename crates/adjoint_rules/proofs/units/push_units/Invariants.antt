@@ -1,8 +1,4 @@
-use Rattle.std.proofs.Common.{◌≡◌, ◌++◌, ◌-◌}
-use Rattle.std.specs.List.{flat_map, range_with_len}
-use Rattle.definitions.specs.Generators.{letter_units}
-use Rattle.quiver.specs.Declarations.{quiver_of, object_count}
-use Rattle.adjoint_rules.specs.Problem.{polynomials}
+use Rattle.adjoint_rules.proofs.Prelude.{◌≡◌, ◌++◌, ◌-◌, flat_map, range_with_len, letter_units, quiver_of, object_count, polynomials}
 use Rattle.adjoint_rules.proofs.units.push_units.Given as goal
 
 abbrev pub invariant-loop-number : goal.invariant-loop-number

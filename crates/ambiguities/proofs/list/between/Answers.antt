@@ -1,9 +1,5 @@
-use Rattle.std.proofs.Common.{rules, ◌≡◌, ◌↔◌, ◌≤◌, ◌<◌, List, Contains, IfOk, length, sym, subst}
-use Rattle.std.specs.List.{All}
-use Rattle.std.proofs.lemmas.Result.{IfOk-weaker}
-use Rattle.rule_reduce.specs.declared.rule.Rule.{Rule}
-use Rattle.ambiguities.specs.declared.ambiguity.Ambiguity.{Ambiguity}
-use Rattle.ambiguities.specs.Listed.{IsBefore, ListsExactly, IsAmbiguityFrom}
+use Rattle.ambiguities.proofs.Prelude.{rules, ◌≡◌, ◌↔◌, ◌≤◌, ◌<◌, List, IfOk, length, sym, subst, All, IfOk-weaker, Rule, Ambiguity, IsBefore, ListsExactly, IsAmbiguityFrom}
+use Rattle.std.proofs.Common.{Contains}
 use Rattle.ambiguities.proofs.Leads.{short_leads, nonempty_leads}
 use Rattle.ambiguities.proofs.list.between.Goals as goal
 

@@ -1,5 +1,4 @@
-use Rattle.std.proofs.Common.{rules, ◌≡◌, ◌+◌, [], sym, subst, arith}
-use Rattle.ambiguities.specs.Listed.{IsBefore, ListsExactly, IsGrown, IsOfFirst, IsAmbiguityFrom}
+use Rattle.ambiguities.proofs.Prelude.{rules, ◌≡◌, ◌+◌, [], sym, subst, arith, IsBefore, ListsExactly, IsGrown, IsOfFirst, IsAmbiguityFrom}
 use Rattle.ambiguities.proofs.Exactly.{grown-whole}
 use Rattle.ambiguities.proofs.Numbered.{firsts-more, firsts-all}
 use Rattle.ambiguities.proofs.list.list_all.Goals as goal

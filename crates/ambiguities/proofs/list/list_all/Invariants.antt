@@ -1,5 +1,4 @@
-use Rattle.std.proofs.Common.{[]}
-use Rattle.ambiguities.specs.Listed.{IsGrown}
+use Rattle.ambiguities.proofs.Prelude.{[], IsGrown}
 use Rattle.ambiguities.proofs.Numbered.{IsUpTo}
 use Rattle.ambiguities.proofs.list.list_all.Given as goal
 

@@ -1,5 +1,4 @@
-use Rattle.std.proofs.Common.{rules, ◌≡◌, ◌<◌, ◌≤◌, ◌+◌, ◌-◌, length, arith}
-use Rattle.ambiguities.specs.Listed.{IsGrown, IsOfPair}
+use Rattle.ambiguities.proofs.Prelude.{rules, ◌≡◌, ◌<◌, ◌≤◌, ◌+◌, ◌-◌, length, arith, IsGrown, IsOfPair}
 use Rattle.ambiguities.proofs.Numbered.{seconds-more, seconds-all}
 use Rattle.ambiguities.proofs.Marked.{some_at, first_at}
 use Rattle.ambiguities.proofs.list.push_first.Goals as goal

@@ -1,7 +1,4 @@
-use Rattle.std.proofs.Common.{rules, ◌≡◌, false}
-use Rattle.ambiguities.specs.Agreement.{is_marked, first_of}
-use Rattle.ambiguities.specs.Ambiguities.{lead_at}
-use Rattle.ambiguities.specs.Listed.{IsOfPair}
+use Rattle.ambiguities.proofs.Prelude.{rules, ◌≡◌, false, is_marked, first_of, lead_at, IsOfPair}
 use Rattle.ambiguities.proofs.Exactly.{grown-none}
 use Rattle.ambiguities.proofs.Marked.{pair_nowhere}
 use Rattle.ambiguities.proofs.list.push_marked.Goals as goal

@@ -1,8 +1,4 @@
-use Rattle.std.proofs.Common.{rules, ◌≡◌, ◌≢◌, length, Some, arith}
-use Rattle.rule_reduce.specs.RuleLists.{rule_at}
-use Rattle.ambiguities.specs.declared.ambiguity.Kind.TheVariants.{Overlap, Inclusion}
-use Rattle.ambiguities.specs.Agreement.{IsAgreement}
-use Rattle.ambiguities.specs.Listed.{IsGrown}
+use Rattle.ambiguities.proofs.Prelude.{rules, ◌≡◌, ◌≢◌, length, Some, arith, rule_at, Overlap, Inclusion, IsAgreement, IsGrown}
 use Rattle.ambiguities.proofs.Pairs.{grown-overlaps, grown-inclusions, grown-both, grown-itself}
 use Rattle.ambiguities.proofs.list.push_pair.Goals as goal
 

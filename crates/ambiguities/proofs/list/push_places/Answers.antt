@@ -1,6 +1,4 @@
-use Rattle.std.proofs.Common.{rules, ◌≡◌, ◌∷◌, ◌++◌, [], ◌+◌, true, false, sym, subst, ◌∙◌, arith}
-use Rattle.ambiguities.specs.Agreement.{IsAgreement}
-use Rattle.ambiguities.specs.Listed.{IsGrown, ambiguity_at}
+use Rattle.ambiguities.proofs.Prelude.{rules, ◌≡◌, ◌∷◌, ◌++◌, [], ◌+◌, true, false, sym, subst, ◌∙◌, arith, IsAgreement, IsGrown, ambiguity_at}
 use Rattle.ambiguities.proofs.Agreeing.{agreeing-first, agreeing-more, agreeing-same, agreeing-all}
 use Rattle.ambiguities.proofs.list.push_places.Goals as goal
 use Rattle.ambiguities.proofs.list.push_places.Goals.{then-agree+in_ok-push, else-agree}

@@ -1,6 +1,4 @@
-use Rattle.std.proofs.Common.{◌≡◌, ◌<◌}
-use Rattle.ambiguities.specs.Agreement.{IsAgreement}
-use Rattle.ambiguities.specs.Listed.{IsGrown}
+use Rattle.ambiguities.proofs.Prelude.{◌≡◌, ◌<◌, IsAgreement, IsGrown}
 use Rattle.ambiguities.proofs.list.push_places.Given as goal
 
 -- those at the places that were passed

@@ -1,5 +1,4 @@
-use Rattle.std.proofs.Common.{◌≡◌, map, take}
-use Rattle.ambiguities.specs.Agreement.{first_of}
+use Rattle.ambiguities.proofs.Prelude.{◌≡◌, map, take, first_of}
 use Rattle.ambiguities.proofs.marks.first_letters.Given as goal
 
 -- those of the rules that were passed

@@ -1,4 +1,4 @@
-use Rattle.std.proofs.Common.{rules, ◌≡◌, ◌<◌, ◌%◌, true, length, get_or, slice_set, arith}
+use Rattle.ambiguities.proofs.Prelude.{rules, ◌≡◌, ◌<◌, ◌%◌, true, length, get_or, slice_set, arith}
 use Rattle.ambiguities.proofs.Marked.{marks_more}
 use Rattle.ambiguities.proofs.marks.marks_of.Goals as goal
 

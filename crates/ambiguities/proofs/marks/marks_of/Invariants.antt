@@ -1,5 +1,4 @@
-use Rattle.std.proofs.Common.{◌≡◌, ℕ, ◌<◌, true, length, get_or}
-use Rattle.ambiguities.specs.Agreement.{is_marked}
+use Rattle.ambiguities.proofs.Prelude.{◌≡◌, ℕ, ◌<◌, true, length, get_or, is_marked}
 use Rattle.ambiguities.proofs.marks.marks_of.Given as goal
 
 -- the letters that were passed are marked

@@ -1,7 +1,4 @@
-use Rattle.std.proofs.Common.{rules, ◌≡◌, ℕ, List, IfOk, sym, subst}
-use Rattle.std.proofs.lemmas.Result.{IfOk-weaker}
-use Rattle.word_core.specs.Letters.{IsOver}
-use Rattle.ambiguities.specs.Ambiguities.{overlap_word_of}
+use Rattle.ambiguities.proofs.Prelude.{rules, ◌≡◌, ℕ, List, IfOk, sym, subst, IfOk-weaker, IsOver, overlap_word_of}
 use Rattle.ambiguities.proofs.Bounds.{over_overlap_word}
 use Rattle.ambiguities.proofs.overlap.overlap_word.Goals as goal
 

@@ -1,4 +1,4 @@
-use Rattle.std.proofs.Common.{◌≡◌, ◌++◌, take}
+use Rattle.ambiguities.proofs.Prelude.{◌≡◌, ◌++◌, take}
 use Rattle.ambiguities.proofs.overlap.push_first.Given as goal
 
 -- the letters so far were appended to the word

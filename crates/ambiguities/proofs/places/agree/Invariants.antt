@@ -1,4 +1,4 @@
-use Rattle.std.proofs.Common.{◌≡◌, ℕ, ◌+◌, ◌<◌, get_or}
+use Rattle.ambiguities.proofs.Prelude.{◌≡◌, ℕ, ◌+◌, ◌<◌, get_or}
 use Rattle.ambiguities.proofs.places.agree.Given as goal
 
 -- the letters that were passed are the same

@@ -1,6 +1,4 @@
-use Rattle.std.proofs.Common.{rules, ◌≡◌, MatchResult, Ok, Err, refl, sym, subst, arith}
-use Rattle.nc_polynomial.specs.Arithmetic.{combined}
-use Rattle.nc_polynomial.specs.Faults.{Explains}
+use Rattle.ambiguities.proofs.Prelude.{rules, ◌≡◌, MatchResult, Ok, Err, refl, sym, subst, arith, combined, Explains}
 use Rattle.ambiguities.proofs.Numbers.{rule_at-last}
 use Rattle.ambiguities.proofs.Exits.{exit_left, exit_right, after_both}
 use Rattle.ambiguities.proofs.polynomial.combination.Goals as goal

@@ -1,14 +1,5 @@
-use Rattle.std.proofs.Common.{rules, ◌≡◌, ◌+◌, ◌-◌, pos, neg_ℤ, ◌<ℤ◌, int_div, subst, length, take, drop, Some, sym, ap₂, ◌∙◌, arith}
-use Rattle.std.proofs.lemmas.List.{take_rest}
+use Rattle.ambiguities.proofs.Prelude.{rules, ◌≡◌, ◌+◌, ◌-◌, pos, neg_ℤ, ◌<ℤ◌, int_div, subst, length, take, drop, Some, sym, ap₂, ◌∙◌, arith, take_rest, Row, IsCoefficient, rule_at-all, gcd_of, same_number, rule_at, overlap_word_of, first_row, second_row}
 use Rattle.traced_rows.specs.declared.Origin.TheVariants as origin
-use Rattle.traced_rows.specs.declared.Row.{Row}
-use Rattle.coef_int.specs.Range.{IsCoefficient}
-use Rattle.rule_reduce.proofs.Numbers.{rule_at-all}
-use Rattle.coef_int.specs.Divisor.{gcd_of}
-use Rattle.traced_rows.proofs.Numbers.{same_number}
-use Rattle.rule_reduce.specs.RuleLists.{rule_at}
-use Rattle.ambiguities.specs.Ambiguities.{overlap_word_of}
-use Rattle.ambiguities.specs.SPolynomials.{first_row, second_row}
 use Rattle.ambiguities.proofs.Joined.{lead_at-is, leading_at-is, first_fits, second_fits}
 use Rattle.ambiguities.proofs.polynomial.make_rows.Goals as goal
 

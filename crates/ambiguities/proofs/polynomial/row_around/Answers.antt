@@ -1,7 +1,5 @@
-use Rattle.std.proofs.Common.{rules, ◌≡◌, ◌-◌, length, take, drop, ◌∙◌}
-use Rattle.std.proofs.lemmas.List.{take_rest}
+use Rattle.ambiguities.proofs.Prelude.{rules, ◌≡◌, ◌-◌, length, take, drop, ◌∙◌, take_rest, Row}
 use Rattle.traced_rows.specs.declared.Origin.TheVariants as origin
-use Rattle.traced_rows.specs.declared.Row.{Row}
 use Rattle.ambiguities.proofs.polynomial.row_around.Goals as goal
 
 pub returns : goal.returns

@@ -1,5 +1,4 @@
-use Rattle.std.proofs.Common.{rules, ◌≡◌, Ok, subst}
-use Rattle.ambiguities.specs.SPolynomials.{s_polynomial_of}
+use Rattle.ambiguities.proofs.Prelude.{rules, ◌≡◌, Ok, subst, s_polynomial_of}
 use Rattle.ambiguities.proofs.Bounds.{over_terms}
 use Rattle.ambiguities.proofs.polynomial.s_poly.Goals as goal
 

@@ -1,11 +1,4 @@
-use Rattle.std.proofs.Common.{◌≡◌, ◌^◌, List, map, sym, subst}
-use Rattle.std.specs.List.{All, Contains}
-use Rattle.std.specs.List.Sorted.{IsPermutation}
-use Rattle.std.proofs.lemmas.Result.{IfOk-weaker}
-use Rattle.word_core.specs.Letters.{IsOver}
-use Rattle.ambiguities.specs.declared.key.Key.{Key}
-use Rattle.ambiguities.specs.Order.{AreInOrder}
-use Rattle.ambiguities.specs.Keys.{key_of}
+use Rattle.ambiguities.proofs.Prelude.{◌≡◌, ◌^◌, List, map, sym, subst, All, Contains, IsPermutation, IfOk-weaker, IsOver, Key, AreInOrder, key_of}
 use Rattle.ambiguities.proofs.Keyed.{keys-in_order}
 use Rattle.ambiguities.proofs.sorting.in_order.Goals as goal
 

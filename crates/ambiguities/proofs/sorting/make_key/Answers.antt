@@ -1,6 +1,4 @@
-use Rattle.std.proofs.Common.{◌≡◌, ◌≤◌, length, sym, subst}
-use Rattle.word_orders.specs.Limits.{measured_letters}
-use Rattle.ambiguities.specs.Ambiguities.{overlap_word_of}
+use Rattle.ambiguities.proofs.Prelude.{◌≡◌, ◌≤◌, length, sym, subst, measured_letters, overlap_word_of}
 use Rattle.ambiguities.proofs.Short.{overlap_words-short}
 use Rattle.ambiguities.proofs.sorting.make_key.Goals as goal
 

@@ -1,12 +1,4 @@
-use Rattle.std.proofs.Common.{◌^◌, ◌++◌, ◌∷◌, [], List, map, take, get_or, sym, ap, ap₂, ◌∙◌, subst}
-use Rattle.std.specs.List.{All}
-use Rattle.std.proofs.lemmas.List.{map-append, take_more}
-use Rattle.std.proofs.lemmas.List.Elements.{All-push}
-use Rattle.word_core.specs.Letters.{IsOver}
-use Rattle.ambiguities.specs.declared.ambiguity.Ambiguity.{Ambiguity}
-use Rattle.ambiguities.specs.declared.ambiguity.Kind.TheVariants.{Overlap}
-use Rattle.ambiguities.specs.declared.key.Key.{Key}
-use Rattle.ambiguities.specs.Keys.{key_of}
+use Rattle.ambiguities.proofs.Prelude.{◌^◌, ◌++◌, ◌∷◌, [], List, map, take, get_or, sym, ap, ap₂, ◌∙◌, subst, All, map-append, take_more, All-push, IsOver, Ambiguity, Overlap, Key, key_of}
 use Rattle.ambiguities.proofs.sorting.make_keys.Goals as goal
 
 pub loop-which-preserved : goal.loop-which-preserved

@@ -1,8 +1,4 @@
-use Rattle.std.proofs.Common.{◌≡◌, ◌^◌, map, take}
-use Rattle.std.specs.List.{All}
-use Rattle.word_core.specs.Letters.{IsOver}
-use Rattle.ambiguities.specs.declared.key.Key.{Key}
-use Rattle.ambiguities.specs.Keys.{key_of}
+use Rattle.ambiguities.proofs.Prelude.{◌≡◌, ◌^◌, map, take, All, IsOver, Key, key_of}
 use Rattle.ambiguities.proofs.sorting.make_keys.Given as goal
 
 -- the keys of the ambiguities that were passed

@@ -1,8 +1,5 @@
-use Rattle.std.proofs.Common.{rules, is_lt}
-use Rattle.std.proofs.lemmas.Fn.{always_returns_same}
-use Rattle.std.proofs.lemmas.List.Sorted.{ranks_by}
-use Rattle.std.proofs.lemmas.Result.{IfOk-weaker}
-use Rattle.ambiguities.specs.Keys.{key_cmp}
+use Rattle.ambiguities.proofs.Prelude.{rules, always_returns_same, ranks_by, IfOk-weaker, key_cmp}
+use Rattle.std.proofs.Common.{is_lt}
 use Rattle.ambiguities.proofs.Keyed.{key_cmp-total}
 use Rattle.ambiguities.proofs.sorting.sort_keys.Goals as goal
 

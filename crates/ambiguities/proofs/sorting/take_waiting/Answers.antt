@@ -1,8 +1,4 @@
-use Rattle.std.proofs.Common.{◌≡◌, ◌∷◌, ◌++◌, [], List, sym, ap, ◌∙◌}
-use Rattle.std.proofs.lemmas.List.{append_assoc, map-append}
-use Rattle.std.specs.Vec.Iter.{into_iter_items}
-use Rattle.ambiguities.specs.declared.key.Key.{Key}
-use Rattle.ambiguities.specs.declared.waiting.Waiting.{Waiting}
+use Rattle.ambiguities.proofs.Prelude.{◌≡◌, ◌∷◌, ◌++◌, [], List, sym, ap, ◌∙◌, append_assoc, map-append, into_iter_items, Key, Waiting}
 use Rattle.ambiguities.proofs.sorting.take_waiting.Goals as goal
 
 pub loop-key-preserved : goal.loop-key-preserved

@@ -1,6 +1,4 @@
-use Rattle.std.proofs.Common.{◌≡◌, ◌++◌, List, map}
-use Rattle.std.specs.Vec.Iter.{into_iter_items}
-use Rattle.ambiguities.specs.declared.key.Key.{Key}
+use Rattle.ambiguities.proofs.Prelude.{◌≡◌, ◌++◌, List, map, into_iter_items, Key}
 use Rattle.ambiguities.proofs.sorting.take_waiting.Given as goal
 
 -- the ambiguities of the keys that were passed

@@ -1,8 +1,4 @@
-use Rattle.std.proofs.Common.{◌≡◌, ◌++◌, ◌∷◌, [], length, map, sym, ap, ◌∙◌, rules, arith, append_assoc}
-use Rattle.std.specs.Vec.Iter.{into_iter_items}
-use Rattle.std.proofs.lemmas.List.{map-append}
-use Rattle.std.proofs.lemmas.List.Elements.{All-rest}
-use Rattle.block_lines.specs.Bases.{by_terms, AreCanonical}
+use Rattle.block_lines.proofs.Prelude.{◌≡◌, ◌++◌, ◌∷◌, [], length, map, sym, ap, ◌∙◌, rules, arith, append_assoc, into_iter_items, map-append, All-rest, by_terms, AreCanonical}
 use Rattle.block_lines.proofs.read.bases_of.Goals as goal
 
 -- one basis more is taken

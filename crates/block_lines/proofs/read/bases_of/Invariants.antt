@@ -1,7 +1,4 @@
-use Rattle.std.proofs.Common.{◌≡◌, ◌++◌, map, length}
-use Rattle.std.specs.List.{All}
-use Rattle.std.specs.Vec.Iter.{into_iter_items, into_iter_len}
-use Rattle.block_lines.specs.Bases.{by_terms, AreCanonical}
+use Rattle.block_lines.proofs.Prelude.{◌≡◌, ◌++◌, map, length, All, into_iter_items, into_iter_len, by_terms, AreCanonical}
 use Rattle.block_lines.proofs.read.bases_of.Given as goal
 
 -- those that were taken are the terms of the bases so far, and those that are left are canonical

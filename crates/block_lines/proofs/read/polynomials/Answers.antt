@@ -1,10 +1,4 @@
-use Rattle.std.proofs.Common.{◌≡◌, ◌++◌, ◌∷◌, [], length, map, sym, ap, subst, ◌∙◌, arith, append_assoc}
-use Rattle.std.specs.List.{All}
-use Rattle.std.specs.Vec.Iter.{into_iter_items}
-use Rattle.std.proofs.lemmas.List.{map-append}
-use Rattle.std.proofs.lemmas.List.Elements.{All-head, All-rest}
-use Rattle.nc_polynomial.specs.declared.poly.Poly.{Poly}
-use Rattle.nc_polynomial.specs.Shape.{IsCanonical}
+use Rattle.block_lines.proofs.Prelude.{◌≡◌, ◌++◌, ◌∷◌, [], length, map, sym, ap, subst, ◌∙◌, arith, append_assoc, All, into_iter_items, map-append, All-head, All-rest, Poly, IsCanonical}
 use Rattle.block_lines.proofs.read.polynomials.Goals as goal
 
 -- the terms that are taken are canonical

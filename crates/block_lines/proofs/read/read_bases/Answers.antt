@@ -1,11 +1,4 @@
-use Rattle.std.proofs.Common.{rules, subst, sym, ◌≡◌, List, ℕ, Ok}
-use Rattle.quiver.specs.Declarations.{Declaration}
-use Rattle.block_text.specs.Steps.{all_values}
-use Rattle.block_text.specs.Texts.{IsBlocks}
-use Rattle.block_text.proofs.EachText.{values_read, fault_told}
-use Rattle.block_lines.specs.BasisLines.{BasisTerms}
-use Rattle.block_lines.specs.Bases.{basis_kind}
-use Rattle.block_lines.specs.Reading.{basis_steps}
+use Rattle.block_lines.proofs.Prelude.{rules, subst, sym, ◌≡◌, List, ℕ, Ok, Declaration, all_values, IsBlocks, values_read, fault_told, BasisTerms, basis_kind, basis_steps}
 use Rattle.block_lines.proofs.BasisValues.{are_canonical, are_over}
 use Rattle.block_lines.proofs.Reader.{reader}
 use Rattle.block_lines.proofs.read.read_bases.Goals as goal

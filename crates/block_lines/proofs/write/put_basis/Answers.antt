@@ -1,9 +1,4 @@
-use Rattle.std.proofs.Common.{◌≡◌, ℕ, List, ◌++◌, Result, Ok, Err, OnOk, rules, arith, refl, ◌∙◌, subst, take, append_assoc}
-use Rattle.std.specs.Prelude.{codes, decimal}
-use Rattle.std.specs.List.{flat_map}
-use Rattle.std.proofs.lemmas.List.{take_all}
-use Rattle.block_text.specs.Written.{poly_text}
-use Rattle.block_lines.specs.Written.{rule_line}
+use Rattle.block_lines.proofs.Prelude.{◌≡◌, ℕ, List, ◌++◌, Result, Ok, Err, OnOk, rules, arith, refl, ◌∙◌, subst, take, append_assoc, codes, decimal, flat_map, take_all, poly_text, rule_line}
 use Rattle.block_lines.proofs.write.put_basis.Goals as goal
 
 seven_put : {E : Type 0} (r : Result (Unit {0}) E) (before a b c d e f g one two three four five six last : List ℕ)

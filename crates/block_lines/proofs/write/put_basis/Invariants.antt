@@ -1,6 +1,4 @@
-use Rattle.std.proofs.Common.{◌≡◌, ◌++◌, take}
-use Rattle.std.specs.List.{flat_map}
-use Rattle.block_lines.specs.Written.{rule_line}
+use Rattle.block_lines.proofs.Prelude.{◌≡◌, ◌++◌, take, flat_map, rule_line}
 use Rattle.block_lines.proofs.write.put_basis.Given as goal
 
 abbrev pub invariant-loop-rule : goal.invariant-loop-rule

@@ -1,4 +1,4 @@
-use Rattle.std.proofs.Common.{sym, ◌∙◌}
+use Rattle.block_text.proofs.Prelude.{sym, ◌∙◌}
 use Rattle.block_text.proofs.Closing.{closed_at, never_closed}
 use Rattle.block_text.proofs.bracket.closed.Goals as goal
 

@@ -1,4 +1,4 @@
-use Rattle.std.proofs.Common.{sym, ◌∙◌}
+use Rattle.block_text.proofs.Prelude.{sym, ◌∙◌}
 use Rattle.block_text.proofs.Cuts.{line_before, last_line}
 use Rattle.block_text.proofs.cut.first_line.Goals as goal
 

@@ -1,5 +1,4 @@
-use Rattle.std.proofs.Common.{◌≡◌, ◌≤◌, length}
-use Rattle.block_text.specs.Tokens.{tokens_of}
+use Rattle.block_text.proofs.Prelude.{◌≡◌, ◌≤◌, length, tokens_of}
 use Rattle.block_text.proofs.cut.first_token.Given as goal
 
 -- the line without some of its leading gaps

@@ -1,6 +1,4 @@
-use Rattle.std.proofs.Common.{sym}
-use Rattle.std.proofs.lemmas.Bool.{false_from_ne_true}
-use Rattle.std.proofs.lemmas.Str.{IsUtf8-from_is_utf8, is_utf8-from_IsUtf8}
+use Rattle.block_text.proofs.Prelude.{sym, false_from_ne_true, IsUtf8-from_is_utf8, is_utf8-from_IsUtf8}
 use Rattle.block_text.proofs.cut.is_utf8.Goals as goal
 
 pub returns-in-Ok : goal.returns-in-Ok

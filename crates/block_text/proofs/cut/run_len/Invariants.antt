@@ -1,6 +1,4 @@
-use Rattle.std.proofs.Common.{◌≡◌, ◌+◌, ◌-◌, ◌≤◌, length, drop}
-use Rattle.std.specs.List.{prefix_len}
-use Rattle.block_text.specs.Tokens.{is_plain}
+use Rattle.block_text.proofs.Prelude.{◌≡◌, ◌+◌, ◌-◌, ◌≤◌, length, drop, prefix_len, is_plain}
 use Rattle.block_text.proofs.cut.run_len.Given as goal
 
 abbrev pub decreases-loop-count : goal.decreases-loop-count

@@ -1,4 +1,4 @@
-use Rattle.std.proofs.Common.{arith}
+use Rattle.block_text.proofs.Prelude.{arith}
 use Rattle.block_text.proofs.Cuts.{token_taken, token_is_some}
 use Rattle.block_text.proofs.cut.token_cut.Goals as goal
 

@@ -1,7 +1,4 @@
-use Rattle.std.proofs.Common.{◌≡◌, length}
-use Rattle.std.specs.List.{list_all}
-use Rattle.block_text.specs.Kinds.{is_of}
-use Rattle.block_text.specs.Tokens.{tokens_of}
+use Rattle.block_text.proofs.Prelude.{◌≡◌, length, list_all, is_of, tokens_of}
 use Rattle.block_text.proofs.kinds.are_of.Given as goal
 
 -- the tokens so far are of the kind

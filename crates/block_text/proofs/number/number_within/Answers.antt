@@ -1,4 +1,4 @@
-use Rattle.std.proofs.Common.{arith, sym}
+use Rattle.block_text.proofs.Prelude.{arith, sym}
 use Rattle.block_text.proofs.Numbers.{value_is_large}
 use Rattle.block_text.proofs.number.number_within.Goals as goal
 

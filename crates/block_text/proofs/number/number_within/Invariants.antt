@@ -1,5 +1,4 @@
-use Rattle.std.proofs.Common.{◌≡◌, drop}
-use Rattle.std.specs.Str.Parse.{digits_value, digits_value_after}
+use Rattle.block_text.proofs.Prelude.{◌≡◌, drop, digits_value, digits_value_after}
 use Rattle.block_text.proofs.number.number_within.Given as goal
 
 -- what the digits that are left make of the value

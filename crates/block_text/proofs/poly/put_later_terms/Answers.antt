@@ -1,5 +1,4 @@
-use Rattle.std.proofs.Common.{rules, ◌≡◌, ◌++◌}
-use Rattle.block_text.specs.Written.{later_by}
+use Rattle.block_text.proofs.Prelude.{rules, ◌≡◌, ◌++◌, later_by}
 use Rattle.block_text.proofs.Puts.{each_put}
 use Rattle.block_text.proofs.poly.put_later_terms.Goals as goal
 

@@ -1,6 +1,4 @@
-use Rattle.std.proofs.Common.{◌≡◌, ◌++◌, take}
-use Rattle.std.specs.List.{flat_map}
-use Rattle.block_text.specs.Written.{later_by}
+use Rattle.block_text.proofs.Prelude.{◌≡◌, ◌++◌, take, flat_map, later_by}
 use Rattle.block_text.proofs.poly.put_later_terms.Given as goal
 
 abbrev pub invariant-loop-term : goal.invariant-loop-term

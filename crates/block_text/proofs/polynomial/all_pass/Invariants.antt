@@ -1,7 +1,4 @@
-use Rattle.std.proofs.Common.{◌≡◌, ◌+◌, ℕ, Option, Some, None, length}
-use Rattle.std.specs.List.{list_all}
-use Rattle.block_text.specs.declared.polynomial.TermText.{TermText}
-use Rattle.block_text.specs.PolynomialReading.{terms_from, terms_left, passes}
+use Rattle.block_text.proofs.Prelude.{◌≡◌, ◌+◌, ℕ, Option, Some, None, length, list_all, TermText, terms_from, terms_left, passes}
 use Rattle.block_text.proofs.polynomial.all_pass.Given as goal
 
 -- the terms so far pass

@@ -1,7 +1,4 @@
-use Rattle.std.proofs.Common.{◌≡◌, ◌+◌, ℕ, Option, Some, None, length}
-use Rattle.nc_polynomial.specs.Limits.{term_limit}
-use Rattle.block_text.specs.declared.polynomial.TermText.{TermText}
-use Rattle.block_text.specs.PolynomialReading.{terms_from, terms_left, at_most}
+use Rattle.block_text.proofs.Prelude.{◌≡◌, ◌+◌, ℕ, Option, Some, None, length, term_limit, TermText, terms_from, terms_left, at_most}
 use Rattle.block_text.proofs.polynomial.are_few.Given as goal
 
 -- the terms that are left find the room that is left

@@ -1,6 +1,4 @@
-use Rattle.std.proofs.Common.{◌≡◌, length}
-use Rattle.block_text.specs.PolynomialReading.{term_in, later_in, descend_behind}
-use Rattle.block_text.specs.Tokens.{tokens_of}
+use Rattle.block_text.proofs.Prelude.{◌≡◌, length, term_in, later_in, descend_behind, tokens_of}
 use Rattle.block_text.proofs.polynomial.descend.Given as goal
 
 -- the words so far descend

@@ -1,6 +1,4 @@
-use Rattle.std.proofs.Common.{◌≡◌, ◌-◌, length, arith, rules, sym, ap, ◌∙◌}
-use Rattle.word_core.specs.Canonical.{word_cmp}
-use Rattle.block_text.specs.PolynomialReading.{is_greater}
+use Rattle.block_text.proofs.Prelude.{◌≡◌, ◌-◌, length, arith, rules, sym, ap, ◌∙◌, word_cmp, is_greater}
 use Rattle.block_text.proofs.PolynomialOrder.{greater_is, follows_last}
 use Rattle.block_text.proofs.polynomial.may_follow.Goals as goal
 

@@ -1,6 +1,4 @@
-use Rattle.std.proofs.Common.{◌≡◌, ◌≤◌, length}
-use Rattle.block_text.specs.PolynomialReading.{later_in}
-use Rattle.block_text.specs.Tokens.{tokens_of}
+use Rattle.block_text.proofs.Prelude.{◌≡◌, ◌≤◌, length, later_in, tokens_of}
 use Rattle.block_text.proofs.polynomial.next_term.Given as goal
 
 -- no term begins in what was passed

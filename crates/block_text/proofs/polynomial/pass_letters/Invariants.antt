@@ -1,7 +1,4 @@
-use Rattle.std.proofs.Common.{◌≡◌, length}
-use Rattle.std.specs.List.{list_all}
-use Rattle.block_text.specs.PolynomialReading.{part_in, passes_letter}
-use Rattle.block_text.specs.Tokens.{tokens_of}
+use Rattle.block_text.proofs.Prelude.{◌≡◌, length, list_all, part_in, passes_letter, tokens_of}
 use Rattle.block_text.proofs.polynomial.pass_letters.Given as goal
 
 -- the letters so far pass

@@ -1,7 +1,4 @@
-use Rattle.std.proofs.Common.{◌≡◌, [], Option, Some, sym, ap, ◌∙◌}
-use Rattle.definitions.specs.Poly.{Poly}
-use Rattle.block_text.specs.PolynomialReading.{terms_of, poly_behind}
-use Rattle.block_text.specs.Tokens.{tokens_of}
+use Rattle.block_text.proofs.Prelude.{◌≡◌, [], Option, Some, sym, ap, ◌∙◌, Poly, terms_of, poly_behind, tokens_of}
 use Rattle.block_text.proofs.PolynomialLaws.{made_canonical, made_over}
 use Rattle.block_text.proofs.polynomial.read_polynomial.Goals as goal
 

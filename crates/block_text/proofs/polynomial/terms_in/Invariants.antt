@@ -1,6 +1,4 @@
-use Rattle.std.proofs.Common.{◌≡◌, ◌+◌, [], ℕ, Option, Some, None, length}
-use Rattle.block_text.specs.declared.polynomial.TermText.{TermText}
-use Rattle.block_text.specs.PolynomialReading.{terms_from, terms_left, poly_behind}
+use Rattle.block_text.proofs.Prelude.{◌≡◌, ◌+◌, [], ℕ, Option, Some, None, length, TermText, terms_from, terms_left, poly_behind}
 use Rattle.block_text.proofs.polynomial.terms_in.Given as goal
 
 -- what the terms that are left make of the polynomial

@@ -1,6 +1,4 @@
-use Rattle.std.proofs.Common.{◌≡◌, ◌≤◌, [], length}
-use Rattle.block_text.specs.PolynomialReading.{part_in, later_in, word_behind}
-use Rattle.block_text.specs.Tokens.{tokens_of}
+use Rattle.block_text.proofs.Prelude.{◌≡◌, ◌≤◌, [], length, part_in, later_in, word_behind, tokens_of}
 use Rattle.block_text.proofs.polynomial.word_in.Given as goal
 
 -- what the letters that are left make of the word

@@ -1,7 +1,4 @@
-use Rattle.std.proofs.Common.{◌≡◌, length}
-use Rattle.std.specs.declared.cmp.Ordering.TheVariants.{Equal}
-use Rattle.block_text.specs.PolynomialReading.{part_in, words_cmp}
-use Rattle.block_text.specs.Tokens.{tokens_of}
+use Rattle.block_text.proofs.Prelude.{◌≡◌, length, Equal, part_in, words_cmp, tokens_of}
 use Rattle.block_text.proofs.polynomial.words_cmp.Given as goal
 
 -- what the letters that are left make of the order

@@ -1,6 +1,4 @@
-use Rattle.std.proofs.Common.{sym, ◌∙◌}
-use Rattle.block_text.specs.Lines.{begins}
-use Rattle.block_text.specs.Tokens.{tokens_of}
+use Rattle.block_text.proofs.Prelude.{sym, ◌∙◌, begins, tokens_of}
 use Rattle.block_text.proofs.Heads.{any_mapped}
 use Rattle.block_text.proofs.read.is_other_head.Goals as goal
 

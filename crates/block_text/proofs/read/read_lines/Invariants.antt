@@ -1,7 +1,4 @@
-use Rattle.std.proofs.Common.{◌≡◌, ◌+◌, ◌≤◌, length}
-use Rattle.std.specs.Str.Lines.{lines}
-use Rattle.block_text.specs.Steps.{read_lines, beginning}
-use Rattle.block_text.specs.Sound.{IsSound}
+use Rattle.block_text.proofs.Prelude.{◌≡◌, ◌+◌, ◌≤◌, length, lines, read_lines, beginning, IsSound}
 use Rattle.block_text.proofs.read.read_lines.Given as goal
 
 -- what the lines that are left make of what is read so far

@@ -1,5 +1,4 @@
-use Rattle.std.proofs.Common.{rules, arith, ◌≡◌, ◌<◌, ◌++◌, length}
-use Rattle.block_text.specs.Written.{gap_text}
+use Rattle.block_text.proofs.Prelude.{rules, arith, ◌≡◌, ◌<◌, ◌++◌, length, gap_text}
 use Rattle.block_text.proofs.Joins.{letter_put}
 use Rattle.block_text.proofs.write.put_word_by.Goals as goal
 

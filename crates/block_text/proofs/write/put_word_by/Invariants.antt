@@ -1,5 +1,4 @@
-use Rattle.std.proofs.Common.{◌≡◌, ◌++◌, take}
-use Rattle.block_text.specs.Written.{word_by}
+use Rattle.block_text.proofs.Prelude.{◌≡◌, ◌++◌, take, word_by}
 use Rattle.block_text.proofs.write.put_word_by.Given as goal
 
 abbrev pub invariant-loop-place : goal.invariant-loop-place

@@ -1,20 +1,7 @@
-use Rattle.std.proofs.Common.{rules, ◌≡◌, ◌<◌, List, None, Err, sym, subst, to_z, of_z}
+use Rattle.cancel_rules.proofs.Prelude.{rules, ◌≡◌, ◌<◌, List, None, Err, sym, subst, to_z, of_z, first_overflow, products, letters, Declaration, letter_count, quiver_of, letters-quiver_of, polynomials, ReachesClaim, RefusesGoal, Side, Cancellation, Common, declared_for, row_total, claim_named, all_items, CancelBegins, HasItems, AcceptsCancellation, RefusesCancellation, IsReadableCancellation}
 use mir.Syntax.{w128}
 use Rattle.std.specs.List.{All}
-use Rattle.coef_int.specs.Operations.{first_overflow}
-use Rattle.nc_polynomial.specs.Terms.{products}
-use Rattle.definitions.specs.Quiver.{letters}
-use Rattle.quiver.specs.Declarations.{Declaration, letter_count, quiver_of}
-use Rattle.quiver.proofs.Counts.{letters-quiver_of}
-use Rattle.adjoint_rules.specs.Problem.{polynomials}
-use Rattle.cofactor_checker.specs.Goals.{ReachesClaim, RefusesGoal}
-use Rattle.cancel_rules.specs.declared.cancellation.Side.{Side}
 use Rattle.cancel_rules.specs.declared.cancellation.Side.TheVariants as side
-use Rattle.cancel_rules.specs.declared.cancellation.Cancellation.{Cancellation}
-use Rattle.cancel_rules.specs.declared.refusal.CancelRefusal.TheVariants.{Common}
-use Rattle.cancel_rules.specs.Cancellations.{declared_for}
-use Rattle.cancel_rules.specs.Items.{row_total}
-use Rattle.cancel_rules.specs.Acceptance.{claim_named, all_items, CancelBegins, HasItems, AcceptsCancellation, RefusesCancellation, IsReadableCancellation}
 use Rattle.cancel_rules.proofs.Outcomes.{refuses_from_beginning, refuses_from_items, refuses_from_goal, err_told, memory_told}
 use Rattle.cancel_rules.proofs.Shown.{accepted_cancellation_leads}
 use Rattle.cancel_rules.proofs.Judged.{begun, told_start, complete}

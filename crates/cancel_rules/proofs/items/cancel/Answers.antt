@@ -1,17 +1,4 @@
-use Rattle.std.proofs.Common.{◌-◌, ◌<◌, All, sym, subst, ap, ◌∙◌, arith}
-use Rattle.definitions.specs.Soundness.{HasSignature}
-use Rattle.quiver.specs.Declarations.{letter_count, quiver_of}
-use Rattle.quiver.proofs.Counts.{letters-quiver_of}
-use Rattle.adjoint_rules.specs.Problem.{polynomials}
-use Rattle.adjoint_rules.proofs.Generators.{posed_quiver}
-use Rattle.cofactor_checker.specs.Rows.{IsNumberUpTo}
-use Rattle.cofactor_checker.proofs.RowSums.{Names, named, length-polynomials}
-use Rattle.word_core.specs.Letters.{IsOver}
-use Rattle.cancel_rules.specs.declared.cancellation.Cancellation.{Cancellation}
-use Rattle.cancel_rules.specs.Items.{stripped, HasAtEnd, IsTypedItem}
-use Rattle.cancel_rules.specs.Inner.{MarksDeclared}
-use Rattle.quiver.specs.Over.{IsPolyOver}
-use Rattle.cofactor_checker.proofs.Each.{clash}
+use Rattle.cancel_rules.proofs.Prelude.{◌-◌, ◌<◌, All, sym, subst, ap, ◌∙◌, arith, HasSignature, letter_count, quiver_of, letters-quiver_of, polynomials, posed_quiver, IsNumberUpTo, Names, named, length-polynomials, IsOver, Cancellation, stripped, HasAtEnd, IsTypedItem, MarksDeclared, IsPolyOver, clash}
 use Rattle.cancel_rules.proofs.Found.{holds_there, some_object}
 use Rattle.cancel_rules.proofs.Without.{stripped_over}
 use Rattle.cancel_rules.proofs.items.cancel.Goals as goal

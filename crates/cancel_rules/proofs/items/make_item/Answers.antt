@@ -1,7 +1,4 @@
-use Rattle.std.proofs.Common.{All, sym, subst}
-use Rattle.adjoint_rules.specs.Problem.{polynomials}
-use Rattle.quiver.specs.Declarations.{letter_count, quiver_of}
-use Rattle.word_core.specs.Letters.{IsOver}
+use Rattle.cancel_rules.proofs.Prelude.{All, sym, subst, polynomials, letter_count, quiver_of, IsOver}
 use Rattle.cancel_rules.proofs.Letters.{lemma_polynomial_over}
 use Rattle.cancel_rules.proofs.Outcomes.{cancel_refused}
 use Rattle.cancel_rules.proofs.items.make_item.Goals as goal

@@ -1,18 +1,6 @@
-use Rattle.std.proofs.Common.{rules, ◌≡◌, ◌+◌, ◌<◌, ◌≤◌, ◌++◌, [], ◌∷◌, All, length, IfErr, sym, ap, subst, ◌∙◌, arith}
-use Rattle.std.proofs.lemmas.List.{length-append}
-use Rattle.std.proofs.lemmas.List.Elements.{All-push}
-use Rattle.quiver.specs.Declarations.{quiver_of}
-use Rattle.adjoint_rules.specs.Problem.{polynomials}
-use Rattle.cofactor_checker.specs.Lemmas.{term_total}
-use Rattle.cofactor_checker.specs.LemmaAcceptance.{HasScale}
+use Rattle.cancel_rules.proofs.Prelude.{rules, ◌≡◌, ◌+◌, ◌<◌, ◌≤◌, ◌++◌, [], ◌∷◌, All, length, IfErr, sym, ap, subst, ◌∙◌, arith, length-append, All-push, quiver_of, polynomials, term_total, HasScale, at_item, polynomials_more, total_more, item_polynomial, rows_in, ItemPasses, RefusesItems, OfLemma, IsReadableItem, IsMadeItem, IsPolyOver}
 use Rattle.cofactor_checker.specs.declared.refusal.Refusal.TheVariants as common
-use Rattle.cofactor_checker.proofs.Each.{at_item}
-use Rattle.cofactor_checker.proofs.LemmaSteps.{polynomials_more, total_more}
 use Rattle.cancel_rules.specs.declared.refusal.CancelRefusal.TheVariants as refusal
-use Rattle.cancel_rules.specs.Items.{item_polynomial, rows_in, ItemPasses, RefusesItems}
-use Rattle.cancel_rules.specs.Acceptance.{OfLemma, IsReadableItem}
-use Rattle.cancel_rules.specs.Inner.{IsMadeItem}
-use Rattle.quiver.specs.Over.{IsPolyOver}
 use Rattle.cancel_rules.proofs.Steps.{ItemsUpTo, refuse_here, goes_on, memory_here, passes_with, keeps_too_much}
 use Rattle.cancel_rules.proofs.items.make_items.Goals as goal
 

@@ -1,8 +1,4 @@
-use Rattle.std.proofs.Common.{◌≡◌, ◌≤◌, All, length}
-use Rattle.quiver.specs.Declarations.{quiver_of}
-use Rattle.adjoint_rules.specs.Problem.{polynomials}
-use Rattle.cofactor_checker.specs.Lemmas.{term_total}
-use Rattle.quiver.specs.Over.{IsPolyOver}
+use Rattle.cancel_rules.proofs.Prelude.{◌≡◌, ◌≤◌, All, length, quiver_of, polynomials, term_total, IsPolyOver}
 use Rattle.cancel_rules.proofs.Steps.{ItemsUpTo}
 use Rattle.cancel_rules.proofs.items.make_items.Given as goal
 

@@ -1,7 +1,4 @@
-use Rattle.std.proofs.Common.{◌<◌, [], ◌∷◌, ◌++◌, true, get_or, set, take, sym, subst, ◌∙◌}
-use Rattle.std.proofs.lemmas.List.{length-set, take_more}
-use Rattle.word_core.specs.declared.letter.Letter.{Letter}
-use Rattle.cancel_rules.specs.Inner.{MarksLetters}
+use Rattle.cancel_rules.proofs.Prelude.{◌<◌, [], ◌∷◌, ◌++◌, true, get_or, set, take, sym, subst, ◌∙◌, length-set, take_more, Letter, MarksLetters}
 use Rattle.cancel_rules.proofs.Marking.{one_more}
 use Rattle.cancel_rules.proofs.marks.marks_of.Goals as goal
 

@@ -1,5 +1,4 @@
-use Rattle.std.proofs.Common.{◌≡◌, length, take}
-use Rattle.cancel_rules.specs.Inner.{MarksLetters}
+use Rattle.cancel_rules.proofs.Prelude.{◌≡◌, length, take, MarksLetters}
 use Rattle.cancel_rules.proofs.marks.marks_of.Given as goal
 
 abbrev pub invariant-loop-letter : goal.invariant-loop-letter

@@ -1,5 +1,4 @@
-use Rattle.std.proofs.Common.{rules, ◌≡◌, ◌≢◌, length}
-use Rattle.quiver.specs.Declarations.{quiver_of}
+use Rattle.cancel_rules.proofs.Prelude.{rules, ◌≡◌, ◌≢◌, length, quiver_of}
 use Rattle.cancel_rules.proofs.Signed.{typed_tells, zero_is_typed, has_terms}
 use Rattle.cancel_rules.proofs.strip.is_typed.Goals as goal
 

@@ -1,9 +1,4 @@
-use Rattle.std.proofs.Common.{rules, ◌≡◌, ◌<◌, ◌≤◌, get_or, ℕ, ℤ, List, [], ◌∷◌, ◌++◌, length, take, sym, ap, ap₂, subst, ◌∙◌}
-use Rattle.std.proofs.lemmas.List.{take_all}
-use Rattle.nc_polynomial.specs.Shape.{IsCanonical}
-use Rattle.nc_polynomial.proofs.Steps.{take_next}
-use Rattle.cofactor_checker.proofs.Each.{all_more, all_whole}
-use Rattle.cancel_rules.specs.Items.{stripped, HasAtEnd}
+use Rattle.cancel_rules.proofs.Prelude.{rules, ◌≡◌, ◌<◌, ◌≤◌, get_or, ℕ, ℤ, List, [], ◌∷◌, ◌++◌, length, take, sym, ap, ap₂, subst, ◌∙◌, take_all, IsCanonical, take_next, all_more, all_whole, stripped, HasAtEnd}
 use Rattle.cancel_rules.proofs.Without.{canonical_stripped, stripped_push}
 use Rattle.cancel_rules.proofs.strip.strip.Goals as goal
 

@@ -1,5 +1,4 @@
-use Rattle.std.proofs.Common.{◌≡◌, All, take}
-use Rattle.cancel_rules.specs.Items.{stripped, HasAtEnd}
+use Rattle.cancel_rules.proofs.Prelude.{◌≡◌, All, take, stripped, HasAtEnd}
 use Rattle.cancel_rules.proofs.strip.strip.Given as goal
 
 abbrev pub invariant-loop-term : goal.invariant-loop-term

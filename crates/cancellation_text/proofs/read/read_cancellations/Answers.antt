@@ -1,6 +1,4 @@
-use Rattle.block_text.proofs.EachText.{values_told}
-use Rattle.cancellation_text.specs.Cancellations.{cancellation_kind}
-use Rattle.cancellation_text.specs.Reading.{cancellation_steps}
+use Rattle.cancellation_text.proofs.Prelude.{values_told, cancellation_kind, cancellation_steps}
 use Rattle.cancellation_text.proofs.Readable.{readable_told}
 use Rattle.cancellation_text.proofs.Reader.{reader}
 use Rattle.cancellation_text.proofs.read.read_cancellations.Goals as goal

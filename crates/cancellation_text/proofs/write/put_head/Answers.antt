@@ -1,8 +1,5 @@
-use Rattle.std.proofs.Common.{◌≡◌, ◌++◌, OnOk, rules, subst, to_z, of_z}
-use Rattle.std.specs.Prelude.{codes}
-use Rattle.certificate_text.specs.Written.{opening_text}
+use Rattle.cancellation_text.proofs.Prelude.{◌≡◌, ◌++◌, OnOk, rules, subst, to_z, of_z, codes, opening_text, w128}
 use Rattle.cancellation_text.proofs.write.put_head.Goals as goal
-use Rattle.std.specs.Int.{w128}
 
 pub returns : goal.returns
 returns c =

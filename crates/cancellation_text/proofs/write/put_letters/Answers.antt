@@ -1,8 +1,4 @@
-use Rattle.std.proofs.Common.{rules, ◌≡◌, ◌++◌, ap, ◌∙◌}
-use Rattle.std.proofs.lemmas.List.{append_assoc, take_all}
-use Rattle.std.specs.List.{flat_map}
-use Rattle.cancel_rules.specs.declared.cancellation.Side.TheVariants.{Left, Right}
-use Rattle.cancellation_text.specs.Written.{called_text}
+use Rattle.cancellation_text.proofs.Prelude.{rules, ◌≡◌, ◌++◌, ap, ◌∙◌, append_assoc, take_all, flat_map, Left, Right, called_text}
 use Rattle.cancellation_text.proofs.write.put_letters.Goals as goal
 
 pub loop-letter-2-init : goal.loop-letter-2-init

@@ -1,7 +1,4 @@
-use Rattle.std.proofs.Common.{◌≡◌, ◌++◌, take}
-use Rattle.std.specs.List.{flat_map}
-use Rattle.cancel_rules.specs.declared.cancellation.Side.TheVariants.{Left, Right}
-use Rattle.cancellation_text.specs.Written.{called_text}
+use Rattle.cancellation_text.proofs.Prelude.{◌≡◌, ◌++◌, take, flat_map, Left, Right, called_text}
 use Rattle.cancellation_text.proofs.write.put_letters.Given as goal
 
 abbrev pub invariant-loop-letter : goal.invariant-loop-letter

@@ -1,5 +1,4 @@
-use Rattle.std.proofs.Common.{◌≡◌, ◌++◌, ◌+◌, take}
-use Rattle.cancellation_text.specs.Written.{items_text}
+use Rattle.cancellation_text.proofs.Prelude.{◌≡◌, ◌++◌, ◌+◌, take, items_text}
 use Rattle.cancellation_text.proofs.write.put_steps.Given as goal
 
 abbrev pub invariant-loop-item : goal.invariant-loop-item

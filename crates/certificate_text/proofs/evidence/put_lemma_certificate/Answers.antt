@@ -1,6 +1,4 @@
-use Rattle.std.proofs.Common.{sym, subst}
-use Rattle.std.specs.List.{All}
-use Rattle.certificate_text.specs.Written.{IsLemmaOver}
+use Rattle.certificate_text.proofs.Prelude.{sym, subst, All, IsLemmaOver}
 use Rattle.certificate_text.proofs.evidence.put_lemma_certificate.Goals as goal
 
 pub put_lemmas-requires : goal.put_lemmas-requires

@@ -1,6 +1,4 @@
-use Rattle.std.proofs.Common.{sym, subst}
-use Rattle.std.proofs.lemmas.List.Elements.{All-get_or}
-use Rattle.certificate_text.specs.Evidence.{IsLemmaRowOver}
+use Rattle.certificate_text.proofs.Prelude.{sym, subst, All-get_or, IsLemmaRowOver}
 use Rattle.certificate_text.proofs.evidence.put_lemma_rows.Goals as goal
 
 pub put_lemma_row-requires : goal.put_lemma_row-requires

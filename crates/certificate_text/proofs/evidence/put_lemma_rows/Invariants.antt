@@ -1,6 +1,4 @@
-use Rattle.std.proofs.Common.{◌≡◌, ◌++◌, take}
-use Rattle.std.specs.List.{flat_map}
-use Rattle.certificate_text.specs.Written.{lemma_row_text}
+use Rattle.certificate_text.proofs.Prelude.{◌≡◌, ◌++◌, take, flat_map, lemma_row_text}
 use Rattle.certificate_text.proofs.evidence.put_lemma_rows.Given as goal
 
 abbrev pub invariant-loop-row : goal.invariant-loop-row

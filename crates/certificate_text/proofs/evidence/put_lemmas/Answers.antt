@@ -1,6 +1,5 @@
-use Rattle.std.proofs.Common.{rules}
+use Rattle.certificate_text.proofs.Prelude.{rules, IsLemmaOver, lemma_text}
 use Rattle.certificate_text.proofs.LemmaTexts.{next_put, holds_there}
-use Rattle.certificate_text.specs.Written.{IsLemmaOver, lemma_text}
 use Rattle.certificate_text.proofs.evidence.put_lemmas.Goals as goal
 
 pub put_lemma-requires : goal.put_lemma-requires

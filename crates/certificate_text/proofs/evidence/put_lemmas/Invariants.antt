@@ -1,5 +1,4 @@
-use Rattle.std.proofs.Common.{◌≡◌, ◌++◌, ◌+◌, take}
-use Rattle.certificate_text.specs.Written.{lemmas_text}
+use Rattle.certificate_text.proofs.Prelude.{◌≡◌, ◌++◌, ◌+◌, take, lemmas_text}
 use Rattle.certificate_text.proofs.evidence.put_lemmas.Given as goal
 
 abbrev pub invariant-loop-lemma : goal.invariant-loop-lemma

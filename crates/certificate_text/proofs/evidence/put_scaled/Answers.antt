@@ -1,10 +1,5 @@
-use Rattle.std.proofs.Common.{◌≡◌, ◌++◌, OnOk, All, rules, sym, subst}
-use Rattle.std.specs.Prelude.{codes}
-use Rattle.std.specs.Fmt.{signed_decimal}
-use Rattle.std.specs.List.{flat_map}
-use Rattle.certificate_text.specs.Written.{lemma_row_text}
-use Rattle.certificate_text.specs.Evidence.{IsLemmaRowOver}
-use Rattle.block_text.proofs.Puts.{four_put}
+use Rattle.certificate_text.proofs.Prelude.{◌≡◌, ◌++◌, OnOk, rules, sym, subst, codes, signed_decimal, flat_map, lemma_row_text, IsLemmaRowOver, four_put}
+use Rattle.std.proofs.Common.{All}
 use Rattle.certificate_text.proofs.evidence.put_scaled.Goals as goal
 
 pub returns : goal.returns

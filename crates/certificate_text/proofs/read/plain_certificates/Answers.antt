@@ -1,9 +1,6 @@
-use Rattle.std.proofs.Common.{◌≡◌, ◌++◌, ◌∷◌, [], length, map, sym, ap, ◌∙◌, rules, arith, append_assoc}
-use Rattle.std.specs.Vec.Iter.{into_iter_items}
-use Rattle.std.proofs.lemmas.List.{map-append}
-use Rattle.std.proofs.lemmas.List.Elements.{All-rest}
+use Rattle.certificate_text.proofs.Prelude.{◌≡◌, ◌++◌, ◌∷◌, [], length, map, sym, ap, ◌∙◌, rules, arith, into_iter_items, map-append, All-rest, IsPlain}
+use Rattle.std.proofs.Common.{append_assoc}
 use Rattle.traced_rows.specs.declared.evidence.Evidence.TheVariants as block
-use Rattle.certificate_text.specs.Reading.{IsPlain}
 use Rattle.certificate_text.proofs.read.plain_certificates.Goals as goal
 
 -- one more certificate is taken

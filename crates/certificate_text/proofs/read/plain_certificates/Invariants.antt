@@ -1,8 +1,5 @@
-use Rattle.std.proofs.Common.{◌≡◌, ◌++◌, map, length}
-use Rattle.std.specs.List.{All}
-use Rattle.std.specs.Vec.Iter.{into_iter_items, into_iter_len}
+use Rattle.certificate_text.proofs.Prelude.{◌≡◌, ◌++◌, map, length, All, into_iter_items, into_iter_len, IsPlain}
 use Rattle.traced_rows.specs.declared.evidence.Evidence.TheVariants as block
-use Rattle.certificate_text.specs.Reading.{IsPlain}
 use Rattle.certificate_text.proofs.read.plain_certificates.Given as goal
 
 -- those that were taken are the certificates so far, and those that are left are of format 1

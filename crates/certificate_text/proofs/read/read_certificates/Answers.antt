@@ -1,12 +1,5 @@
-use Rattle.std.proofs.Common.{rules, subst, ◌≡◌, List, ℕ, Ok}
-use Rattle.std.specs.List.{All}
-use Rattle.quiver.specs.Declarations.{Declaration}
-use Rattle.traced_rows.specs.declared.evidence.Evidence.{Evidence}
+use Rattle.certificate_text.proofs.Prelude.{rules, subst, ◌≡◌, List, ℕ, Ok, All, Declaration, Evidence, values_read, fault_told, all_values, certificate_kind, IsEvidence, IsCheckableEvidence, certificate_steps}
 use Rattle.traced_rows.specs.declared.evidence.Format.TheVariants as Format
-use Rattle.block_text.proofs.EachText.{values_read, fault_told}
-use Rattle.block_text.specs.Steps.{all_values}
-use Rattle.certificate_text.specs.Evidence.{certificate_kind, IsEvidence, IsCheckableEvidence}
-use Rattle.certificate_text.specs.Reading.{certificate_steps}
 use Rattle.certificate_text.proofs.Checkable.{are_checkable, are_plain, all_plain}
 use Rattle.certificate_text.proofs.Reader.{reader}
 use Rattle.certificate_text.proofs.read.read_certificates.Goals as goal

@@ -1,7 +1,5 @@
 use Rattle.traced_rows.specs.declared.evidence.Format.TheVariants as Format
-use Rattle.block_text.proofs.EachText.{values_told}
-use Rattle.certificate_text.specs.Evidence.{certificate_kind}
-use Rattle.certificate_text.specs.Reading.{certificate_steps}
+use Rattle.certificate_text.proofs.Prelude.{values_told, certificate_kind, certificate_steps}
 use Rattle.certificate_text.proofs.Checkable.{checkable_told}
 use Rattle.certificate_text.proofs.Reader.{reader}
 use Rattle.certificate_text.proofs.read.read_evidence.Goals as goal

@@ -1,6 +1,4 @@
-use Rattle.std.proofs.Common.{rules}
-use Rattle.block_text.specs.Tokens.{tokens_of}
-use Rattle.certificate_text.specs.Views.{parts_of}
+use Rattle.certificate_text.proofs.Prelude.{rules, tokens_of, parts_of}
 use Rattle.certificate_text.proofs.RowLines.{row_of_parts}
 use Rattle.certificate_text.proofs.row.row_of.Goals as goal
 

@@ -1,8 +1,4 @@
-use Rattle.std.proofs.Common.{◌≡◌, length}
-use Rattle.std.specs.List.{list_all}
-use Rattle.block_text.specs.Letters.{is_letter, word_of}
-use Rattle.block_text.specs.Tokens.{tokens_of}
-use Rattle.block_text.proofs.Fronts.{behind}
+use Rattle.certificate_text.proofs.Prelude.{◌≡◌, length, list_all, is_letter, word_of, tokens_of, behind}
 use Rattle.certificate_text.proofs.row.word_of.Given as goal
 
 -- the letters so far, before those that are left

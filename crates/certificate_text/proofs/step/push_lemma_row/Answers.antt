@@ -1,4 +1,4 @@
-use Rattle.std.proofs.Common.{sym, refl, ◌∙◌}
+use Rattle.certificate_text.proofs.Prelude.{sym, refl, ◌∙◌}
 use Rattle.certificate_text.proofs.RowSteps.{flaw_told, memory_told, told_on}
 use Rattle.certificate_text.proofs.step.push_lemma_row.Goals as goal
 

@@ -1,9 +1,5 @@
-use Rattle.std.proofs.Common.{◌≡◌, ◌++◌, OnOk, All, rules, sym, subst}
-use Rattle.std.specs.Prelude.{codes}
-use Rattle.std.specs.List.{flat_map}
-use Rattle.certificate_text.specs.Evidence.{IsRowOver}
-use Rattle.certificate_text.specs.Written.{opening_text, row_text}
-use Rattle.block_text.proofs.Puts.{three_put}
+use Rattle.certificate_text.proofs.Prelude.{◌≡◌, ◌++◌, OnOk, rules, sym, subst, codes, flat_map, IsRowOver, opening_text, row_text, three_put}
+use Rattle.std.proofs.Common.{All}
 use Rattle.certificate_text.proofs.write.put_certificate.Goals as goal
 
 pub put_rows-requires : goal.put_rows-requires

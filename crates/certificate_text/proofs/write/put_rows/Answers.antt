@@ -1,6 +1,4 @@
-use Rattle.std.proofs.Common.{sym, subst}
-use Rattle.std.proofs.lemmas.List.Elements.{All-get_or}
-use Rattle.certificate_text.specs.Evidence.{IsRowOver}
+use Rattle.certificate_text.proofs.Prelude.{sym, subst, All-get_or, IsRowOver}
 use Rattle.certificate_text.proofs.write.put_rows.Goals as goal
 
 pub put_row-requires : goal.put_row-requires

@@ -1,6 +1,4 @@
-use Rattle.std.proofs.Common.{◌≡◌, ◌++◌, take}
-use Rattle.std.specs.List.{flat_map}
-use Rattle.certificate_text.specs.Written.{row_text}
+use Rattle.certificate_text.proofs.Prelude.{◌≡◌, ◌++◌, take, flat_map, row_text}
 use Rattle.certificate_text.proofs.write.put_rows.Given as goal
 
 abbrev pub invariant-loop-row : goal.invariant-loop-row

@@ -1,15 +1,5 @@
-use Rattle.std.proofs.Common.{rules, ◌≡◌, ◌<◌, ◌-◌, length, to_z, of_z, Ok, ap, sym, subst, ◌∙◌, refl}
-use Rattle.std.specs.Int.{w128}
-use Rattle.std.specs.List.{All}
-use Rattle.coef_int.specs.Range.{IsCoefficient}
-use Rattle.word_orders.specs.Specified.{made_cmp, asked_cmp, letters_of}
-use Rattle.cofactor_trace.specs.Needed.{IsRecord, AreRecords}
+use Rattle.claim_decider.proofs.Prelude.{rules, ◌≡◌, ◌<◌, ◌-◌, length, to_z, of_z, Ok, ap, sym, subst, ◌∙◌, refl, w128, All, IsCoefficient, made_cmp, asked_cmp, letters_of, IsRecord, AreRecords, State, ExplainsHalt, normal_form_of, setting_of, IsCauseOf, claim_at, halted_at, record_of, IsProved, IsDoneBy}
 use Rattle.cofactor_trace.specs.declared.halt.Place.TheVariants as place
-use Rattle.rule_reduce.specs.declared.state.State.{State}
-use Rattle.rule_reduce.specs.NormalForms.{ExplainsHalt, normal_form_of}
-use Rattle.traced_completion.specs.PlainRun.{setting_of, IsCauseOf}
-use Rattle.adjoint_rules.specs.Claims.{claim_at}
-use Rattle.claim_decider.specs.Outcomes.{halted_at, record_of, IsProved, IsDoneBy}
 use Rattle.claim_decider.proofs.ClaimNumbers.{claim_at-place, nothing}
 use Rattle.claim_decider.proofs.Judging.{same_reduction, left, done_by_fault, done_by_zero, claim_record}
 use Rattle.claim_decider.proofs.case.judge.Goals as goal

@@ -1,10 +1,5 @@
-use Rattle.std.proofs.Common.{rules, ◌≡◌, ◌<◌, [], length, ap, sym, ◌∙◌, refl, arith}
-use Rattle.nc_polynomial.specs.declared.poly.Poly.{Poly}
-use Rattle.traced_completion.specs.PlainRun.{start, setting_of}
-use Rattle.rule_reduce.specs.NormalForms.{start_of}
+use Rattle.claim_decider.proofs.Prelude.{rules, ◌≡◌, ◌<◌, [], length, ap, sym, ◌∙◌, refl, arith, Poly, start, setting_of, start_of, claim_at, at_once}
 use Rattle.claim_decider.specs.declared.outcome.Outcome.TheVariants as outcome
-use Rattle.adjoint_rules.specs.Claims.{claim_at}
-use Rattle.claim_decider.specs.Outcomes.{at_once}
 use Rattle.claim_decider.proofs.ClaimNumbers.{claim_at-place, nothing}
 use Rattle.claim_decider.proofs.Judging.{left, no_rules}
 use Rattle.claim_decider.proofs.case.open_case.Goals as goal

@@ -1,9 +1,5 @@
-use Rattle.std.proofs.Common.{rules, ◌≡◌, [], ◌∷◌, sym, subst}
-use Rattle.std.specs.List.{All}
-use Rattle.traced_completion.specs.PlainRun.{start, setting_of}
-use Rattle.claim_decider.specs.Cases.{IsCase}
+use Rattle.claim_decider.proofs.Prelude.{rules, ◌≡◌, [], ◌∷◌, sym, subst, All, start, setting_of, IsCase, all_one}
 use Rattle.claim_decider.proofs.claims.decide.Goals as goal
-use Rattle.traced_rows.proofs.Lists.{all_one}
 
 -- the one claim is opened
 pub run-requires-clause-cases : goal.run-requires-clause-cases

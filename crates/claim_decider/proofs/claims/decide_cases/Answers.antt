@@ -1,9 +1,4 @@
-use Rattle.std.proofs.Common.{rules, ◌≡◌, subst}
-use Rattle.std.specs.List.{AllZip}
-use Rattle.traced_completion.specs.PlainRun.{Setting, setting_of, IsRunState}
-use Rattle.traced_completion.specs.Completions.{state_of}
-use Rattle.claim_decider.specs.Decided.{AreOutcomesOf, IsLastRound, polynomials_in}
-use Rattle.claim_decider.specs.Cases.{Gives}
+use Rattle.claim_decider.proofs.Prelude.{rules, ◌≡◌, subst, AllZip, Setting, setting_of, IsRunState, state_of, AreOutcomesOf, IsLastRound, polynomials_in, Gives}
 use Rattle.claim_decider.proofs.StepsTaken.{outcomes_of_all}
 use Rattle.claim_decider.proofs.claims.decide_cases.Goals as goal
 

@@ -1,6 +1,4 @@
-use Rattle.std.proofs.Common.{rules, ◌≡◌, ◌<◌, get_or, length, sym, subst, ◌∙◌, arith}
-use Rattle.claim_decider.specs.declared.case.Case.{Case}
-use Rattle.claim_decider.specs.Cases.{IsNumber, Follows}
+use Rattle.claim_decider.proofs.Prelude.{rules, ◌≡◌, ◌<◌, get_or, length, sym, subst, ◌∙◌, arith, Case, IsNumber, Follows}
 use Rattle.claim_decider.proofs.CaseLists.{same_item, others_stay, one_more}
 use Rattle.claim_decider.proofs.claims.follow_all.Goals as goal
 

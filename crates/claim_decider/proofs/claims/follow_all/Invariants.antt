@@ -1,6 +1,4 @@
-use Rattle.std.proofs.Common.{◌≡◌, take, drop, length}
-use Rattle.std.specs.List.{AllZip}
-use Rattle.claim_decider.specs.Cases.{Follows}
+use Rattle.claim_decider.proofs.Prelude.{◌≡◌, take, drop, length, AllZip, Follows}
 use Rattle.claim_decider.proofs.claims.follow_all.Given as goal
 
 -- the first claims have taken the step, and the others are as they were

@@ -1,10 +1,4 @@
-use Rattle.std.proofs.Common.{rules, ◌≡◌, ◌+◌, [], ◌∷◌, ◌++◌, ap, sym, ◌∙◌, arith}
-use Rattle.std.specs.List.{range_with_len}
-use Rattle.std.proofs.lemmas.List.{map-append}
-use Rattle.traced_rows.proofs.Lists.{all_push}
-use Rattle.traced_completion.specs.PlainRun.{start, setting_of}
-use Rattle.claim_decider.specs.declared.case.Case.{Case}
-use Rattle.claim_decider.specs.Cases.{IsNumber, IsOfProblem, IsCase, case_numbers}
+use Rattle.claim_decider.proofs.Prelude.{rules, ◌≡◌, ◌+◌, [], ◌∷◌, ◌++◌, ap, sym, ◌∙◌, arith, range_with_len, map-append, all_push, start, setting_of, Case, IsNumber, IsOfProblem, IsCase, case_numbers}
 use Rattle.claim_decider.proofs.CaseLists.{range_with_len-more}
 use Rattle.claim_decider.proofs.claims.open_all.Goals as goal
 

@@ -1,8 +1,4 @@
-use Rattle.std.proofs.Common.{◌≡◌}
-use Rattle.std.specs.List.{All, range_with_len}
-use Rattle.traced_completion.specs.declared.budget.Budget.{Budget}
-use Rattle.traced_completion.specs.PlainRun.{start, setting_of}
-use Rattle.claim_decider.specs.Cases.{IsCase, IsOfProblem, case_numbers}
+use Rattle.claim_decider.proofs.Prelude.{◌≡◌, All, range_with_len, Budget, start, setting_of, IsCase, IsOfProblem, case_numbers}
 use Rattle.claim_decider.proofs.claims.open_all.Given as goal
 
 -- the first claims are opened

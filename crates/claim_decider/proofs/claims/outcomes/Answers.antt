@@ -1,11 +1,4 @@
-use Rattle.std.proofs.Common.{rules, arith, ◌≡◌, [], ◌∷◌, ◌++◌, List, length, sym, ap, subst, ◌∙◌, append_assoc}
-use Rattle.std.specs.List.{AllZip}
-use Rattle.std.specs.Vec.Iter.{into_iter_items}
-use Rattle.std.proofs.lemmas.List.{nil_from_length, append-nil}
-use Rattle.std.proofs.lemmas.List.Elements.{All-rest}
-use Rattle.claim_decider.specs.declared.outcome.Outcome.{Outcome}
-use Rattle.claim_decider.specs.declared.case.Standing.TheVariants.{Settled}
-use Rattle.claim_decider.specs.Cases.{IsSettled, Gives}
+use Rattle.claim_decider.proofs.Prelude.{rules, arith, ◌≡◌, [], ◌∷◌, ◌++◌, List, length, sym, ap, subst, ◌∙◌, append_assoc, AllZip, into_iter_items, nil_from_length, append-nil, All-rest, Outcome, Settled, IsSettled, Gives}
 use Rattle.claim_decider.proofs.claims.outcomes.Goals as goal
 
 pub loop-case-preserved : goal.loop-case-preserved

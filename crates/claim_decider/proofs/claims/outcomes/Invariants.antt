@@ -1,8 +1,4 @@
-use Rattle.std.proofs.Common.{◌≡◌, ◌++◌, List, length}
-use Rattle.std.specs.List.{All, AllZip}
-use Rattle.std.specs.Vec.Iter.{into_iter_items, into_iter_len}
-use Rattle.claim_decider.specs.declared.outcome.Outcome.{Outcome}
-use Rattle.claim_decider.specs.Cases.{IsSettled, Gives}
+use Rattle.claim_decider.proofs.Prelude.{◌≡◌, ◌++◌, List, length, All, AllZip, into_iter_items, into_iter_len, Outcome, IsSettled, Gives}
 use Rattle.claim_decider.proofs.claims.outcomes.Given as goal
 
 -- the outcomes so far are those of the first claims

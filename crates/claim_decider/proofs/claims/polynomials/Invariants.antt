@@ -1,5 +1,4 @@
-use Rattle.std.proofs.Common.{◌≡◌, take}
-use Rattle.claim_decider.specs.Decided.{polynomials_in}
+use Rattle.claim_decider.proofs.Prelude.{◌≡◌, take, polynomials_in}
 use Rattle.claim_decider.proofs.claims.polynomials.Given as goal
 
 -- those of the first rules

@@ -1,7 +1,4 @@
-use Rattle.std.proofs.Common.{IfOk, ap, subst}
-use Rattle.traced_completion.specs.PlainRun.{Setting, setting_of}
-use Rattle.claim_decider.specs.Decided.{AreOutcomesOf, AreLastRules}
-use Rattle.claim_decider.specs.Cases.{case_numbers}
+use Rattle.claim_decider.proofs.Prelude.{IfOk, ap, subst, Setting, setting_of, AreOutcomesOf, AreLastRules, case_numbers}
 use Rattle.claim_decider.proofs.claims.run.Goals as goal
 
 pub returns-clause-outcomes : goal.returns-clause-outcomes

@@ -1,10 +1,4 @@
-use Rattle.std.proofs.Common.{rules, ◌≡◌, ◌≤◌, inr, suc, sym, ap, subst, ◌∙◌, arith}
-use Rattle.std.specs.List.{All, AllZip}
-use Rattle.traced_completion.specs.declared.budget.Budget.{Budget}
-use Rattle.traced_completion.specs.PlainRun.{Setting, setting_of, IsRound}
-use Rattle.traced_completion.specs.Completions.{IsUnchangedAfter, state_of, outcome_of, rounds_after}
-use Rattle.claim_decider.specs.declared.case.Case.{Case}
-use Rattle.claim_decider.specs.Cases.{IsNumber, IsOfProblem, IsSettled, Follows}
+use Rattle.claim_decider.proofs.Prelude.{rules, ◌≡◌, ◌≤◌, inr, suc, sym, ap, subst, ◌∙◌, arith, All, AllZip, Budget, Setting, setting_of, IsRound, IsUnchangedAfter, state_of, outcome_of, rounds_after, Case, IsNumber, IsOfProblem, IsSettled, Follows}
 use Rattle.claim_decider.proofs.CaseLists.{AllZip-kept, AllZip-same_map}
 use Rattle.claim_decider.proofs.StepsTaken.{Steps, step_taken, cases_next, late_next, find_open, smaller, last_round}
 use Rattle.claim_decider.proofs.claims.settle.Goals as goal

@@ -1,8 +1,4 @@
-use Rattle.std.proofs.Common.{◌≡◌, ◌⊎◌}
-use Rattle.std.specs.List.{All}
-use Rattle.traced_completion.specs.PlainRun.{setting_of}
-use Rattle.traced_completion.specs.Completions.{IsCompletionOf, state_of}
-use Rattle.claim_decider.specs.Cases.{IsOfProblem, IsCase, case_numbers}
+use Rattle.claim_decider.proofs.Prelude.{◌≡◌, ◌⊎◌, All, setting_of, IsCompletionOf, state_of, IsOfProblem, IsCase, case_numbers}
 use Rattle.claim_decider.proofs.StepsTaken.{LateOne, left_for}
 use Rattle.claim_decider.proofs.claims.settle.Given as goal
 

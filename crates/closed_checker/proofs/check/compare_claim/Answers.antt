@@ -1,6 +1,5 @@
-use Rattle.std.proofs.Common.{rules, ◌≡◌, true, length, Ok, ap, subst, ◌∙◌, arith}
+use Rattle.closed_checker.proofs.Prelude.{rules, ◌≡◌, true, length, Ok, ap, subst, ◌∙◌, arith, rest_of}
 use Rattle.closed_checker.specs.declared.part.Part.TheVariants as part
-use Rattle.closed_checker.specs.Rests.{rest_of}
 use Rattle.closed_checker.proofs.check.compare_claim.Goals as goal
 
 pub returns-clause-closed : goal.returns-clause-closed

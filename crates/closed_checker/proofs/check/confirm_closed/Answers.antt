@@ -1,5 +1,4 @@
-use Rattle.std.proofs.Common.{rules}
-use Rattle.closed_checker.specs.Closed.{IsClosedBasis}
+use Rattle.closed_checker.proofs.Prelude.{rules, IsClosedBasis}
 use Rattle.closed_checker.proofs.ClosedMeaning.{closed_bases_mean_outside}
 use Rattle.closed_checker.proofs.Judged.{complete}
 use Rattle.closed_checker.proofs.check.confirm_closed.Goals as goal

@@ -1,14 +1,5 @@
-use Rattle.std.proofs.Common.{rules, ◌≡◌, ◌≤◌, length, slice_index_or, Ok, sym, subst, arith}
-use Rattle.std.proofs.lemmas.List.{take_all}
-use Rattle.std.proofs.lemmas.List.Elements.{All-more}
-use Rattle.std.specs.List.{All}
-use Rattle.word_orders.specs.Specified.{made_cmp}
-use Rattle.ambiguities.specs.declared.ambiguity.Kind.TheVariants.{Overlap}
-use Rattle.ambiguities.specs.declared.ambiguity.Ambiguity.{Ambiguity}
-use Rattle.ambiguities.specs.Order.{AreAllInOrder}
+use Rattle.closed_checker.proofs.Prelude.{rules, ◌≡◌, ◌≤◌, length, slice_index_or, Ok, sym, subst, arith, take_all, All-more, All, made_cmp, Overlap, Ambiguity, AreAllInOrder, order_of, rules_of, rest_of, LeavesZero}
 use Rattle.closed_checker.specs.declared.part.Part.TheVariants as part
-use Rattle.closed_checker.specs.Rests.{order_of, rules_of, rest_of}
-use Rattle.closed_checker.specs.Closed.{LeavesZero}
 use Rattle.closed_checker.proofs.Passing.{listed_same, ambiguity_reached, ambiguities_passed, some_left, zero_left}
 use Rattle.closed_checker.proofs.check.reduce_ambiguities.Goals as goal
 use Rattle.closed_checker.proofs.check.reduce_ambiguities.Goals.{After-as_slice-which-items}

@@ -1,7 +1,5 @@
-use Rattle.std.proofs.Common.{take}
-use Rattle.std.specs.List.{All}
+use Rattle.closed_checker.proofs.Prelude.{take, All, LeavesZero}
 use Rattle.closed_checker.specs.declared.part.Part.TheVariants as part
-use Rattle.closed_checker.specs.Closed.{LeavesZero}
 use Rattle.closed_checker.proofs.check.reduce_ambiguities.Given as goal
 
 -- nothing is left of the ambiguities so far

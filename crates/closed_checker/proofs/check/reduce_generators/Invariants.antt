@@ -1,4 +1,4 @@
-use Rattle.closed_checker.specs.Working.{GeneratorsPass}
+use Rattle.closed_checker.proofs.Prelude.{GeneratorsPass}
 use Rattle.closed_checker.proofs.check.reduce_generators.Given as goal
 
 abbrev pub invariant-loop-place : goal.invariant-loop-place

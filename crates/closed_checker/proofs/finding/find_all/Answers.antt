@@ -1,6 +1,4 @@
-use Rattle.std.proofs.Common.{rules, ◌≡◌, ◌<◌, [], length, get_or, sym, arith}
-use Rattle.ambiguities.specs.declared.ambiguity.Ambiguity.{Ambiguity}
-use Rattle.closed_checker.specs.Finding.{IsAdded, IsOfFirst}
+use Rattle.closed_checker.proofs.Prelude.{rules, ◌≡◌, ◌<◌, [], length, get_or, sym, arith, Ambiguity, IsAdded, IsOfFirst}
 use Rattle.closed_checker.proofs.Walking.{one-more}
 use Rattle.closed_checker.proofs.finding.find_all.Goals as goal
 

@@ -1,5 +1,4 @@
-use Rattle.std.proofs.Common.{[], take}
-use Rattle.closed_checker.specs.Finding.{IsAdded, IsOfFirsts}
+use Rattle.closed_checker.proofs.Prelude.{[], take, IsAdded, IsOfFirsts}
 use Rattle.closed_checker.proofs.finding.find_all.Given as goal
 
 -- those of the first words that were passed

@@ -1,6 +1,4 @@
-use Rattle.std.proofs.Common.{rules, ◌≡◌, ◌+◌, ◌<◌, true, false, [], ◌∷◌, ◌++◌, length, take, get_or, sym, ◌∙◌, subst, arith}
-use Rattle.ambiguities.specs.Listed.{ambiguity_at}
-use Rattle.closed_checker.specs.Finding.{IsAdded, IsWith}
+use Rattle.closed_checker.proofs.Prelude.{rules, ◌≡◌, ◌+◌, ◌<◌, true, false, [], ◌∷◌, ◌++◌, length, take, get_or, sym, ◌∙◌, subst, arith, ambiguity_at, IsAdded, IsWith}
 use Rattle.closed_checker.proofs.Walking.{with-met, with-apart}
 use Rattle.closed_checker.proofs.finding.push_all.Goals as goal
 use Rattle.closed_checker.proofs.finding.push_all.Goals.{then-may_meet+in_ok-push, else-may_meet}

@@ -1,5 +1,4 @@
-use Rattle.std.proofs.Common.{take}
-use Rattle.closed_checker.specs.Finding.{IsAdded, IsWith}
+use Rattle.closed_checker.proofs.Prelude.{take, IsAdded, IsWith}
 use Rattle.closed_checker.proofs.finding.push_all.Given as goal
 
 -- those with the words that were passed

@@ -1,5 +1,4 @@
-use Rattle.std.proofs.Common.{rules, ◌≡◌, ◌≤◌, length}
-use Rattle.closed_checker.specs.Finding.{IsAdded, IsOfFirst}
+use Rattle.closed_checker.proofs.Prelude.{rules, ◌≡◌, ◌≤◌, length, IsAdded, IsOfFirst}
 use Rattle.closed_checker.proofs.Walking.{places-more, places-all}
 use Rattle.closed_checker.proofs.finding.push_first.Goals as goal
 

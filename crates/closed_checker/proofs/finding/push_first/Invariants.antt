@@ -1,5 +1,4 @@
-use Rattle.std.proofs.Common.{◌<◌}
-use Rattle.closed_checker.specs.Finding.{IsAdded, IsOfFirst}
+use Rattle.closed_checker.proofs.Prelude.{◌<◌, IsAdded, IsOfFirst}
 use Rattle.closed_checker.proofs.finding.push_first.Given as goal
 
 -- those at the places that were passed

@@ -1,7 +1,4 @@
-use Rattle.std.proofs.Common.{rules, ◌≡◌, ◌-◌, ◌<◌, suc, nat_eq, get_or, filter, length, take, drop, arith}
-use Rattle.std.proofs.lemmas.List.{nil_from_length}
-use Rattle.closed_checker.specs.declared.table.Lead.{Lead}
-use Rattle.closed_checker.specs.Table.{rank_at}
+use Rattle.closed_checker.proofs.Prelude.{rules, ◌≡◌, ◌-◌, ◌<◌, suc, nat_eq, get_or, filter, length, take, drop, arith, nil_from_length, Lead, rank_at}
 use Rattle.closed_checker.proofs.Steps.{IsPlace, longer-ranks, going-ranks, ended-sorted, added-more, walked-more, none-longer, overlaps-added, first-added, rest_from}
 use Rattle.closed_checker.proofs.finding.push_place.Goals as goal
 use Rattle.closed_checker.proofs.finding.push_place.Goals.{Start, After-as_slice, After-is_empty, After-narrow-going_on, After-loop-depth}

@@ -1,7 +1,4 @@
-use Rattle.std.proofs.Common.{take, drop}
-use Rattle.ambiguities.specs.Listed.{ListsExactly}
-use Rattle.closed_checker.specs.Finding.{IsAdded}
-use Rattle.closed_checker.specs.Table.{StandsBefore}
+use Rattle.closed_checker.proofs.Prelude.{take, drop, ListsExactly, IsAdded, StandsBefore}
 use Rattle.closed_checker.proofs.Walking.{IsLonger, IsIncluded}
 use Rattle.closed_checker.proofs.finding.push_place.Given as goal
 

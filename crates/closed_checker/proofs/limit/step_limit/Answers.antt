@@ -1,5 +1,4 @@
-use Rattle.std.proofs.Common.{refl}
-use Rattle.closed_checker.specs.Limits.{step_limit}
+use Rattle.closed_checker.proofs.Prelude.{refl, step_limit}
 use Rattle.closed_checker.proofs.limit.step_limit.Goals as goal
 
 pub returns : goal.returns

@@ -1,11 +1,4 @@
-use Rattle.std.proofs.Common.{rules, ◌≡◌, ◌≢◌, List, map, sym, ap, ◌∙◌, subst}
-use Rattle.std.specs.List.{All, AllPairs, Contains}
-use Rattle.std.proofs.lemmas.Result.{IfOk-weaker}
-use Rattle.ambiguities.specs.declared.ambiguity.Ambiguity.{Ambiguity}
-use Rattle.ambiguities.specs.declared.waiting.Waiting.{Waiting}
-use Rattle.ambiguities.specs.Ambiguities.{IsAmbiguity}
-use Rattle.ambiguities.specs.Order.{AreAllInOrder, AreInOrder}
-use Rattle.ambiguities.proofs.Exactly.{exactly-all}
+use Rattle.closed_checker.proofs.Prelude.{rules, ◌≡◌, ◌≢◌, List, map, sym, ap, ◌∙◌, subst, All, AllPairs, Contains, IfOk-weaker, Ambiguity, Waiting, IsAmbiguity, AreAllInOrder, AreInOrder, exactly-all}
 use Rattle.closed_checker.proofs.Lists.{all-in_order}
 use Rattle.closed_checker.proofs.list.all_ambiguities.Goals as goal
 

@@ -1,11 +1,4 @@
-use Rattle.std.proofs.Common.{rules, ◌≡◌, ◌<◌, ◌^◌, List, length, sym, subst}
-use Rattle.std.specs.List.{All, AllPairs}
-use Rattle.std.proofs.lemmas.Result.{IfOk-weaker}
-use Rattle.rule_reduce.specs.declared.rule.Rule.{Rule}
-use Rattle.ambiguities.specs.declared.ambiguity.Ambiguity.{Ambiguity}
-use Rattle.closed_checker.specs.declared.table.Lead.{Lead}
-use Rattle.closed_checker.specs.Finding.{ListsEachOnce, IsOfFirsts}
-use Rattle.closed_checker.specs.Table.{IsTableOf, StandsBefore}
+use Rattle.closed_checker.proofs.Prelude.{rules, ◌≡◌, ◌<◌, ◌^◌, List, length, sym, subst, All, AllPairs, IfOk-weaker, Rule, Ambiguity, Lead, ListsEachOnce, IsOfFirsts, IsTableOf, StandsBefore}
 use Rattle.closed_checker.proofs.LeadRules.{words_nonempty, words_short, ambiguities-of}
 use Rattle.closed_checker.proofs.list.find_ambiguities.Goals as goal
 

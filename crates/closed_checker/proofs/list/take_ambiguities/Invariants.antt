@@ -1,5 +1,4 @@
-use Rattle.std.proofs.Common.{◌≡◌, map, take}
-use Rattle.ambiguities.specs.declared.waiting.Waiting.{Waiting}
+use Rattle.closed_checker.proofs.Prelude.{◌≡◌, map, take, Waiting}
 use Rattle.closed_checker.proofs.list.take_ambiguities.Given as goal
 
 -- the ambiguities that were passed

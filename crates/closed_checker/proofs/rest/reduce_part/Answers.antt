@@ -1,5 +1,4 @@
-use Rattle.std.proofs.Common.{◌-◌}
-use Rattle.word_orders.specs.Specified.{letters_of}
+use Rattle.closed_checker.proofs.Prelude.{◌-◌, letters_of}
 use Rattle.closed_checker.proofs.ProblemLetters.{generators_over, claims_over, over_at}
 use Rattle.closed_checker.proofs.PartAnswers.{generator_answer, claim_answer}
 use Rattle.closed_checker.proofs.rest.reduce_part.Goals as goal

@@ -1,12 +1,4 @@
-use Rattle.std.proofs.Common.{rules, ◌≡◌, ◌<◌, ◌≤◌, ◌+◌, ◌++◌, pos, true, false, length, take, get_or, option_to_list, sym, ap, ap₂, subst, ◌∙◌, arith}
-use Rattle.std.proofs.lemmas.List.{length-append}
-use Rattle.std.proofs.lemmas.List.Elements.{All-more}
-use Rattle.word_orders.specs.Specified.{made_cmp, letters_of}
-use Rattle.nc_polynomial.specs.Content.{IsContent}
-use Rattle.nc_polynomial.specs.declared.poly.Poly.{Poly}
-use Rattle.rule_reduce.specs.RuleLists.{rule_from}
-use Rattle.quiver.specs.Declarations.{letter_count}
-use Rattle.closed_checker.specs.Rests.{order_of, MayBeRule}
+use Rattle.closed_checker.proofs.Prelude.{rules, ◌≡◌, ◌<◌, ◌≤◌, ◌+◌, ◌++◌, pos, true, false, length, take, get_or, option_to_list, sym, ap, ap₂, subst, ◌∙◌, arith, length-append, All-more, made_cmp, letters_of, IsContent, Poly, rule_from, letter_count, order_of, MayBeRule}
 use Rattle.closed_checker.proofs.MadeRules.{one_rule, rules_more, lacks_rule}
 use Rattle.closed_checker.proofs.rules.make_rules.Goals as goal
 

@@ -1,8 +1,4 @@
-use Rattle.std.proofs.Common.{◌≡◌, ◌≤◌, length, take}
-use Rattle.std.specs.List.{All}
-use Rattle.quiver.specs.Declarations.{letter_count}
-use Rattle.word_orders.specs.Specified.{made_cmp, letters_of}
-use Rattle.closed_checker.specs.Rests.{order_of, rules_from, MayBeRule}
+use Rattle.closed_checker.proofs.Prelude.{◌≡◌, ◌≤◌, length, take, All, letter_count, made_cmp, letters_of, order_of, rules_from, MayBeRule}
 use Rattle.closed_checker.proofs.rules.make_rules.Given as goal
 
 -- the rules of the polynomials so far

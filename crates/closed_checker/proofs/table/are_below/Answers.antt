@@ -1,6 +1,4 @@
-use Rattle.std.proofs.Common.{rules, ◌≡◌, ◌-◌, length, slice_get, Some, arith}
-use Rattle.std.proofs.lemmas.Bool.{ltb-true}
-use Rattle.closed_checker.specs.Table.{rank_at}
+use Rattle.closed_checker.proofs.Prelude.{rules, ◌≡◌, ◌-◌, length, slice_get, Some, arith, ltb-true, rank_at}
 use Rattle.closed_checker.proofs.Ends.{last-below}
 use Rattle.closed_checker.proofs.table.are_below.Goals as goal
 

@@ -1,6 +1,4 @@
-use Rattle.std.proofs.Common.{rules, ◌≡◌, slice_get, Some, arith}
-use Rattle.std.proofs.lemmas.Bool.{leb-true}
-use Rattle.closed_checker.specs.Table.{rank_at}
+use Rattle.closed_checker.proofs.Prelude.{rules, ◌≡◌, slice_get, Some, arith, leb-true, rank_at}
 use Rattle.closed_checker.proofs.Ends.{first-past}
 use Rattle.closed_checker.proofs.table.are_past.Goals as goal
 

@@ -1,7 +1,4 @@
-use Rattle.std.proofs.Common.{rules, nat_lt}
-use Rattle.std.proofs.lemmas.List.Sorted.{IsPartitionPoint-from_clause, IsPartitionedBy-ltb}
-use Rattle.closed_checker.specs.declared.table.Lead.{Lead}
-use Rattle.closed_checker.specs.Table.{rank_at}
+use Rattle.closed_checker.proofs.Prelude.{rules, nat_lt, IsPartitionPoint-from_clause, IsPartitionedBy-ltb, Lead, rank_at}
 use Rattle.closed_checker.proofs.table.count_below.Goals as goal
 
 pub returns-clause-point : goal.returns-clause-point

@@ -1,4 +1,4 @@
-use Rattle.std.proofs.Common.{◌≡◌, take}
+use Rattle.closed_checker.proofs.Prelude.{◌≡◌, take}
 use Rattle.closed_checker.proofs.table.letters_of.Given as goal
 
 -- the letters that were passed

@@ -1,7 +1,4 @@
-use Rattle.std.proofs.Common.{rules, ◌≡◌, ◌+◌, [], ◌∷◌, ◌++◌, length, sym, ap, ◌∙◌, subst, arith}
-use Rattle.std.proofs.lemmas.List.{length_push}
-use Rattle.ambiguities.specs.Listed.{ListsExactly}
-use Rattle.closed_checker.specs.declared.table.Lead.{Lead}
+use Rattle.closed_checker.proofs.Prelude.{rules, ◌≡◌, ◌+◌, [], ◌∷◌, ◌++◌, length, sym, ap, ◌∙◌, subst, arith, length_push, ListsExactly, Lead}
 use Rattle.closed_checker.proofs.Tables.{ByNumber, IsEarly, early-more, early-all, lead-at}
 use Rattle.closed_checker.proofs.table.list_leads.Goals as goal
 

@@ -1,5 +1,4 @@
-use Rattle.std.proofs.Common.{◌≡◌, length}
-use Rattle.ambiguities.specs.Listed.{ListsExactly}
+use Rattle.closed_checker.proofs.Prelude.{◌≡◌, length, ListsExactly}
 use Rattle.closed_checker.proofs.Tables.{ByNumber, IsEarly}
 use Rattle.closed_checker.proofs.table.list_leads.Given as goal
 

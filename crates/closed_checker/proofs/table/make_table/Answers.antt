@@ -1,4 +1,4 @@
-use Rattle.std.proofs.Common.{rules}
+use Rattle.closed_checker.proofs.Prelude.{rules}
 use Rattle.closed_checker.proofs.Tables.{table-sorted}
 use Rattle.closed_checker.proofs.table.make_table.Goals as goal
 

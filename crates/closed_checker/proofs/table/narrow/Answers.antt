@@ -1,8 +1,4 @@
-use Rattle.std.proofs.Common.{rules, ◌+◌, not, nat_lt, nat_eq, filter, sym, ap, ◌∙◌, subst}
-use Rattle.std.specs.List.Sorted.{IsNonDecreasingBy}
-use Rattle.std.proofs.lemmas.List.Kept.{IsNonDecreasingBy-filter}
-use Rattle.closed_checker.specs.declared.table.Lead.{Lead}
-use Rattle.closed_checker.specs.Table.{rank_at}
+use Rattle.closed_checker.proofs.Prelude.{rules, ◌+◌, not, nat_lt, nat_eq, filter, sym, ap, ◌∙◌, subst, IsNonDecreasingBy, IsNonDecreasingBy-filter, Lead, rank_at}
 use Rattle.closed_checker.proofs.Cutting.{filter-between}
 use Rattle.closed_checker.proofs.table.narrow.Goals as goal
 

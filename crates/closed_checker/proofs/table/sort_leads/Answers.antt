@@ -1,11 +1,5 @@
-use Rattle.std.proofs.Common.{rules, is_lt}
-use Rattle.std.specs.Ordering.{nat_cmp}
-use Rattle.std.specs.Cmp.Lexicographic.{slice_cmp}
-use Rattle.std.proofs.lemmas.Cmp.{nat_list_cmp_total}
-use Rattle.std.proofs.lemmas.Fn.{always_returns_same}
-use Rattle.std.proofs.lemmas.List.Sorted.{ranks_by}
-use Rattle.std.proofs.lemmas.Result.{IfOk-weaker}
-use Rattle.closed_checker.specs.declared.table.Lead.{Lead}
+use Rattle.closed_checker.proofs.Prelude.{rules, nat_cmp, slice_cmp, nat_list_cmp_total, always_returns_same, ranks_by, IfOk-weaker, Lead}
+use Rattle.std.proofs.Common.{is_lt}
 use Rattle.closed_checker.proofs.table.sort_leads.Goals as goal
 
 pub returns-clause-sorted : goal.returns-clause-sorted

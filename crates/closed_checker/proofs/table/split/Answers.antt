@@ -1,6 +1,4 @@
-use Rattle.std.proofs.Common.{nat_lt, ◌∙◌}
-use Rattle.closed_checker.specs.declared.table.Lead.{Lead}
-use Rattle.closed_checker.specs.Table.{rank_at}
+use Rattle.closed_checker.proofs.Prelude.{nat_lt, ◌∙◌, Lead, rank_at}
 use Rattle.closed_checker.proofs.Cutting.{cut-front, cut-back}
 use Rattle.closed_checker.proofs.table.split.Goals as goal
 

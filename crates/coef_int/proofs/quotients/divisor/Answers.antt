@@ -1,9 +1,5 @@
-use Rattle.std.proofs.Common.{rules, ◌≡◌, suc, pos, ◌<ℤ◌, to_z, of_z, arith, ap, ◌∙◌, sym, subst}
-use Rattle.std.specs.Int.{IsGcd}
-use Rattle.std.specs.Int.RustNames.{unsigned_abs}
-use Rattle.std.proofs.lemmas.Int.{ints}
+use Rattle.coef_int.proofs.Prelude.{rules, ◌≡◌, suc, pos, ◌<ℤ◌, to_z, of_z, arith, ap, ◌∙◌, sym, subst, IsGcd, unsigned_abs, ints, gcd_within}
 use mir.Syntax.{w128}
-use Rattle.coef_int.specs.Divisor.{gcd_within}
 use Rattle.coef_int.proofs.Divisors.{gcd_same, gcd_of-positive, gcd_of-positive_right}
 use Rattle.coef_int.proofs.quotients.divisor.Goals as goal
 

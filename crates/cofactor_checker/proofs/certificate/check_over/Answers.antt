@@ -1,15 +1,6 @@
-use Rattle.std.proofs.Common.{rules, ◌≡◌, ◌*ℤ◌, ℕ, List, Some, Err, inl, refl, to_z, of_z}
+use Rattle.cofactor_checker.proofs.Prelude.{rules, ◌≡◌, ◌*ℤ◌, ℕ, List, Some, Err, inl, refl, to_z, of_z, first_overflow, coefficient_of, row_sum, coefficient_in, products, rows_of, polynomials, AddsUp, Accepts, SumDiffers, Refuses, IsSumOf}
 use mir.Syntax.{w128}
-use Rattle.coef_int.specs.Operations.{first_overflow}
-use Rattle.definitions.specs.Poly.{coefficient_of}
-use Rattle.definitions.specs.Combination.{row_sum}
-use Rattle.nc_polynomial.specs.Collected.{coefficient_in}
-use Rattle.nc_polynomial.specs.Terms.{products}
-use Rattle.traced_rows.specs.Rows.{rows_of}
-use Rattle.adjoint_rules.specs.Problem.{polynomials}
-use Rattle.cofactor_checker.specs.Acceptance.{AddsUp, Accepts, SumDiffers, Refuses}
 use Rattle.cofactor_checker.specs.declared.refusal.Refusal.TheVariants as refusal
-use Rattle.cofactor_checker.specs.Running.{IsSumOf}
 use Rattle.cofactor_checker.proofs.Judged.{accepted_is_not_refused}
 use Rattle.cofactor_checker.proofs.Outcomes.{posed, begins, refuses_from_row, sums_agree, sums_differ, combination_from_accepts}
 use Rattle.cofactor_checker.proofs.RowSums.{Names, named}

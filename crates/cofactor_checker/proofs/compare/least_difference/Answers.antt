@@ -1,9 +1,6 @@
-use Rattle.std.proofs.Common.{rules, ◌≡◌, ◌≢◌, ◌*ℤ◌, [], ◌∷◌, ◌++◌, Some, All, length, to_z, of_z}
+use Rattle.cofactor_checker.proofs.Prelude.{rules, ◌≡◌, ◌≢◌, ◌*ℤ◌, [], ◌∷◌, ◌++◌, Some, All, length, to_z, of_z, nil_from_length, IsOrdered, Less, Equal, Greater, word_cmp}
 use mir.Syntax.{w128}
-use Rattle.std.proofs.lemmas.List.{nil_from_length}
-use Rattle.std.specs.BTreeMap.{get, IsOrdered}
-use Rattle.std.specs.declared.cmp.Ordering.TheVariants.{Less, Equal, Greater}
-use Rattle.word_core.specs.Canonical.{word_cmp}
+use Rattle.std.specs.BTreeMap.{get}
 use Rattle.cofactor_checker.proofs.Comparing.{Compares, EndsIn, begins, told, product_fits, entry_left, entry_first, term_left, term_first, both_differ, both_agree}
 use Rattle.cofactor_checker.proofs.compare.least_difference.Goals as goal
 use Rattle.cofactor_checker.proofs.compare.least_difference.Goals.{In-Some-split_last, In-Some-split_last-2}

@@ -1,6 +1,4 @@
-use Rattle.std.proofs.Common.{◌≡◌, drop}
-use Rattle.coef_int.specs.Operations.{first_overflow}
-use Rattle.nc_polynomial.specs.Terms.{products}
+use Rattle.cofactor_checker.proofs.Prelude.{◌≡◌, drop, first_overflow, products}
 use Rattle.cofactor_checker.proofs.compare.overflow_of_multiple.Given as goal
 
 abbrev pub invariant-loop-term : goal.invariant-loop-term

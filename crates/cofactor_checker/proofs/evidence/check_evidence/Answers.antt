@@ -1,8 +1,6 @@
-use Rattle.std.proofs.Common.{rules, ◌≡◌}
-use Rattle.adjoint_rules.specs.Problem.{polynomials}
+use Rattle.cofactor_checker.proofs.Prelude.{rules, ◌≡◌, polynomials, Lemmas}
 use Rattle.cofactor_checker.proofs.LemmaOutcomes.{shows_result}
 use Rattle.cofactor_checker.proofs.Judged.{not_refused_result}
-use Rattle.traced_rows.specs.declared.evidence.Evidence.TheVariants.{Lemmas}
 use Rattle.cofactor_checker.proofs.evidence.check_evidence.Goals as goal
 
 pub returns-in-Lemmas-clause-adds_up : goal.returns-in-Lemmas-clause-adds_up

@@ -1,9 +1,5 @@
-use Rattle.std.proofs.Common.{rules, ◌≡◌, Err, refl, to_z, of_z}
+use Rattle.cofactor_checker.proofs.Prelude.{rules, ◌≡◌, Err, refl, to_z, of_z, polynomials, IsSumOf, plain_sum, LemmaRowsPass, RefusesLemmaRows}
 use mir.Syntax.{w128}
-use Rattle.adjoint_rules.specs.Problem.{polynomials}
-use Rattle.cofactor_checker.specs.Running.{IsSumOf}
-use Rattle.cofactor_checker.specs.PlainRows.{plain_sum}
-use Rattle.cofactor_checker.specs.Lemmas.{LemmaRowsPass, RefusesLemmaRows}
 use Rattle.cofactor_checker.proofs.LemmaOutcomes.{goal_from_rows}
 use Rattle.cofactor_checker.proofs.RowTests.{told_of_lemma}
 use Rattle.cofactor_checker.proofs.Outcomes.{sums_agree, sums_differ}

@@ -1,9 +1,5 @@
-use Rattle.std.proofs.Common.{rules, ◌≡◌, Err, ap, ◌∙◌, to_z, of_z}
+use Rattle.cofactor_checker.proofs.Prelude.{rules, ◌≡◌, Err, ap, ◌∙◌, to_z, of_z, polynomials, ReachesClaim, RefusesGoal, row_count, goal_claim, all_polynomials, HasLemmas, GoalBegins}
 use mir.Syntax.{w128}
-use Rattle.adjoint_rules.specs.Problem.{polynomials}
-use Rattle.cofactor_checker.specs.Goals.{ReachesClaim, RefusesGoal}
-use Rattle.cofactor_checker.specs.Lemmas.{row_count}
-use Rattle.cofactor_checker.specs.LemmaAcceptance.{goal_claim, all_polynomials, HasLemmas, GoalBegins}
 use Rattle.cofactor_checker.proofs.LemmaOutcomes.{refuses_from_lemmas, refuses_from_goal}
 use Rattle.cofactor_checker.proofs.Judged.{begun, told_start}
 use Rattle.cofactor_checker.proofs.lemma_certificate.check_lemmas.Goals as goal

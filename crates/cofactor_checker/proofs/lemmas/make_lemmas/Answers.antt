@@ -1,7 +1,4 @@
-use Rattle.std.proofs.Common.{rules, ◌≡◌, ◌+◌, ◌<◌, ◌≤◌, ◌++◌, [], ◌∷◌, length, sym, ap, ◌∙◌, arith}
-use Rattle.std.proofs.lemmas.List.{length-append}
-use Rattle.adjoint_rules.specs.Problem.{polynomials}
-use Rattle.cofactor_checker.specs.Lemmas.{lemma_polynomial, term_total, IsMade, LemmaPasses}
+use Rattle.cofactor_checker.proofs.Prelude.{rules, ◌≡◌, ◌+◌, ◌<◌, ◌≤◌, ◌++◌, [], ◌∷◌, length, sym, ap, ◌∙◌, arith, length-append, polynomials, lemma_polynomial, term_total, IsMade, LemmaPasses}
 use Rattle.cofactor_checker.specs.declared.refusal.Refusal.TheVariants as refusal
 use Rattle.cofactor_checker.proofs.LemmaSteps.{refuse_here, goes_on, polynomials_more, total_more}
 use Rattle.cofactor_checker.proofs.lemmas.make_lemmas.Goals as goal

@@ -1,6 +1,4 @@
-use Rattle.std.proofs.Common.{◌≡◌, ◌≤◌, length}
-use Rattle.adjoint_rules.specs.Problem.{polynomials}
-use Rattle.cofactor_checker.specs.Lemmas.{term_total}
+use Rattle.cofactor_checker.proofs.Prelude.{◌≡◌, ◌≤◌, length, polynomials, term_total}
 use Rattle.cofactor_checker.proofs.LemmaSteps.{LemmasUpTo}
 use Rattle.cofactor_checker.proofs.lemmas.make_lemmas.Given as goal
 

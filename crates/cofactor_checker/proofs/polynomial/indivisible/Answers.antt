@@ -1,8 +1,5 @@
-use Rattle.std.proofs.Common.{rules, ◌≡◌, [], ◌∷◌, ◌++◌, sym, subst, arith, to_z, of_z}
+use Rattle.cofactor_checker.proofs.Prelude.{rules, ◌≡◌, [], ◌∷◌, ◌++◌, sym, subst, arith, to_z, of_z, unsigned_abs, DividesEach, IsLeastIndivisible}
 use mir.Syntax.{w128}
-use Rattle.std.specs.Int.RustNames.{unsigned_abs}
-use Rattle.nc_polynomial.specs.Content.{DividesEach}
-use Rattle.cofactor_checker.specs.Lemmas.{IsLeastIndivisible}
 use Rattle.cofactor_checker.proofs.Each.{clash}
 use Rattle.cofactor_checker.proofs.Terms.{empty, last_indivisible, indivisible_before, all_divisible}
 use Rattle.cofactor_checker.proofs.polynomial.indivisible.Goals as goal

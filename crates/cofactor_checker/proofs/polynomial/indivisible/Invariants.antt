@@ -1,7 +1,4 @@
-use Rattle.std.proofs.Common.{ℕ, ℤ, List, length}
-use Rattle.std.specs.Int.RustNames.{unsigned_abs}
-use Rattle.nc_polynomial.specs.Content.{DividesEach}
-use Rattle.cofactor_checker.specs.Lemmas.{IsLeastIndivisible}
+use Rattle.cofactor_checker.proofs.Prelude.{ℕ, ℤ, List, length, unsigned_abs, DividesEach, IsLeastIndivisible}
 use Rattle.cofactor_checker.proofs.polynomial.indivisible.Given as goal
 
 abbrev pub invariant-loop-term : goal.invariant-loop-term

@@ -1,19 +1,7 @@
-use Rattle.std.proofs.Common.{rules, ◌≡◌, ◌+◌, [], length, Ok, Err, map, int_div, sym, ap, subst, ◌∙◌, to_z, of_z}
+use Rattle.cofactor_checker.proofs.Prelude.{rules, ◌≡◌, ◌+◌, [], length, Ok, Err, map, int_div, sym, ap, subst, ◌∙◌, to_z, of_z, IsOrdered, word_cmp, poly_multiple, polynomials, reversed, collected, sized, Explains, sized-value, shaped-table, IsRunning, IsSumOf, plain_sum, HasLeastIndivisible, IsDivisible}
 use mir.Syntax.{w128}
-use Rattle.std.specs.BTreeMap.{IsOrdered}
-use Rattle.word_core.specs.Canonical.{word_cmp}
-use Rattle.definitions.specs.Poly.{poly_multiple}
-use Rattle.adjoint_rules.specs.Problem.{polynomials}
-use Rattle.nc_polynomial.specs.Ascending.{reversed}
-use Rattle.nc_polynomial.specs.Collected.{collected}
-use Rattle.nc_polynomial.specs.Faults.{sized, Explains}
 use Rattle.nc_polynomial.specs.declared.fault.PolyFault.TheVariants as fault
-use Rattle.nc_polynomial.proofs.Chains.{sized-value}
-use Rattle.nc_polynomial.proofs.Tables.{shaped-table}
-use Rattle.cofactor_checker.specs.Running.{IsRunning, IsSumOf}
 use Rattle.cofactor_checker.proofs.RowSums.{length-polynomials}
-use Rattle.cofactor_checker.specs.PlainRows.{plain_sum}
-use Rattle.cofactor_checker.specs.Lemmas.{HasLeastIndivisible, IsDivisible}
 use Rattle.cofactor_checker.proofs.RowTests.{told_of_lemma}
 use Rattle.cofactor_checker.proofs.LemmaTests.{rows_told}
 use Rattle.cofactor_checker.proofs.Terms.{collected_is, quotient_back, no_overflow}

@@ -1,14 +1,5 @@
-use Rattle.std.proofs.Common.{rules, ◌≡◌, ◌+◌, ◌<◌, ◌≤◌, length, map, Some, sym, refl, ◌∙◌, subst, arith, to_z, of_z}
+use Rattle.cofactor_checker.proofs.Prelude.{rules, ◌≡◌, ◌+◌, ◌<◌, ◌≤◌, length, map, Some, sym, refl, ◌∙◌, subst, arith, to_z, of_z, length-map, slice_get_read, hash_map_len, first_overflow, generator_at, polynomials, adding_operations, StopsAt, coefficient_at}
 use mir.Syntax.{w128}
-use Rattle.std.proofs.lemmas.List.{length-map}
-use Rattle.std.proofs.lemmas.Option.{slice_get_read}
-use Rattle.std.specs.HashMap.{hash_map_len}
-use Rattle.coef_int.specs.Operations.{first_overflow}
-use Rattle.definitions.specs.Combination.{generator_at}
-use Rattle.adjoint_rules.specs.Problem.{polynomials}
-use Rattle.cofactor_checker.specs.Operations.{adding_operations}
-use Rattle.cofactor_checker.specs.RowRefusals.{StopsAt}
-use Rattle.cofactor_checker.specs.Table.{coefficient_at}
 use Rattle.cofactor_checker.specs.declared.refusal.Refusal.TheVariants as refusal
 use Rattle.cofactor_checker.proofs.RowSums.{IsNext, IsAdded, stops_lacking, stops_overflowing, stops_outgrown, passes, whole_sum, all_pass}
 use Rattle.cofactor_checker.proofs.rows.add_rows.Given.{Over}

@@ -1,5 +1,4 @@
-use Rattle.std.proofs.Common.{◌≡◌, ◌+◌, map}
-use Rattle.adjoint_rules.specs.Problem.{polynomials}
+use Rattle.cofactor_checker.proofs.Prelude.{◌≡◌, ◌+◌, map, polynomials}
 use Rattle.cofactor_checker.proofs.RowSums.{SumsUpTo}
 use Rattle.cofactor_checker.proofs.rows.add_rows.Given as goal
 

@@ -1,5 +1,4 @@
-use Rattle.std.proofs.Common.{rules, ◌≡◌}
-use Rattle.std.specs.Int.RustNames.{unsigned_abs}
+use Rattle.cofactor_checker.proofs.Prelude.{rules, ◌≡◌, unsigned_abs}
 use Rattle.cofactor_checker.proofs.Each.{divides_tells}
 use Rattle.cofactor_checker.proofs.scales.divides.Goals as goal
 

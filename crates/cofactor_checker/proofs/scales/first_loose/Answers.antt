@@ -1,6 +1,5 @@
-use Rattle.std.proofs.Common.{rules, ◌≡◌, All, length, take, refl, sym, subst, arith, to_z, of_z}
+use Rattle.cofactor_checker.proofs.Prelude.{rules, ◌≡◌, All, length, take, refl, sym, subst, arith, to_z, of_z, slice_get_read}
 use mir.Syntax.{w128}
-use Rattle.std.proofs.lemmas.Option.{slice_get_read}
 use Rattle.cofactor_checker.proofs.Each.{all_whole, clash}
 use Rattle.cofactor_checker.proofs.scales.first_loose.Goals as goal
 

@@ -1,4 +1,4 @@
-use Rattle.std.proofs.Common.{All, take}
+use Rattle.cofactor_checker.proofs.Prelude.{All, take}
 use Rattle.cofactor_checker.proofs.scales.have_scales.Given as goal
 
 abbrev pub invariant-loop-item : goal.invariant-loop-item

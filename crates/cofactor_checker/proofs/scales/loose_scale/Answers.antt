@@ -1,4 +1,4 @@
-use Rattle.std.proofs.Common.{rules, ◌≡◌, All, inl, inr, refl, to_z, of_z}
+use Rattle.cofactor_checker.proofs.Prelude.{rules, ◌≡◌, All, inl, inr, refl, to_z, of_z}
 use mir.Syntax.{w128}
 use Rattle.cofactor_checker.proofs.Each.{clash}
 use Rattle.cofactor_checker.proofs.scales.loose_scale.Goals as goal

@@ -1,8 +1,5 @@
-use Rattle.std.proofs.Common.{rules, ◌≡◌, Some, None, IsTrue, inl, inr, refl, to_z, of_z}
+use Rattle.cofactor_checker.proofs.Prelude.{rules, ◌≡◌, Some, None, IsTrue, inl, inr, refl, to_z, of_z, first_overflow, products, ArePositive}
 use mir.Syntax.{w128}
-use Rattle.coef_int.specs.Operations.{first_overflow}
-use Rattle.nc_polynomial.specs.Terms.{products}
-use Rattle.cofactor_checker.specs.Starts.{ArePositive}
 use Rattle.cofactor_checker.proofs.RowSums.{Names, named}
 use Rattle.cofactor_checker.proofs.start.posed_claim.Given.{Over}
 use Rattle.cofactor_checker.proofs.start.posed_claim.Goals as goal

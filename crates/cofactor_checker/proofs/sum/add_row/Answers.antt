@@ -1,12 +1,6 @@
-use Rattle.std.proofs.Common.{rules, ◌≡◌, ◌+◌, ◌*ℤ◌, Err, sym, subst, ◌∙◌, to_z, of_z}
+use Rattle.cofactor_checker.proofs.Prelude.{rules, ◌≡◌, ◌+◌, ◌*ℤ◌, Err, sym, subst, ◌∙◌, to_z, of_z, IsCoefficient, product_of, first_overflow, err_whole, adding_operations, IsStoppedBy, coefficient_at}
 use mir.Syntax.{w128}
-use Rattle.coef_int.specs.Range.{IsCoefficient}
 use Rattle.lists.specs.declared.stop.Stop.TheVariants as stop
-use Rattle.coef_int.specs.Operations.{product_of, first_overflow}
-use Rattle.nc_polynomial.proofs.Results.{err_whole}
-use Rattle.cofactor_checker.specs.Operations.{adding_operations}
-use Rattle.cofactor_checker.specs.Running.{IsStoppedBy}
-use Rattle.cofactor_checker.specs.Table.{coefficient_at}
 use Rattle.cofactor_checker.proofs.Adding.{AddsUpTo, IsNextTerm, product_fails, sum_stopped, goes_on}
 use Rattle.cofactor_checker.proofs.sum.add_row.Goals as goal
 use Rattle.cofactor_checker.proofs.sum.add_row.Goals.{After-term-item, After-loop-term}

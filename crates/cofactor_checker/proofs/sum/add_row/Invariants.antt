@@ -1,4 +1,4 @@
-use Rattle.cofactor_checker.specs.Table.{IsTable}
+use Rattle.cofactor_checker.proofs.Prelude.{IsTable}
 use Rattle.cofactor_checker.proofs.Adding.{AddsUpTo}
 use Rattle.cofactor_checker.proofs.sum.add_row.Given as goal
 

@@ -1,7 +1,4 @@
-use Rattle.std.proofs.Common.{rules, ◌≡◌, ◌≢◌, ◌+ℤ◌, pos, Some, None, ◌∙◌, arith}
-use Rattle.std.proofs.lemmas.Int.{ints}
-use Rattle.coef_int.specs.Range.{IsCoefficient}
-use Rattle.cofactor_checker.specs.Table.{coefficient_at}
+use Rattle.cofactor_checker.proofs.Prelude.{rules, ◌≡◌, ◌≢◌, ◌+ℤ◌, pos, Some, None, ◌∙◌, arith, ints, IsCoefficient, coefficient_at}
 use Rattle.cofactor_checker.proofs.TableUpdates.{adds_from_update, table_from_update}
 use Rattle.cofactor_checker.proofs.table.add_term.Goals as goal
 

@@ -1,4 +1,4 @@
-use Rattle.std.proofs.Common.{rules, ◌≡◌, ◌≢◌, get_or, length, sym}
+use Rattle.cofactor_checker.proofs.Prelude.{rules, ◌≡◌, ◌≢◌, get_or, length, sym}
 use Rattle.cofactor_checker.proofs.Words.{apart_by_length, apart_by_letter, same_by_letters}
 use Rattle.cofactor_checker.proofs.table.are_same.Goals as goal
 

@@ -1,4 +1,4 @@
-use Rattle.std.proofs.Common.{◌≡◌, take}
+use Rattle.cofactor_checker.proofs.Prelude.{◌≡◌, take}
 use Rattle.cofactor_checker.proofs.table.are_same.Given as goal
 
 abbrev pub invariant-loop-place : goal.invariant-loop-place

@@ -1,5 +1,4 @@
-use Rattle.std.proofs.Common.{◌≡◌, take}
-use Rattle.cofactor_checker.specs.Table.{digest}
+use Rattle.cofactor_checker.proofs.Prelude.{◌≡◌, take, digest}
 use Rattle.cofactor_checker.proofs.table.digest.Given as goal
 
 abbrev pub invariant-loop-place : goal.invariant-loop-place

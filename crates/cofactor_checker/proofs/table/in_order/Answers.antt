@@ -1,8 +1,4 @@
-use Rattle.std.proofs.Common.{rules, ◌≡◌, ◌∷◌, Some}
-use Rattle.std.specs.BTreeMap.{Updates}
-use Rattle.std.specs.HashMap.{IsUnique}
-use Rattle.word_core.specs.Canonical.{word_cmp}
-use Rattle.definitions.specs.Poly.{word_eq}
+use Rattle.cofactor_checker.proofs.Prelude.{rules, ◌≡◌, ◌∷◌, Some, Updates, IsUnique, word_cmp, word_eq}
 use Rattle.cofactor_checker.proofs.InOrder.{Moves, begins, running_more, moves_more}
 use Rattle.cofactor_checker.proofs.table.in_order.Goals as goal
 

@@ -1,6 +1,4 @@
-use Rattle.std.specs.BTreeMap.{IsOrdered}
-use Rattle.word_core.specs.Canonical.{word_cmp}
-use Rattle.cofactor_checker.specs.Running.{IsRunning}
+use Rattle.cofactor_checker.proofs.Prelude.{IsOrdered, word_cmp, IsRunning}
 use Rattle.cofactor_checker.proofs.InOrder.{Moves}
 use Rattle.cofactor_checker.proofs.table.in_order.Given as goal
 

@@ -1,6 +1,4 @@
-use Rattle.std.proofs.Common.{◌≡◌, ◌<ℤ◌, pos, drop}
-use Rattle.coef_int.specs.Range.{IsCoefficient}
-use Rattle.cofactor_trace.specs.Expansion.{content_of}
+use Rattle.cofactor_trace.proofs.Prelude.{◌≡◌, ◌<ℤ◌, pos, drop, IsCoefficient, content_of}
 use Rattle.cofactor_trace.proofs.divisor.content.Given as goal
 
 abbrev pub invariant-loop-row : goal.invariant-loop-row

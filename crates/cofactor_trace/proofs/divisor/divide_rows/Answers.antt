@@ -1,10 +1,4 @@
-use Rattle.std.proofs.Common.{rules, ◌≡◌, ◌++◌, [], ◌∷◌, length, int_div, map, sym, ap, ◌∙◌, subst, append_assoc, arith}
-use Rattle.std.specs.List.{All}
-use Rattle.std.specs.Vec.Iter.{into_iter_items}
-use Rattle.std.proofs.lemmas.List.Elements.{All-tail}
-use Rattle.coef_int.specs.Range.{IsCoefficient}
-use Rattle.cofactor_trace.specs.Expansion.{divided_row}
-use Rattle.traced_rows.proofs.Lists.{all_push}
+use Rattle.cofactor_trace.proofs.Prelude.{rules, ◌≡◌, ◌++◌, [], ◌∷◌, length, int_div, map, sym, ap, ◌∙◌, subst, append_assoc, arith, All, into_iter_items, All-tail, IsCoefficient, divided_row, all_push}
 use Rattle.cofactor_trace.proofs.divisor.divide_rows.Goals as goal
 
 pub loop-row-preserved : goal.loop-row-preserved

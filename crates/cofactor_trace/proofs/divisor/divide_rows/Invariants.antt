@@ -1,8 +1,4 @@
-use Rattle.std.proofs.Common.{◌≡◌, ◌++◌, length, map}
-use Rattle.std.specs.List.{All}
-use Rattle.std.specs.Vec.Iter.{into_iter_items, into_iter_len}
-use Rattle.coef_int.specs.Range.{IsCoefficient}
-use Rattle.cofactor_trace.specs.Expansion.{divided_row}
+use Rattle.cofactor_trace.proofs.Prelude.{◌≡◌, ◌++◌, length, map, All, into_iter_items, into_iter_len, IsCoefficient, divided_row}
 use Rattle.cofactor_trace.proofs.divisor.divide_rows.Given as goal
 
 -- the rows so far, and those that are left as they will be

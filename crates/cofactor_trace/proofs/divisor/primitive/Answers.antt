@@ -1,7 +1,4 @@
-use Rattle.std.proofs.Common.{rules, ◌≡◌, ◌<ℤ◌, pos, int_div, map, sym, subst}
-use Rattle.std.specs.Int.{◌∣◌}
-use Rattle.std.specs.Int.RustNames.{unsigned_abs}
-use Rattle.cofactor_trace.specs.Expansion.{content_of}
+use Rattle.cofactor_trace.proofs.Prelude.{rules, ◌≡◌, ◌<ℤ◌, pos, int_div, map, sym, subst, ◌∣◌, unsigned_abs, content_of}
 use Rattle.cofactor_trace.proofs.Divisors.{quotient_positive, content-first}
 use Rattle.cofactor_trace.proofs.divisor.primitive.Goals as goal
 

@@ -1,9 +1,4 @@
-use Rattle.std.proofs.Common.{rules, ◌≡◌, ◌*ℤ◌, ◌<ℤ◌, pos, int_div, IfOk, IfErr, IsOk, ◌↔◌, sym, subst}
-use Rattle.std.proofs.lemmas.Result.{IfOk-weaker}
-use Rattle.coef_int.specs.Divisor.{gcd_of}
-use Rattle.coef_int.specs.Operations.{product_of}
-use Rattle.coef_int.specs.Range.{IsCoefficient}
-use Rattle.cofactor_trace.specs.Expansion.{lcm_of}
+use Rattle.cofactor_trace.proofs.Prelude.{rules, ◌≡◌, ◌*ℤ◌, ◌<ℤ◌, pos, int_div, IfOk, IfErr, IsOk, ◌↔◌, sym, subst, IfOk-weaker, gcd_of, product_of, IsCoefficient, lcm_of}
 use Rattle.cofactor_trace.proofs.Divisors.{lcm_of-positive}
 use Rattle.cofactor_trace.proofs.Operations.{checked_product, checked_product-in_range}
 use Rattle.cofactor_trace.proofs.divisor.raise.Goals as goal

@@ -1,11 +1,4 @@
-use Rattle.std.proofs.Common.{rules, ◌≡◌, ◌-◌, ◌∷◌, ◌++◌, [], Err, sym, subst, arith}
-use Rattle.std.specs.List.{All}
-use Rattle.std.specs.Map.{values_of}
-use Rattle.std.specs.BTreeMap.{insert_entry}
-use Rattle.std.specs.Ordering.{nat_cmp}
-use Rattle.std.proofs.lemmas.Map.Views.{All-values-insert_entry}
-use Rattle.cofactor_trace.specs.Needed.{IsRecord, Expansions}
-use Rattle.cofactor_trace.specs.Ranges.{IsRanged}
+use Rattle.cofactor_trace.proofs.Prelude.{rules, ◌≡◌, ◌-◌, ◌∷◌, ◌++◌, [], Err, sym, subst, arith, All, values_of, insert_entry, nat_cmp, All-values-insert_entry, IsRecord, Expansions, IsRanged}
 use Rattle.cofactor_trace.proofs.NeededLaws.{IsUnderWay, IsTaken, taken_number, taken, goes_on, stops, starts}
 use Rattle.cofactor_trace.proofs.expansion.expand.Goals as goal
 use Rattle.cofactor_trace.proofs.expansion.expand.Goals.{After-index-made-number, After-insert}

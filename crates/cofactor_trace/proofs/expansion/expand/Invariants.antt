@@ -1,7 +1,4 @@
-use Rattle.std.proofs.Common.{length}
-use Rattle.std.specs.List.{All}
-use Rattle.std.specs.Map.{values_of}
-use Rattle.cofactor_trace.specs.Ranges.{IsRanged}
+use Rattle.cofactor_trace.proofs.Prelude.{length, All, values_of, IsRanged}
 use Rattle.cofactor_trace.proofs.NeededLaws.{IsUnderWay}
 use Rattle.cofactor_trace.proofs.expansion.expand.Given as goal
 

@@ -1,6 +1,4 @@
-use Rattle.std.proofs.Common.{◌≡◌, ℕ, ◌+◌, ◌<◌, ◌≤◌, ◌^◌, ◌||◌, false, drop, get_or, length}
-use Rattle.std.specs.List.{list_any}
-use Rattle.cofactor_trace.specs.Needed.{is_rule}
+use Rattle.cofactor_trace.proofs.Prelude.{◌≡◌, ℕ, ◌+◌, ◌<◌, ◌≤◌, ◌^◌, ◌||◌, false, drop, get_or, length, list_any, is_rule}
 use Rattle.cofactor_trace.proofs.expansion.mark.Given as goal
 
 -- what is marked so far, and what the rows that are left name

@@ -1,13 +1,4 @@
-use Rattle.std.proofs.Common.{rules, ◌≡◌, ◌+◌, ◌-◌, ◌<◌, ◌≤◌, ◌^◌, ◌∷◌, ◌++◌, [], length, refl, true, false, ◌||◌, get_or, Some, sym, ap, subst, ◌∙◌, arith}
-use Rattle.std.specs.List.{All, slice_get, list_any}
-use Rattle.std.proofs.lemmas.Grind.{common_steps}
-use Rattle.std.proofs.lemmas.List.{get_or_default}
-use Rattle.std.proofs.lemmas.List.Elements.{All-weaker}
-use Rattle.std.proofs.lemmas.Option.{slice_get_read}
-use Rattle.traced_rows.specs.declared.Row.{Row}
-use Rattle.cofactor_trace.specs.Needed.{IsAmongFirst, IsRecord, is_rule}
-use Rattle.traced_rows.specs.declared.Made.{Made}
-use Rattle.traced_rows.proofs.Lists.{all_push, below}
+use Rattle.cofactor_trace.proofs.Prelude.{rules, ◌≡◌, ◌+◌, ◌-◌, ◌<◌, ◌≤◌, ◌^◌, ◌∷◌, ◌++◌, [], length, refl, true, false, ◌||◌, get_or, Some, sym, ap, subst, ◌∙◌, arith, All, slice_get, list_any, common_steps, get_or_default, All-weaker, slice_get_read, Row, IsAmongFirst, IsRecord, is_rule, Made, all_push, below}
 use Rattle.cofactor_trace.proofs.NeededLaws.{IsMarked, among_more, marked-start, marked-yes, marked-no}
 use Rattle.cofactor_trace.proofs.expansion.needed_numbers.Goals as goal
 

@@ -1,5 +1,4 @@
-use Rattle.std.proofs.Common.{◌≡◌, ℕ, ◌+◌, ◌<◌, ◌≤◌, ◌^◌, false, get_or}
-use Rattle.std.specs.List.{All}
+use Rattle.cofactor_trace.proofs.Prelude.{◌≡◌, ℕ, ◌+◌, ◌<◌, ◌≤◌, ◌^◌, false, get_or, All}
 use Rattle.cofactor_trace.proofs.NeededLaws.{IsMarked}
 use Rattle.cofactor_trace.proofs.expansion.needed_numbers.Given as goal
 

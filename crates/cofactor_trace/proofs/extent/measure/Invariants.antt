@@ -1,6 +1,4 @@
-use Rattle.std.proofs.Common.{◌≡◌, drop}
-use Rattle.std.specs.List.{fold}
-use Rattle.cofactor_trace.specs.LemmaSizes.{letters_with}
+use Rattle.cofactor_trace.proofs.Prelude.{◌≡◌, drop, fold, letters_with}
 use Rattle.cofactor_trace.proofs.extent.measure.Given as goal
 
 abbrev pub invariant-loop-row : goal.invariant-loop-row

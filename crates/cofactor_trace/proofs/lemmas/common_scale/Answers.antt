@@ -1,10 +1,4 @@
-use Rattle.std.proofs.Common.{rules, ◌≡◌, pos, ◌++◌, ◌∷◌, [], drop, map, Some, None, Err, MatchResult, sym, ap, subst, ◌∙◌, arith}
-use Rattle.std.proofs.lemmas.List.{drop_all}
-use Rattle.coef_int.specs.Range.{IsCoefficient}
-use Rattle.coef_int.specs.Operations.{first_overflow}
-use Rattle.traced_rows.specs.declared.Made.{Made}
-use Rattle.cofactor_trace.specs.Expansion.{lcm_of, common_multiple, multiple_products}
-use Rattle.cofactor_trace.specs.Naming.{IsScaled, records}
+use Rattle.cofactor_trace.proofs.Prelude.{rules, ◌≡◌, pos, ◌++◌, ◌∷◌, [], drop, map, Some, None, Err, MatchResult, sym, ap, subst, ◌∙◌, arith, drop_all, IsCoefficient, first_overflow, Made, lcm_of, common_multiple, multiple_products, IsScaled, records}
 use Rattle.cofactor_trace.proofs.NamedRecords.{of_record, multiple_next, products_next, products_stop}
 use Rattle.cofactor_trace.proofs.lemmas.common_scale.Goals as goal
 

@@ -1,8 +1,4 @@
-use Rattle.std.proofs.Common.{◌≡◌, ◌<ℤ◌, ◌++◌, ◌∷◌, [], pos, drop, map}
-use Rattle.coef_int.specs.Range.{IsCoefficient}
-use Rattle.coef_int.specs.Operations.{first_overflow}
-use Rattle.cofactor_trace.specs.Expansion.{common_multiple, multiple_products}
-use Rattle.cofactor_trace.specs.Naming.{records}
+use Rattle.cofactor_trace.proofs.Prelude.{◌≡◌, ◌<ℤ◌, ◌++◌, ◌∷◌, [], pos, drop, map, IsCoefficient, first_overflow, common_multiple, multiple_products, records}
 use Rattle.cofactor_trace.proofs.lemmas.common_scale.Given as goal
 
 abbrev pub invariant-loop-lemma : goal.invariant-loop-lemma

@@ -1,12 +1,6 @@
-use Rattle.std.proofs.Common.{rules, ◌≡◌, ◌++◌, ◌∷◌, [], pos, map, None, Some, Ok, Err, sym, ap, subst, ◌∙◌}
-use Rattle.std.specs.Option.{option_map}
-use Rattle.coef_int.specs.Operations.{first_overflow}
+use Rattle.cofactor_trace.proofs.Prelude.{rules, ◌≡◌, ◌++◌, ◌∷◌, [], pos, map, None, Some, Ok, Err, sym, ap, subst, ◌∙◌, option_map, first_overflow, common_multiple, multiple_products, lemma_of, lemma_records, scale_fault, gathered_of, extended_all, no_extent, limit_of, named_in, records}
 use Rattle.cofactor_trace.specs.declared.fault.GatherFault.TheVariants as fault
-use Rattle.cofactor_trace.specs.Expansion.{common_multiple, multiple_products}
 use Rattle.cofactor_trace.specs.GatherFaults.{Explains}
-use Rattle.cofactor_trace.specs.Lemmas.{lemma_of, lemma_records, scale_fault, gathered_of}
-use Rattle.cofactor_trace.specs.LemmaSizes.{extended_all, no_extent, limit_of}
-use Rattle.cofactor_trace.specs.Naming.{named_in, records}
 use Rattle.cofactor_trace.proofs.LemmaHalts.{explains-some, explains-behind, ok-behind}
 use Rattle.cofactor_trace.proofs.LemmaLaws.{gathered_is}
 use Rattle.cofactor_trace.proofs.lemmas.gather.Goals as goal

@@ -1,5 +1,4 @@
-use Rattle.std.proofs.Common.{length}
-use Rattle.cofactor_trace.specs.Needed.{IsRecord}
+use Rattle.cofactor_trace.proofs.Prelude.{length, IsRecord}
 use Rattle.cofactor_trace.proofs.NamedRecords.{of_record}
 use Rattle.cofactor_trace.proofs.lemmas.make_lemmas.Goals as goal
 

@@ -1,6 +1,4 @@
-use Rattle.std.proofs.Common.{◌≡◌, map, take}
-use Rattle.cofactor_trace.specs.Lemmas.{lemma_of}
-use Rattle.cofactor_trace.specs.Naming.{named_in, records}
+use Rattle.cofactor_trace.proofs.Prelude.{◌≡◌, map, take, lemma_of, named_in, records}
 use Rattle.cofactor_trace.proofs.lemmas.make_lemmas.Given as goal
 
 abbrev pub invariant-loop-lemma : goal.invariant-loop-lemma

@@ -1,10 +1,4 @@
-use Rattle.std.proofs.Common.{rules, ◌≡◌, ◌+◌, ◌-◌, ◌<◌, ◌^◌, ◌++◌, ◌∷◌, [], length, filter, set, unwrap_or, sym, ap, subst, ◌∙◌, arith}
-use Rattle.std.specs.List.{All}
-use Rattle.std.proofs.lemmas.List.{length-map}
-use Rattle.cofactor_trace.specs.Needed.{IsRecord}
-use Rattle.cofactor_trace.specs.Lemmas.{direct_of, is_lemma, lemma_at}
-use Rattle.cofactor_trace.specs.Naming.{records}
-use Rattle.traced_rows.proofs.Lists.{all_front, last_in}
+use Rattle.cofactor_trace.proofs.Prelude.{rules, ◌≡◌, ◌+◌, ◌-◌, ◌<◌, ◌^◌, ◌++◌, ◌∷◌, [], length, filter, set, unwrap_or, sym, ap, subst, ◌∙◌, arith, All, length-map, IsRecord, direct_of, is_lemma, lemma_at, records, all_front, last_in}
 use Rattle.cofactor_trace.proofs.NamingLaws.{IsTaken, taken, lemmas_before, goes_on, starts, all_named, all_found, are_records}
 use Rattle.cofactor_trace.proofs.naming.name_rules.Goals as goal
 use Rattle.cofactor_trace.proofs.naming.name_rules.Goals.{After-index-made-number}

@@ -1,6 +1,4 @@
-use Rattle.std.proofs.Common.{◌<◌, ◌^◌, length}
-use Rattle.std.specs.List.{All}
-use Rattle.cofactor_trace.specs.Naming.{records}
+use Rattle.cofactor_trace.proofs.Prelude.{◌<◌, ◌^◌, length, All, records}
 use Rattle.cofactor_trace.proofs.NamingLaws.{IsUnderWay}
 use Rattle.cofactor_trace.proofs.naming.name_rules.Given as goal
 

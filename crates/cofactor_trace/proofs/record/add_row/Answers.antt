@@ -1,14 +1,6 @@
-use Rattle.std.proofs.Common.{rules, ◌≡◌, ℤ, List, ◌*ℤ◌, ◌∷◌, [], map, None, Err, MatchResult, to_z, of_z, sym, ap, ap₂, subst, ◌∙◌}
+use Rattle.cofactor_trace.proofs.Prelude.{rules, ◌≡◌, ℤ, List, ◌*ℤ◌, ◌∷◌, [], map, None, Err, MatchResult, to_z, of_z, sym, ap, ap₂, subst, ◌∙◌, option_map, IsCoefficient, product_of, first-fits, first-fails, CertRow, share, overflow_in, IsFirst, known_from}
 use mir.Syntax.{w128}
-use Rattle.std.specs.Option.{option_map}
-use Rattle.coef_int.specs.Range.{IsCoefficient}
-use Rattle.coef_int.specs.Operations.{product_of}
-use Rattle.nc_polynomial.proofs.Chains.{first-fits, first-fails}
-use Rattle.traced_rows.specs.declared.certificate.CertRow.{CertRow}
 use Rattle.cofactor_trace.specs.declared.fault.ExpandFault.TheVariants as fault
-use Rattle.cofactor_trace.specs.Expansion.{share, overflow_in}
-use Rattle.cofactor_trace.specs.Faults.{IsFirst}
-use Rattle.cofactor_trace.specs.Needed.{known_from}
 use Rattle.cofactor_trace.proofs.record.add_row.Goals as goal
 
 pub returns-in_err-factor-clause-exact : goal.returns-in_err-factor-clause-exact

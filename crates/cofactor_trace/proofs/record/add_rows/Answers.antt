@@ -1,13 +1,5 @@
-use Rattle.std.proofs.Common.{rules, ◌≡◌, ◌+◌, [], drop, None, Err, sym, ap, subst, ◌∙◌}
-use Rattle.std.proofs.lemmas.List.Sums.{fold-append}
-use Rattle.std.specs.Option.{option_map}
-use Rattle.coef_int.specs.Operations.{first_overflow}
-use Rattle.nc_polynomial.proofs.Steps.{drop_next}
+use Rattle.cofactor_trace.proofs.Prelude.{rules, ◌≡◌, ◌+◌, [], drop, None, Err, sym, ap, subst, ◌∙◌, fold-append, option_map, first_overflow, drop_next, joined, joined_rows, joined_products, row_products, overflow_in, IsFirst, known_from, with_row, with_rows}
 use Rattle.cofactor_trace.specs.declared.fault.ExpandFault.TheVariants as fault
-use Rattle.cofactor_trace.specs.Expansion.{joined, joined_rows, joined_products, row_products, overflow_in}
-use Rattle.cofactor_trace.specs.Faults.{IsFirst}
-use Rattle.cofactor_trace.specs.Needed.{known_from}
-use Rattle.cofactor_trace.specs.Table.{with_row, with_rows}
 use Rattle.cofactor_trace.proofs.Operations.{first-behind}
 use Rattle.cofactor_trace.proofs.Halts.{is_first-append, unmapped-none}
 use Rattle.cofactor_trace.proofs.record.add_rows.Goals as goal

@@ -1,10 +1,4 @@
-use Rattle.std.proofs.Common.{◌≡◌, [], drop}
-use Rattle.std.specs.List.{All}
-use Rattle.std.specs.Map.{values_of}
-use Rattle.coef_int.specs.Operations.{first_overflow}
-use Rattle.cofactor_trace.specs.Expansion.{joined, joined_products}
-use Rattle.cofactor_trace.specs.Needed.{known_from}
-use Rattle.cofactor_trace.specs.Table.{IsInRange, with_rows}
+use Rattle.cofactor_trace.proofs.Prelude.{◌≡◌, [], drop, All, values_of, first_overflow, joined, joined_products, known_from, IsInRange, with_rows}
 use Rattle.cofactor_trace.proofs.record.add_rows.Given as goal
 
 abbrev pub invariant-loop-row : goal.invariant-loop-row

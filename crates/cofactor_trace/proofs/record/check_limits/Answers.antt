@@ -1,11 +1,5 @@
-use Rattle.std.proofs.Common.{rules, ◌≡◌, ◌+◌, ◌*ℤ◌, ◌∷◌, [], map, drop, None, MatchResult, sym, ap, subst, ◌∙◌, arith}
-use Rattle.std.proofs.lemmas.List.{drop_all}
-use Rattle.std.proofs.lemmas.List.Sums.{fold-append}
-use Rattle.nc_polynomial.proofs.Steps.{drop_next}
-use Rattle.cofactor_trace.specs.Expansion.{joined, joined_rows, joined_row, share}
-use Rattle.cofactor_trace.specs.Faults.{IsFirst}
-use Rattle.cofactor_trace.specs.Needed.{known_from}
-use Rattle.cofactor_trace.specs.Sizes.{measured, measured_all, limit_of}
+use Rattle.cofactor_trace.proofs.Prelude.{rules, ◌≡◌, ◌+◌, ◌*ℤ◌, ◌∷◌, [], map, drop, None, MatchResult, sym, ap, subst, ◌∙◌, arith, drop_all, fold-append, drop_next, joined, joined_rows, joined_row, share, IsFirst, known_from, measured, measured_all}
+use Rattle.cofactor_trace.specs.Sizes.{limit_of}
 use Rattle.cofactor_trace.proofs.SizeLaws.{no_size, limit_of-measured}
 use Rattle.cofactor_trace.proofs.record.check_limits.Goals as goal
 use Rattle.cofactor_trace.proofs.record.check_limits.Goals.{in-Generator, in-Rule}

@@ -1,7 +1,4 @@
-use Rattle.std.proofs.Common.{◌≡◌, drop}
-use Rattle.cofactor_trace.specs.Expansion.{joined}
-use Rattle.cofactor_trace.specs.Needed.{known_from}
-use Rattle.cofactor_trace.specs.Sizes.{measured_all}
+use Rattle.cofactor_trace.proofs.Prelude.{◌≡◌, drop, joined, known_from, measured_all}
 use Rattle.cofactor_trace.proofs.SizeLaws.{no_size}
 use Rattle.cofactor_trace.proofs.record.check_limits.Given as goal
 

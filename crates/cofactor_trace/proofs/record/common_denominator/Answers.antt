@@ -1,14 +1,5 @@
-use Rattle.std.proofs.Common.{rules, ◌≡◌, ◌+◌, ◌∷◌, [], pos, int_div, drop, Some, None, Err, sym, ap, ◌∙◌, arith}
-use Rattle.std.proofs.lemmas.List.{drop_all}
-use Rattle.std.specs.Option.{option_map}
-use Rattle.coef_int.specs.Range.{IsCoefficient}
-use Rattle.coef_int.specs.Operations.{product_of, first_overflow}
-use Rattle.nc_polynomial.proofs.Steps.{drop_next}
-use Rattle.nc_polynomial.proofs.Chains.{first-fits}
-use Rattle.coef_int.specs.Divisor.{gcd_of}
+use Rattle.cofactor_trace.proofs.Prelude.{rules, ◌≡◌, ◌+◌, ◌∷◌, [], pos, int_div, drop, Some, None, Err, sym, ap, ◌∙◌, arith, drop_all, option_map, IsCoefficient, product_of, first_overflow, drop_next, first-fits, gcd_of, lcm_of, multiple_products, denominators, common_multiple, overflow_in, known_from}
 use Rattle.cofactor_trace.specs.declared.fault.ExpandFault.TheVariants as fault
-use Rattle.cofactor_trace.specs.Expansion.{lcm_of, multiple_products, denominators, common_multiple, overflow_in}
-use Rattle.cofactor_trace.specs.Needed.{known_from}
 use Rattle.cofactor_trace.proofs.Operations.{first-before}
 use Rattle.cofactor_trace.proofs.record.common_denominator.Goals as goal
 

@@ -1,8 +1,4 @@
-use Rattle.std.proofs.Common.{◌≡◌, ◌<ℤ◌, pos, drop}
-use Rattle.coef_int.specs.Range.{IsCoefficient}
-use Rattle.coef_int.specs.Operations.{first_overflow}
-use Rattle.cofactor_trace.specs.Expansion.{multiple_products, denominators, common_multiple}
-use Rattle.cofactor_trace.specs.Needed.{known_from}
+use Rattle.cofactor_trace.proofs.Prelude.{◌≡◌, ◌<ℤ◌, pos, drop, IsCoefficient, first_overflow, multiple_products, denominators, common_multiple, known_from}
 use Rattle.cofactor_trace.proofs.record.common_denominator.Given as goal
 
 abbrev pub invariant-loop-row : goal.invariant-loop-row

@@ -1,14 +1,7 @@
-use Rattle.std.proofs.Common.{rules, ◌≡◌, ◌*ℤ◌, ◌<ℤ◌, [], pos, to_z, of_z, None, Err, Ok, sym, ap, subst, ◌∙◌}
+use Rattle.cofactor_trace.proofs.Prelude.{rules, ◌≡◌, ◌*ℤ◌, ◌<ℤ◌, [], pos, to_z, of_z, None, Err, Ok, sym, ap, subst, ◌∙◌, IsCoefficient, product_of, joined, joined_products, limit_fault, overflow_in, primitive, IsFirst, IsOverflowOf, known_from, with_rows, rows_in, same_number}
 use mir.Syntax.{w128}
-use Rattle.coef_int.specs.Range.{IsCoefficient}
-use Rattle.coef_int.specs.Operations.{product_of}
 use Rattle.cofactor_trace.specs.declared.fault.ExpandFault.TheVariants as fault
-use Rattle.cofactor_trace.specs.Expansion.{joined, joined_products, limit_fault, overflow_in, primitive}
-use Rattle.cofactor_trace.specs.Faults.{IsFirst, IsOverflowOf}
-use Rattle.cofactor_trace.specs.Needed.{known_from}
-use Rattle.cofactor_trace.specs.Table.{with_rows, rows_in}
 use Rattle.cofactor_trace.proofs.Divisors.{product_positive}
-use Rattle.traced_rows.proofs.Numbers.{same_number}
 use Rattle.cofactor_trace.proofs.RecordLaws.{IsCommon, Begins, AddsUp, at_common, at_denominator, at_limits, at_rows, at_gathering, at_end}
 use Rattle.cofactor_trace.proofs.record.expand_record.Goals as goal
 use Rattle.cofactor_trace.proofs.record.expand_record.Goals.{In_ok-denominator, In_ok-check_limits, In_ok-sums, After-from_residual, After-from_residual-in_err-check_limits, After-from_residual-in_err-sums, After-from_residual-in_err-gathered}

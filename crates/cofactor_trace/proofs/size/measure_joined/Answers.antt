@@ -1,7 +1,4 @@
-use Rattle.std.proofs.Common.{◌+◌, map, drop, sym, ap, ◌∙◌}
-use Rattle.nc_polynomial.proofs.Steps.{drop_next}
-use Rattle.cofactor_trace.specs.Expansion.{joined_row}
-use Rattle.cofactor_trace.specs.Sizes.{measured_all}
+use Rattle.cofactor_trace.proofs.Prelude.{◌+◌, map, drop, sym, ap, ◌∙◌, drop_next, joined_row, measured_all}
 use Rattle.cofactor_trace.proofs.size.measure_joined.Goals as goal
 
 pub loop-row-preserved : goal.loop-row-preserved

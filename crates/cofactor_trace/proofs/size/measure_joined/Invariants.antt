@@ -1,6 +1,4 @@
-use Rattle.std.proofs.Common.{◌≡◌, ℤ, drop, map}
-use Rattle.cofactor_trace.specs.Expansion.{joined_row}
-use Rattle.cofactor_trace.specs.Sizes.{measured_all}
+use Rattle.cofactor_trace.proofs.Prelude.{◌≡◌, ℤ, drop, map, joined_row, measured_all}
 use Rattle.cofactor_trace.proofs.size.measure_joined.Given as goal
 
 abbrev pub invariant-loop-row : goal.invariant-loop-row

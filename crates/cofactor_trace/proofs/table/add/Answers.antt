@@ -1,10 +1,4 @@
-use Rattle.std.proofs.Common.{rules, ◌≡◌, sym, subst}
-use Rattle.std.specs.BTreeMap.{insert_entry}
-use Rattle.std.specs.List.{All}
-use Rattle.std.specs.Map.{values_of}
-use Rattle.std.proofs.lemmas.Map.Views.{All-values-insert_entry}
-use Rattle.cofactor_trace.specs.Multiples.{multiple_cmp}
-use Rattle.cofactor_trace.specs.Table.{IsInRange, Entries, added, sum_in}
+use Rattle.cofactor_trace.proofs.Prelude.{rules, ◌≡◌, sym, subst, insert_entry, All, values_of, All-values-insert_entry, multiple_cmp, IsInRange, Entries, added, sum_in}
 use Rattle.cofactor_trace.proofs.TableLaws.{added-in_range}
 use Rattle.cofactor_trace.proofs.table.add.Goals as goal
 

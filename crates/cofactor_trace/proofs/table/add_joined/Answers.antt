@@ -1,14 +1,5 @@
-use Rattle.std.proofs.Common.{rules, ◌≡◌, ◌+◌, ◌++◌, ◌*ℤ◌, map, drop, Err, sym, ap, subst, ◌∙◌, arith}
-use Rattle.std.proofs.lemmas.List.{drop_all}
-use Rattle.std.specs.Option.{option_map}
-use Rattle.coef_int.specs.Range.{IsCoefficient}
-use Rattle.coef_int.specs.Operations.{product_of, first_overflow}
-use Rattle.nc_polynomial.proofs.Steps.{drop_next}
-use Rattle.traced_rows.specs.declared.certificate.CertRow.{CertRow}
+use Rattle.cofactor_trace.proofs.Prelude.{rules, ◌≡◌, ◌+◌, ◌++◌, ◌*ℤ◌, map, drop, Err, sym, ap, subst, ◌∙◌, arith, drop_all, option_map, IsCoefficient, product_of, first_overflow, drop_next, CertRow, joined_row, with_row, with_rows, same_number}
 use Rattle.cofactor_trace.specs.declared.fault.ExpandFault.TheVariants as fault
-use Rattle.cofactor_trace.specs.Expansion.{joined_row}
-use Rattle.cofactor_trace.specs.Table.{with_row, with_rows}
-use Rattle.traced_rows.proofs.Numbers.{same_number}
 use Rattle.cofactor_trace.proofs.Operations.{first_next, first_stops, first_none}
 use Rattle.cofactor_trace.proofs.table.add_joined.Goals as goal
 

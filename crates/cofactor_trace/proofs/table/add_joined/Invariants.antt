@@ -1,9 +1,4 @@
-use Rattle.std.proofs.Common.{◌≡◌, drop, map}
-use Rattle.std.specs.List.{All}
-use Rattle.std.specs.Map.{values_of}
-use Rattle.coef_int.specs.Operations.{product_of, first_overflow}
-use Rattle.cofactor_trace.specs.Expansion.{joined_row}
-use Rattle.cofactor_trace.specs.Table.{IsInRange, with_rows}
+use Rattle.cofactor_trace.proofs.Prelude.{◌≡◌, drop, map, All, values_of, product_of, first_overflow, joined_row, IsInRange, with_rows}
 use Rattle.cofactor_trace.proofs.table.add_joined.Given as goal
 
 abbrev pub invariant-loop-row : goal.invariant-loop-row

@@ -1,11 +1,4 @@
-use Rattle.std.proofs.Common.{rules, ◌≡◌, ◌++◌, ◌∷◌, Ok, sym, ap, subst, ◌∙◌}
-use Rattle.std.specs.List.{All}
-use Rattle.std.specs.Map.{values_of}
-use Rattle.std.proofs.lemmas.List.Elements.{All-head, All-tail, All-append}
-use Rattle.coef_int.specs.Range.{IsCoefficient}
-use Rattle.traced_rows.specs.declared.certificate.CertRow.{CertRow}
-use Rattle.cofactor_trace.specs.Gathered.{kept_row}
-use Rattle.cofactor_trace.specs.Table.{IsInRange, Sum, Entries, before, rows_in}
+use Rattle.cofactor_trace.proofs.Prelude.{rules, ◌≡◌, ◌++◌, ◌∷◌, Ok, sym, ap, subst, ◌∙◌, All, values_of, All-head, All-tail, All-append, IsCoefficient, CertRow, kept_row, IsInRange, Sum, Entries, before, rows_in}
 use Rattle.cofactor_trace.proofs.Gathering.{behind, behind-before, kept_row-in_range}
 use Rattle.cofactor_trace.proofs.table.nonzero_rows.Goals as goal
 

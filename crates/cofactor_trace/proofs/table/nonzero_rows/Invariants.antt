@@ -1,9 +1,4 @@
-use Rattle.std.proofs.Common.{◌≡◌}
-use Rattle.std.specs.BTreeMap.{btree_map_len}
-use Rattle.std.specs.List.{All}
-use Rattle.std.specs.Map.{values_of}
-use Rattle.coef_int.specs.Range.{IsCoefficient}
-use Rattle.cofactor_trace.specs.Table.{IsInRange, rows_in}
+use Rattle.cofactor_trace.proofs.Prelude.{◌≡◌, btree_map_len, All, values_of, IsCoefficient, IsInRange, rows_in}
 use Rattle.cofactor_trace.proofs.Gathering.{behind}
 use Rattle.cofactor_trace.proofs.table.nonzero_rows.Given as goal
 

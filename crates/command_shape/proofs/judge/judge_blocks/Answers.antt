@@ -1,7 +1,4 @@
-use Rattle.std.proofs.Common.{◌≡◌, ◌++◌, ℕ, ◌+◌, List, sym, subst, rules}
-use Rattle.command_shape.specs.Ending.{line}
-use Rattle.command_shape.specs.Blocks.{block_text}
-use Rattle.command_shape.specs.Judged.{Tells}
+use Rattle.command_shape.proofs.Prelude.{◌≡◌, ◌++◌, ℕ, ◌+◌, List, sym, subst, rules, line, block_text, Tells}
 use Rattle.command_shape.proofs.Judging.{GoesOn, with_accepted, with_refused, all_judged}
 use Rattle.command_shape.proofs.judge.judge_blocks.Goals as goal
 

@@ -1,5 +1,4 @@
-use Rattle.clap.specs.Words.{subcommand_of}
-use Rattle.command_shape.specs.CommandSet.{command_set}
+use Rattle.command_shape.proofs.Prelude.{subcommand_of, command_set}
 use Rattle.command_shape.proofs.Commands.{accepted}
 use Rattle.command_shape.proofs.Unique.{one_call}
 use Rattle.command_shape.proofs.read.accepted_lists_are_taken.Goals as goal

@@ -1,6 +1,4 @@
-use Rattle.std.proofs.Common.{subst, sym, IfOk}
-use Rattle.clap.specs.Words.{rows_of, found_of}
-use Rattle.command_shape.specs.Calls.{GivesCall}
+use Rattle.command_shape.proofs.Prelude.{subst, sym, IfOk, rows_of, found_of, GivesCall}
 use Rattle.command_shape.proofs.Getters.{is_prove, is_refute, is_bench, is_evidence}
 use Rattle.command_shape.proofs.read.call_of.Goals as goal
 

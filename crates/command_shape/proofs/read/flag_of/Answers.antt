@@ -1,8 +1,4 @@
-use Rattle.std.proofs.Common.{◌∙◌, ap, sym, Some, codes, ⊎_elim}
-use Rattle.std.specs.Prelude.{option_map}
-use Rattle.std.specs.Str.{bytes_eq}
-use Rattle.clap.specs.Words.{found_of}
-use Rattle.clap.proofs.WalkLemmas.{one_text-rows}
+use Rattle.command_shape.proofs.Prelude.{◌∙◌, ap, sym, Some, codes, ⊎_elim, option_map, bytes_eq, found_of, one_text-rows}
 use Rattle.command_shape.proofs.read.flag_of.Goals as goal
 
 pub returns : goal.returns

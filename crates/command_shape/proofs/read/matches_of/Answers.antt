@@ -1,10 +1,4 @@
-use Rattle.std.proofs.Common.{◌≡◌, true, map, string_bytes, ap, sym, ◌∙◌}
-use Rattle.clap.specs.Words.{App, app_of, is_simple, is_simple_and_free, fault_of, subcommand_of}
-use Rattle.std.proofs.Common.{[], inl, inr}
-use Rattle.clap.specs.Words.{HasKind, kind_of}
-use Rattle.clap.specs.declared.error.Error.{Error}
-use Rattle.clap.specs.declared.error.kind.ErrorKind.TheVariants.{OutOfMemory}
-use Rattle.command_shape.specs.CommandSet.{command_set, IsTaken}
+use Rattle.command_shape.proofs.Prelude.{◌≡◌, true, map, string_bytes, ap, sym, ◌∙◌, App, app_of, is_simple, is_simple_and_free, fault_of, subcommand_of, [], inl, inr, HasKind, kind_of, Error, OutOfMemory, command_set, IsTaken}
 use Rattle.command_shape.proofs.Simple.{set_is_simple, set_is_free}
 use Rattle.command_shape.proofs.read.matches_of.Goals as goal
 

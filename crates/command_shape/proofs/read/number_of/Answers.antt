@@ -1,8 +1,4 @@
-use Rattle.std.proofs.Common.{rules, ◌≡◌, ◌∙◌, ap, sym, Some}
-use Rattle.std.specs.Prelude.{option_map}
-use Rattle.std.specs.Str.Parse.{ParsesUnsigned, ExplainsUnsignedError, HasUnsignedDigitsIfOk, digits_value, without_leading_plus}
-use Rattle.clap.specs.Words.{found_of}
-use Rattle.clap.proofs.WalkLemmas.{one_text-rows}
+use Rattle.command_shape.proofs.Prelude.{rules, ◌≡◌, ◌∙◌, ap, sym, Some, option_map, ParsesUnsigned, ExplainsUnsignedError, HasUnsignedDigitsIfOk, digits_value, without_leading_plus, found_of, one_text-rows}
 use Rattle.command_shape.proofs.Getters.{got_number, some_number}
 use Rattle.command_shape.proofs.read.number_of.Goals as goal
 

@@ -1,10 +1,4 @@
-use Rattle.std.proofs.Common.{◌≡◌, ap, sym, subst, refl, map, string_bytes, Err}
-use Rattle.clap.specs.Words.{subcommand_of}
-use Rattle.command_shape.specs.CommandSet.{command_set}
-use Rattle.command_shape.specs.Calls.{MatchesGive}
-use Rattle.command_shape.specs.Present.{MatchesHave}
-use Rattle.command_shape.specs.declared.read.Refusal.{Refusal}
-use Rattle.command_shape.specs.declared.read.Refusal.TheVariants.{Words, Memory}
+use Rattle.command_shape.proofs.Prelude.{◌≡◌, ap, sym, subst, refl, map, string_bytes, Err, subcommand_of, command_set, MatchesGive, MatchesHave, Refusal, Words, Memory}
 use Rattle.command_shape.proofs.Commands.{accepted}
 use Rattle.command_shape.proofs.Entered.{taken_has}
 use Rattle.command_shape.proofs.Unique.{one_call}

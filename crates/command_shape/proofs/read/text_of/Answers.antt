@@ -1,8 +1,4 @@
-use Rattle.std.proofs.Common.{◌≡◌, ◌∙◌, ap, sym, Some, List, ℕ}
-use Rattle.std.specs.Prelude.{option_map}
-use Rattle.std.specs.Borrow.{Bor}
-use Rattle.clap.specs.Words.{rows_of, found_of, first_of}
-use Rattle.clap.proofs.WalkLemmas.{first_value-rows}
+use Rattle.command_shape.proofs.Prelude.{◌≡◌, ◌∙◌, ap, sym, Some, List, ℕ, option_map, Bor, rows_of, found_of, first_of, first_value-rows}
 use Rattle.command_shape.proofs.Getters.{some_text}
 use Rattle.command_shape.proofs.read.text_of.Goals as goal
 

@@ -1,7 +1,4 @@
-use Rattle.std.proofs.Common.{Bool, true, ap, ◌∙◌}
-use Rattle.clap.specs.Simple.{App, app_of_fields}
-use Rattle.clap.specs.declared.builder.command.Command.{Command}
-use Rattle.clap.specs.declared.builder.command.Command.TheOpen.{Command-F}
+use Rattle.command_shape.proofs.Prelude.{Bool, true, ap, ◌∙◌, App, app_of_fields, Command, Command-F}
 use Rattle.command_shape.proofs.set.bare_command.Goals as goal
 
 pub returns-clause-app : goal.returns-clause-app

@@ -1,4 +1,4 @@
-use Rattle.command_shape.specs.CommandSet.{command_set}
+use Rattle.command_shape.proofs.Prelude.{command_set}
 use Rattle.command_shape.proofs.set.command_set.Goals as goal
 
 pub returns : goal.returns

@@ -1,5 +1,4 @@
-use Rattle.std.proofs.Common.{◌∙◌, ap}
-use Rattle.clap.specs.Words.{new_app}
+use Rattle.command_shape.proofs.Prelude.{◌∙◌, ap, new_app}
 use Rattle.command_shape.proofs.set.pair_command.Goals as goal
 
 pub returns-clause-app : goal.returns-clause-app

@@ -1,11 +1,5 @@
-use Rattle.std.proofs.Common.{◌≡◌, ◌∙◌, List, IfOk, ap, sym, subst, take, get_or}
+use Rattle.command_shape.proofs.Prelude.{◌≡◌, ◌∙◌, List, IfOk, ap, sym, subst, take, get_or, take_more, fold_push, App, app_of, EvidenceCommand, Check, with_evidence}
 use Rattle.std.specs.List.{fold}
-use Rattle.std.proofs.lemmas.List.{take_more}
-use Rattle.std.proofs.lemmas.List.Sums.{fold_push}
-use Rattle.clap.specs.Words.{App, app_of}
-use Rattle.command_shape.specs.declared.evidence.EvidenceCommand.{EvidenceCommand}
-use Rattle.command_shape.specs.declared.evidence.EvidenceCommand.TheVariants.{Check}
-use Rattle.command_shape.specs.CommandSet.{with_evidence}
 use Rattle.command_shape.proofs.set.with_evidence.Goals as goal
 
 -- one command more

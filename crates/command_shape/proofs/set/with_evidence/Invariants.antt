@@ -1,8 +1,5 @@
-use Rattle.std.proofs.Common.{◌≡◌, IfOk, false, take}
+use Rattle.command_shape.proofs.Prelude.{◌≡◌, IfOk, false, take, App, app_of, fields_of, with_evidence}
 use Rattle.std.specs.List.{fold}
-use Rattle.clap.specs.Words.{App, app_of}
-use Rattle.clap.specs.declared.builder.command.Command.TheViews.{out-Command as fields_of}
-use Rattle.command_shape.specs.CommandSet.{with_evidence}
 use Rattle.command_shape.proofs.set.with_evidence.Given as goal
 
 -- the commands so far are below it

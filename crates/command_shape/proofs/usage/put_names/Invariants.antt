@@ -1,6 +1,4 @@
-use Rattle.std.proofs.Common.{◌≡◌, ◌++◌, codes, map, drop}
-use Rattle.clap.specs.Simple.{shape_of}
-use Rattle.command_shape.specs.Usage.{names_after}
+use Rattle.command_shape.proofs.Prelude.{◌≡◌, ◌++◌, codes, map, drop, shape_of, names_after}
 use Rattle.command_shape.proofs.usage.put_names.Given as goal
 use denote.Shadow.{shadow}
 use denote.Text.{Utf8}

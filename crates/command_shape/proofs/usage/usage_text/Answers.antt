@@ -1,8 +1,5 @@
-use Rattle.std.proofs.Common.{rules, ◌≡◌, ◌++◌, ◌∙◌, ap, sym, codes, map, append_assoc}
-use Rattle.std.proofs.lemmas.Simd.{map-map}
-use Rattle.clap.specs.Simple.{App, app_of, shape_of}
-use Rattle.command_shape.specs.CommandSet.{command_set}
-use Rattle.command_shape.specs.Usage.{names_after}
+use Rattle.command_shape.proofs.Prelude.{rules, ◌≡◌, ◌++◌, ◌∙◌, ap, sym, codes, map, map-map, App, app_of, shape_of, command_set, names_after}
+use Rattle.std.proofs.Common.{append_assoc}
 use Rattle.command_shape.proofs.usage.usage_text.Goals as goal
 
 -- the set that is made is the command set

@@ -1,14 +1,4 @@
-use Rattle.std.proofs.Common.{rules, ◌≡◌, ◌++◌, List, ℕ, codes, sym, subst, ap, ◌∙◌}
-use Rattle.std.specs.List.{All}
-use Rattle.std.proofs.lemmas.List.Elements.{All-map}
-use Rattle.word_core.specs.Letters.{IsOver}
-use Rattle.nc_polynomial.specs.declared.poly.Poly.{Poly}
-use Rattle.quiver.specs.Declarations.{letter_count}
-use Rattle.traced_rows.specs.declared.certificate.CertRow.{CertRow}
-use Rattle.adjoint_rules.specs.Problem.{polynomials}
-use Rattle.certificate_text.specs.Written.{opening_text}
-use Rattle.equation_chain.specs.Spelled.{lines_spelled, IsStepSpelled, IsLineSpelled}
-use Rattle.equation_chain.specs.Written.{lines_text}
+use Rattle.equation_chain.proofs.Prelude.{rules, ◌≡◌, ◌++◌, List, ℕ, codes, sym, subst, ap, ◌∙◌, All, All-map, IsOver, Poly, letter_count, CertRow, polynomials, opening_text, lines_spelled, IsStepSpelled, IsLineSpelled, lines_text}
 use Rattle.equation_chain.proofs.Spelled.{step_spelled, line_spelled, lines_are}
 use Rattle.equation_chain.proofs.Blocks.{chain_put}
 use Rattle.equation_chain.proofs.block.put_chain.Goals as goal

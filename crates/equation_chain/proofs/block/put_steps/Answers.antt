@@ -1,13 +1,4 @@
-use Rattle.std.proofs.Common.{rules, arith, ◌≡◌, ◌+◌, ◌<◌, ◌++◌, ◌∷◌, [], ℕ, take, length, get_or, ap, sym, subst, ◌∙◌}
-use Rattle.std.specs.List.{flat_map, zip}
-use Rattle.std.specs.Slice.Iter.{iter_rest}
-use Rattle.std.specs.Iterator.Adapters.{zip_first, zip_second}
-use Rattle.std.proofs.lemmas.List.{take_all, length-append, length-map}
-use Rattle.std.proofs.lemmas.Slice.Zip.{zip_turn, zip_end, length-zip}
-use Rattle.nc_polynomial.specs.declared.poly.Poly.{Poly}
-use Rattle.traced_rows.specs.declared.certificate.CertRow.{CertRow}
-use Rattle.adjoint_rules.specs.Problem.{polynomials}
-use Rattle.equation_chain.specs.Spelled.{use_by, line_by, IsStepSpelled, IsLineSpelled}
+use Rattle.equation_chain.proofs.Prelude.{rules, arith, ◌≡◌, ◌+◌, ◌<◌, ◌++◌, ◌∷◌, [], ℕ, take, length, get_or, ap, sym, subst, ◌∙◌, flat_map, zip, iter_rest, zip_first, zip_second, take_all, length-append, length-map, zip_turn, zip_end, length-zip, Poly, CertRow, polynomials, use_by, line_by, IsStepSpelled, IsLineSpelled}
 use Rattle.equation_chain.proofs.Blocks.{step_put, poly_at}
 use Rattle.equation_chain.proofs.block.put_steps.Goals as goal
 use Rattle.equation_chain.proofs.block.put_steps.Goals.{In-Some}

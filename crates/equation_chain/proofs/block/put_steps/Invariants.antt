@@ -1,7 +1,4 @@
-use Rattle.std.proofs.Common.{◌≡◌, ◌++◌, take, length}
-use Rattle.std.specs.List.{flat_map, zip}
-use Rattle.adjoint_rules.specs.Problem.{polynomials}
-use Rattle.equation_chain.specs.Spelled.{use_by, line_by}
+use Rattle.equation_chain.proofs.Prelude.{◌≡◌, ◌++◌, take, length, flat_map, zip, polynomials, use_by, line_by}
 use Rattle.equation_chain.proofs.block.put_steps.Given as goal
 
 -- the steps so far, each with its line

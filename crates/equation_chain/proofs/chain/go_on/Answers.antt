@@ -1,7 +1,4 @@
-use Rattle.std.proofs.Common.{◌≡◌, ◌++◌, [], ◌∷◌, Some, false, subst, ap, ◌∙◌}
-use Rattle.traced_rows.specs.declared.certificate.CertRow.{CertRow}
-use Rattle.equation_chain.specs.Steps.{is_step}
-use Rattle.equation_chain.specs.Made.{GoesOn}
+use Rattle.equation_chain.proofs.Prelude.{◌≡◌, ◌++◌, [], ◌∷◌, Some, false, subst, ap, ◌∙◌, CertRow, is_step, GoesOn}
 use Rattle.equation_chain.proofs.Making.{making_stays, making_goes_on}
 use Rattle.equation_chain.proofs.chain.go_on.Goals as goal
 

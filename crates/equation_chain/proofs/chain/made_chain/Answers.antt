@@ -1,6 +1,5 @@
-use Rattle.std.proofs.Common.{rules, arith, ◌≡◌, ◌≤◌, length, refl, ap, ◌∙◌, to_z, of_z}
+use Rattle.equation_chain.proofs.Prelude.{rules, arith, ◌≡◌, ◌≤◌, length, refl, ap, ◌∙◌, to_z, of_z, polynomials}
 use mir.Syntax.{w128}
-use Rattle.adjoint_rules.specs.Problem.{polynomials}
 use Rattle.equation_chain.proofs.Making.{making_begins, fewer, made_steps, made_lines}
 use Rattle.equation_chain.proofs.chain.made_chain.Goals as goal
 

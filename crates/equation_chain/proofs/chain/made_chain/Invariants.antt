@@ -1,5 +1,4 @@
-use Rattle.equation_chain.specs.Faults.{StepsPass}
-use Rattle.equation_chain.specs.Made.{IsMaking}
+use Rattle.equation_chain.proofs.Prelude.{StepsPass, IsMaking}
 use Rattle.equation_chain.proofs.chain.made_chain.Given as goal
 
 -- the chain after the rows so far, whose steps pass

@@ -1,11 +1,5 @@
-use Rattle.std.proofs.Common.{rules, arith, ◌≡◌, None, length, sym, ap, subst, ◌∙◌, to_z, of_z, List}
+use Rattle.equation_chain.proofs.Prelude.{rules, arith, ◌≡◌, None, length, sym, ap, subst, ◌∙◌, to_z, of_z, List, Term, first_overflow, scaled, products, IsNumberUpTo, length-polynomials, claim_in, letters_in}
 use mir.Syntax.{w128}
-use Rattle.definitions.specs.Poly.{Term}
-use Rattle.coef_int.specs.Operations.{first_overflow}
-use Rattle.nc_polynomial.specs.Terms.{scaled, products}
-use Rattle.cofactor_checker.specs.Rows.{IsNumberUpTo}
-use Rattle.cofactor_checker.proofs.RowSums.{length-polynomials}
-use Rattle.equation_chain.specs.Lines.{claim_in, letters_in}
 use Rattle.equation_chain.proofs.Numbered.{poly_named}
 use Rattle.equation_chain.proofs.Lines.{first_is}
 use Rattle.equation_chain.proofs.Chains.{claim_descends}

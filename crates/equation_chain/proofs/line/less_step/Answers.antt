@@ -1,7 +1,5 @@
-use Rattle.std.proofs.Common.{rules, ◌≡◌, pos, neg_ℤ, Err, ap, ◌∙◌, to_z, of_z}
+use Rattle.equation_chain.proofs.Prelude.{rules, ◌≡◌, pos, neg_ℤ, Err, ap, ◌∙◌, to_z, of_z, combined, moved_result}
 use mir.Syntax.{w128}
-use Rattle.nc_polynomial.specs.Arithmetic.{combined}
-use Rattle.nc_polynomial.specs.Product.{moved_result}
 use Rattle.equation_chain.proofs.Going.{explains_then, step_from}
 use Rattle.equation_chain.proofs.line.less_step.Goals as goal
 

@@ -1,9 +1,4 @@
-use Rattle.std.proofs.Common.{arith, ◌≤◌, ◌+◌, length, take, sym, subst, ap, ◌∙◌}
-use Rattle.std.proofs.lemmas.List.{take_all}
-use Rattle.std.proofs.lemmas.List.Elements.{All-get_or}
-use Rattle.std.specs.List.{All}
-use Rattle.definitions.specs.Poly.{Term}
-use Rattle.equation_chain.specs.Lines.{letters_in}
+use Rattle.equation_chain.proofs.Prelude.{arith, ◌≤◌, ◌+◌, length, take, sym, subst, ap, ◌∙◌, take_all, All-get_or, All, Term, letters_in}
 use Rattle.equation_chain.proofs.Going.{letters_step}
 use Rattle.equation_chain.proofs.line.letters_in.Goals as goal
 use Rattle.equation_chain.proofs.line.letters_in.Goals.{After-term-item}

@@ -1,5 +1,4 @@
-use Rattle.std.proofs.Common.{◌≡◌, ◌*◌, ◌≤◌, take}
-use Rattle.equation_chain.specs.Lines.{letters_in}
+use Rattle.equation_chain.proofs.Prelude.{◌≡◌, ◌*◌, ◌≤◌, take, letters_in}
 use Rattle.equation_chain.proofs.line.letters_in.Given as goal
 
 -- the letters of the terms so far, of at most 500 each

@@ -1,5 +1,4 @@
-use Rattle.std.proofs.Common.{arith, ◌<◌, ◌+◌, refl}
-use Rattle.equation_chain.specs.Lines.{letters_in}
+use Rattle.equation_chain.proofs.Prelude.{arith, ◌<◌, ◌+◌, refl, letters_in}
 use Rattle.equation_chain.proofs.Going.{told_stops}
 use Rattle.equation_chain.proofs.line.line_behind.Goals as goal
 

@@ -1,7 +1,5 @@
-use Rattle.std.proofs.Common.{rules, ◌≡◌, Ok, subst, to_z, of_z}
+use Rattle.equation_chain.proofs.Prelude.{rules, ◌≡◌, Ok, subst, to_z, of_z, Explains, multiple_result}
 use mir.Syntax.{w128}
-use Rattle.nc_polynomial.specs.Faults.{Explains}
-use Rattle.nc_polynomial.specs.Arithmetic.{multiple_result}
 use Rattle.equation_chain.proofs.Multiple.{multiple_fails, multiple_value}
 use Rattle.equation_chain.proofs.line.multiple_of.Goals as goal
 

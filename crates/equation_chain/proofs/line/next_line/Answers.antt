@@ -1,7 +1,4 @@
-use Rattle.std.proofs.Common.{rules, arith, ◌≡◌, Some, Err, true, false}
-use Rattle.coef_int.specs.Range.{IsCoefficient}
-use Rattle.equation_chain.specs.Steps.{is_step, generator_of}
-use Rattle.equation_chain.specs.Made.{GoesOn}
+use Rattle.equation_chain.proofs.Prelude.{rules, arith, ◌≡◌, Some, Err, true, false, IsCoefficient, is_step, generator_of, GoesOn}
 use Rattle.equation_chain.proofs.Numbered.{poly_named, poly_absent}
 use Rattle.equation_chain.proofs.Typed.{empty_is_none}
 use Rattle.equation_chain.proofs.Going.{for_row, all_there, none_passes, line_stands, some_passes, stops}

@@ -1,4 +1,4 @@
-use Rattle.std.proofs.Common.{rules}
+use Rattle.equation_chain.proofs.Prelude.{rules}
 use Rattle.equation_chain.proofs.Numbered.{ends_named, ends_absent}
 use Rattle.equation_chain.proofs.step.claim_ends.Goals as goal
 

@@ -1,4 +1,4 @@
-use Rattle.std.proofs.Common.{arith}
+use Rattle.equation_chain.proofs.Prelude.{arith}
 use Rattle.equation_chain.proofs.Going.{count_step, count_few, count_all}
 use Rattle.equation_chain.proofs.step.count_steps.Goals as goal
 

@@ -1,5 +1,4 @@
-use Rattle.std.proofs.Common.{◌≡◌, ◌≤◌, take, length}
-use Rattle.equation_chain.specs.Steps.{steps_in}
+use Rattle.equation_chain.proofs.Prelude.{◌≡◌, ◌≤◌, take, length, steps_in}
 use Rattle.equation_chain.proofs.step.count_steps.Given as goal
 
 -- the steps among the rows so far

@@ -1,4 +1,4 @@
-use Rattle.std.proofs.Common.{rules, sym}
+use Rattle.equation_chain.proofs.Prelude.{rules, sym}
 use Rattle.equation_chain.proofs.Numbered.{poly_named, poly_absent}
 use Rattle.equation_chain.proofs.Typed.{empty_is_none}
 use Rattle.equation_chain.proofs.step.is_row_step.Goals as goal

@@ -1,4 +1,4 @@
-use Rattle.std.proofs.Common.{rules, ◌≡◌, ◌≢◌, pos, length, slice_get, sym, ap, ◌∙◌}
+use Rattle.equation_chain.proofs.Prelude.{rules, ◌≡◌, ◌≢◌, pos, length, slice_get, sym, ap, ◌∙◌}
 use Rattle.equation_chain.proofs.Typed.{step_by_first, zero_is_none, empty_is_none, no_terms}
 use Rattle.equation_chain.proofs.step.is_step.Goals as goal
 

@@ -1,4 +1,4 @@
-use Rattle.quiver.specs.Declarations.{quiver_of}
+use Rattle.equation_chain.proofs.Prelude.{quiver_of}
 use Rattle.equation_chain.proofs.Leads.{three_lead, three_misfit}
 use Rattle.equation_chain.proofs.step.source_of.Goals as goal
 

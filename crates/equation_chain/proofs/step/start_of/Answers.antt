@@ -1,8 +1,4 @@
-use Rattle.std.proofs.Common.{rules, arith, ◌≡◌, ◌≢◌, ◌<◌, ◌≤◌, ◌++◌, ◌+◌, drop, length, get_or, sym, ap, subst, refl, ◌∙◌}
-use Rattle.std.proofs.lemmas.List.{drop_all}
-use Rattle.definitions.specs.Quiver.{source, target, leads}
-use Rattle.quiver.specs.Declarations.{letter_count, quiver_of}
-use Rattle.quiver.proofs.Counts.{letters-quiver_of}
+use Rattle.equation_chain.proofs.Prelude.{rules, arith, ◌≡◌, ◌≢◌, ◌<◌, ◌≤◌, ◌++◌, ◌+◌, drop, length, get_or, sym, ap, subst, refl, ◌∙◌, drop_all, source, target, leads, letter_count, quiver_of, letters-quiver_of}
 use Rattle.equation_chain.proofs.Leads.{meets, strange, apart}
 use Rattle.equation_chain.proofs.step.start_of.Goals as goal
 

@@ -1,6 +1,4 @@
-use Rattle.std.proofs.Common.{◌≡◌, ℕ, List, ◌++◌, drop}
-use Rattle.definitions.specs.Quiver.{leads}
-use Rattle.quiver.specs.Declarations.{quiver_of}
+use Rattle.equation_chain.proofs.Prelude.{◌≡◌, ℕ, List, ◌++◌, drop, leads, quiver_of}
 use Rattle.equation_chain.proofs.step.start_of.Given as goal
 
 -- from the object on the letters that are left lead as all letters lead from the target

@@ -1,5 +1,4 @@
-use Rattle.std.proofs.Common.{rules, ◌≡◌, ◌++◌, [], ◌∷◌, List, ℕ, ap, ◌∙◌}
-use Rattle.block_text.specs.Written.{letter_text}
+use Rattle.equation_chain.proofs.Prelude.{rules, ◌≡◌, ◌++◌, [], ◌∷◌, List, ℕ, ap, ◌∙◌, letter_text}
 use Rattle.equation_chain.proofs.Spelled.{table_more}
 use Rattle.equation_chain.proofs.text.letter_texts.Goals as goal
 

@@ -1,6 +1,4 @@
-use Rattle.std.proofs.Common.{◌≡◌, map}
-use Rattle.std.specs.List.{range_with_len}
-use Rattle.block_text.specs.Written.{letter_text}
+use Rattle.equation_chain.proofs.Prelude.{◌≡◌, map, range_with_len, letter_text}
 use Rattle.equation_chain.proofs.text.letter_texts.Given as goal
 
 -- the texts of the letters so far

@@ -1,5 +1,4 @@
-use Rattle.std.proofs.Common.{◌≡◌, ◌++◌, take}
-use Rattle.evidence_commands.specs.CalledLetters.{names_text}
+use Rattle.evidence_commands.proofs.Prelude.{◌≡◌, ◌++◌, take, names_text}
 use Rattle.evidence_commands.proofs.cancel.put_names.Given as goal
 
 abbrev pub invariant-loop-letter : goal.invariant-loop-letter

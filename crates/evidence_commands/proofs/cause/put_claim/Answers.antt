@@ -1,6 +1,4 @@
-use Rattle.std.proofs.Common.{◌≡◌, ◌∙◌, ◌++◌, ℕ, List, OnOk, ap, codes, decimal, rules}
-use Rattle.std.specs.Fmt.{signed_decimal}
-use Rattle.command_shape.proofs.Told.{two_put}
+use Rattle.evidence_commands.proofs.Prelude.{◌≡◌, ◌∙◌, ◌++◌, ℕ, List, OnOk, ap, codes, decimal, rules, signed_decimal, two_put}
 use Rattle.evidence_commands.proofs.cause.put_claim.Goals as goal
 
 pub returns : goal.returns

@@ -1,7 +1,4 @@
-use Rattle.std.proofs.Common.{rules, ◌≡◌, ◌++◌, ◌∙◌, ℕ, List, OnOk, codes, decimal, ap, refl, subst, append_assoc}
-use Rattle.std.specs.Fmt.{signed_decimal}
-use Rattle.block_text.proofs.Puts.{four_put}
-use Rattle.evidence_commands.specs.Causes.{operation_text}
+use Rattle.evidence_commands.proofs.Prelude.{rules, ◌≡◌, ◌++◌, ◌∙◌, ℕ, List, OnOk, codes, decimal, ap, refl, subst, append_assoc, signed_decimal, four_put, operation_text}
 use Rattle.evidence_commands.proofs.cause.put_overflow.Goals as goal
 
 grouped : (place number blank left operation right : List ℕ)

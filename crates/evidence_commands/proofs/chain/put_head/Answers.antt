@@ -1,6 +1,4 @@
-use Rattle.std.proofs.Common.{rules, ◌≡◌, ◌++◌, ◌∙◌, ℕ, List, OnOk, codes, decimal, ap, refl, subst, append_assoc}
-use Rattle.std.specs.Fmt.{signed_decimal}
-use Rattle.block_text.proofs.Puts.{four_put}
+use Rattle.evidence_commands.proofs.Prelude.{rules, ◌≡◌, ◌++◌, ◌∙◌, ℕ, List, OnOk, codes, decimal, ap, refl, subst, append_assoc, signed_decimal, four_put}
 use Rattle.evidence_commands.proofs.chain.put_head.Goals as goal
 
 grouped : (a claim b denominator d steps end : List ℕ) → (((a ++ claim) ++ (b ++ denominator)) ++ (d ++ steps)) ++ end ≡ a ++ (claim ++ (b ++ (denominator ++ (d ++ (steps ++ end)))))

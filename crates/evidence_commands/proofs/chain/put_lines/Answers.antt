@@ -1,11 +1,4 @@
-use Rattle.std.proofs.Common.{rules, arith, ◌≡◌, ◌≤◌, ◌++◌, ℕ, List, length, sym, subst, ap, ◌∙◌}
-use Rattle.definitions.specs.Poly.{Term}
-use Rattle.equation_chain.specs.Faults.{line_before}
-use Rattle.equation_chain.specs.Spelled.{IsLineSpelled, line_by}
-use Rattle.equation_chain.specs.Written.{line_text}
-use Rattle.equation_chain.proofs.Letters.{line_over}
-use Rattle.equation_chain.proofs.Making.{fewer}
-use Rattle.equation_chain.proofs.Spelled.{line_spelled, line_is_text}
+use Rattle.evidence_commands.proofs.Prelude.{rules, arith, ◌≡◌, ◌≤◌, ◌++◌, ℕ, List, length, sym, subst, ap, ◌∙◌, Term, line_before, IsLineSpelled, line_by, line_text, line_over, fewer, line_spelled, line_is_text}
 use Rattle.evidence_commands.proofs.ChainTexts.{first_text, whole_text}
 use Rattle.evidence_commands.proofs.chain.put_lines.Goals as goal
 

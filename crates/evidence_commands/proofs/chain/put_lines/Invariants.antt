@@ -1,7 +1,4 @@
-use Rattle.std.proofs.Common.{◌≡◌, ◌++◌, ℕ, List}
-use Rattle.equation_chain.specs.Faults.{StepsPass}
-use Rattle.equation_chain.specs.Made.{IsLineBefore}
-use Rattle.evidence_commands.specs.Explain.{text_before}
+use Rattle.evidence_commands.proofs.Prelude.{◌≡◌, ◌++◌, ℕ, List, StepsPass, IsLineBefore, text_before}
 use Rattle.evidence_commands.proofs.chain.put_lines.Given as goal
 
 -- the present line is the one after the rows so far, whose steps pass, and all lines up to it are written

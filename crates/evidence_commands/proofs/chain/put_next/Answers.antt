@@ -1,15 +1,4 @@
-use Rattle.std.proofs.Common.{rules, ◌≡◌, ◌+◌, ◌++◌, ℕ, List, Some, false, sym, subst, ap, ◌∙◌}
-use Rattle.definitions.specs.Poly.{Term}
-use Rattle.certificate_text.specs.Evidence.{IsRowOver}
-use Rattle.equation_chain.specs.Steps.{is_step}
-use Rattle.equation_chain.specs.Faults.{line_before}
-use Rattle.equation_chain.specs.Made.{GoesOn}
-use Rattle.equation_chain.specs.Spelled.{IsStepSpelled, IsLineSpelled, use_by, line_by}
-use Rattle.equation_chain.specs.Written.{use_text, line_text}
-use Rattle.equation_chain.proofs.Going.{all_there}
-use Rattle.equation_chain.proofs.Letters.{line_over}
-use Rattle.equation_chain.proofs.Making.{line_stays}
-use Rattle.equation_chain.proofs.Spelled.{step_spelled, line_spelled, use_is_text, line_is_text}
+use Rattle.evidence_commands.proofs.Prelude.{rules, ◌≡◌, ◌+◌, ◌++◌, ℕ, List, Some, false, sym, subst, ap, ◌∙◌, Term, IsRowOver, is_step, line_before, GoesOn, IsStepSpelled, IsLineSpelled, use_by, line_by, use_text, line_text, all_there, line_over, line_stays, step_spelled, line_spelled, use_is_text, line_is_text}
 use Rattle.evidence_commands.proofs.ChainTexts.{same_text, next_put}
 use Rattle.evidence_commands.proofs.chain.put_next.Goals as goal
 use Rattle.evidence_commands.proofs.chain.put_next.Goals.{In_ok-next, In-Some}

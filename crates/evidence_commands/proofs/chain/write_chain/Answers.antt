@@ -1,9 +1,4 @@
-use Rattle.std.proofs.Common.{rules, ◌≡◌, ◌++◌, ℕ, List, length, codes, ap, ◌∙◌, append_assoc}
-use Rattle.certificate_text.specs.Written.{opening_text}
-use Rattle.equation_chain.specs.Steps.{steps_of}
-use Rattle.equation_chain.specs.Lines.{lines_of}
-use Rattle.equation_chain.specs.Written.{lines_text}
-use Rattle.evidence_commands.specs.Explain.{head_text}
+use Rattle.evidence_commands.proofs.Prelude.{rules, ◌≡◌, ◌++◌, ℕ, List, length, codes, ap, ◌∙◌, append_assoc, opening_text, steps_of, lines_of, lines_text, head_text}
 use Rattle.evidence_commands.proofs.chain.write_chain.Goals as goal
 
 pub returns-clause-written : goal.returns-clause-written

@@ -1,16 +1,4 @@
-use Rattle.std.proofs.Common.{List, sym, subst, ◌∙◌}
-use Rattle.std.specs.List.{All}
-use Rattle.std.specs.Result.{is_ok}
-use Rattle.definitions.specs.Combination.{InRationalIdeal}
-use Rattle.word_orders.specs.Specified.{asked_cmp}
-use Rattle.quiver.specs.Declarations.{letter_count}
-use Rattle.rule_reduce.specs.declared.rule.Rule.{Rule}
-use Rattle.rule_reduce.specs.RuleLists.{IsRule, polynomials_of}
-use Rattle.ambiguities.specs.Resolved.{Resolved}
-use Rattle.adjoint_rules.specs.Problem.{polynomials}
-use Rattle.adjoint_rules.specs.Claims.{claim_at}
-use Rattle.normal_category.specs.Faults.{AreSharp}
-use Rattle.normal_category.specs.Tests.{is_sharp}
+use Rattle.evidence_commands.proofs.Prelude.{List, sym, subst, ◌∙◌, All, is_ok, InRationalIdeal, asked_cmp, letter_count, Rule, IsRule, polynomials_of, Resolved, polynomials, claim_at, AreSharp, is_sharp}
 use Rattle.evidence_commands.proofs.Bases.{rules_generate, rules_miss_claim, rules_from_test, test_from_rules, same_test}
 use Rattle.evidence_commands.proofs.confirm.is_sharp.Goals as goal
 

@@ -1,6 +1,4 @@
-use Rattle.std.proofs.Common.{rules, ◌≡◌, ◌++◌, ℕ, List, OnOk, codes, decimal, refl, subst, append_assoc}
-use Rattle.block_text.proofs.Puts.{four_put}
-use Rattle.evidence_commands.specs.Confirm.{kind_text}
+use Rattle.evidence_commands.proofs.Prelude.{rules, ◌≡◌, ◌++◌, ℕ, List, OnOk, codes, decimal, refl, subst, append_assoc, four_put, kind_text}
 use Rattle.evidence_commands.proofs.confirm.put_ambiguity.Goals as goal
 
 grouped : (kind blank i j place : List ℕ) → ((kind ++ (blank ++ i)) ++ (blank ++ j)) ++ (blank ++ place) ≡ kind ++ (blank ++ (i ++ (blank ++ (j ++ (blank ++ place)))))

@@ -1,7 +1,4 @@
-use Rattle.std.proofs.Common.{rules, ◌≡◌, ◌++◌, ℕ, List, OnOk, codes, refl, subst, append_assoc}
-use Rattle.block_text.specs.Written.{poly_text}
-use Rattle.block_text.proofs.Puts.{four_put}
-use Rattle.evidence_commands.specs.Confirm.{part_text}
+use Rattle.evidence_commands.proofs.Prelude.{rules, ◌≡◌, ◌++◌, ℕ, List, OnOk, codes, refl, subst, append_assoc, poly_text, four_put, part_text}
 use Rattle.evidence_commands.proofs.confirm.put_left.Goals as goal
 
 grouped : (code part rest poly : List ℕ) → ((code ++ part) ++ rest) ++ poly ≡ code ++ (part ++ (rest ++ poly))

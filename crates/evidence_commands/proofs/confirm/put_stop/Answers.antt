@@ -1,7 +1,4 @@
-use Rattle.std.proofs.Common.{rules, ◌≡◌, ◌++◌, ℕ, List, OnOk, codes, refl, subst, append_assoc}
-use Rattle.block_text.proofs.Puts.{four_put}
-use Rattle.report_text.specs.Heads.{cause_text}
-use Rattle.evidence_commands.specs.Confirm.{part_text}
+use Rattle.evidence_commands.proofs.Prelude.{rules, ◌≡◌, ◌++◌, ℕ, List, OnOk, codes, refl, subst, append_assoc, four_put, cause_text, part_text}
 use Rattle.evidence_commands.proofs.confirm.put_stop.Goals as goal
 
 grouped : (code part blank cause : List ℕ) → ((code ++ part) ++ blank) ++ cause ≡ code ++ (part ++ (blank ++ cause))

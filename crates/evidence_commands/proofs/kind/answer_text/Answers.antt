@@ -1,8 +1,4 @@
-use Rattle.std.proofs.Common.{◌≡◌, Err, subst, rules}
-use Rattle.command_shape.specs.Blocks.{Judges}
-use Rattle.command_shape.specs.Stop.{EndsAs}
-use Rattle.command_shape.proofs.Stops.{refused_evidence_ends, read_ends}
-use Rattle.evidence_commands.specs.Kind.{Accepts, Refuses}
+use Rattle.evidence_commands.proofs.Prelude.{◌≡◌, Err, subst, rules, Judges, EndsAs, refused_evidence_ends, read_ends, Accepts, Refuses}
 use Rattle.evidence_commands.proofs.kind.answer_text.Goals as goal
 
 -- the text is refused

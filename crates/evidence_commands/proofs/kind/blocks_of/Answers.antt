@@ -1,6 +1,4 @@
-use Rattle.std.proofs.Common.{◌≡◌, rules}
-use Rattle.command_shape.specs.Ending.{refused_evidence}
-use Rattle.command_shape.specs.Texts.{evidence_fault}
+use Rattle.evidence_commands.proofs.Prelude.{◌≡◌, rules, refused_evidence, evidence_fault}
 use Rattle.command_shape.specs.Blocks.{faulty}
 use Rattle.evidence_commands.proofs.kind.blocks_of.Goals as goal
 

@@ -1,4 +1,4 @@
-use Rattle.evidence_commands.specs.Commands.{judged_by}
+use Rattle.evidence_commands.proofs.Prelude.{judged_by}
 use Rattle.evidence_commands.proofs.Owed as owed
 use Rattle.evidence_commands.proofs.EachCommand.{are_judged}
 use Rattle.evidence_commands.proofs.laws.passing_blocks_are_answered_by_0.Goals as goal

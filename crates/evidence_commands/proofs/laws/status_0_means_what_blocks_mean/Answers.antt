@@ -1,4 +1,4 @@
-use Rattle.evidence_commands.specs.Commands.{judged_by}
+use Rattle.evidence_commands.proofs.Prelude.{judged_by}
 use Rattle.evidence_commands.proofs.Owed as owed
 use Rattle.evidence_commands.proofs.EachCommand.{are_judged}
 use Rattle.evidence_commands.proofs.laws.status_0_means_what_blocks_mean.Goals as goal

@@ -1,7 +1,4 @@
-use Rattle.std.proofs.Common.{◌≡◌, Ok, rules}
-use Rattle.nc_polynomial.specs.Terms.{added, sums}
-use Rattle.nc_polynomial.specs.Faults.{checked}
-use Rattle.nc_polynomial.proofs.Chains.{shaped_add}
+use Rattle.expressions.proofs.Prelude.{◌≡◌, Ok, rules, added, sums, checked, shaped_add}
 use Rattle.expressions.proofs.added.add.Goals as goal
 
 pub from_descending-requires : goal.from_descending-requires

@@ -1,11 +1,5 @@
-use Rattle.std.proofs.Common.{◌≡◌, ◌≢◌, pos, ◌+ℤ◌, suc, ◌++◌, take, drop, set, Ok, Err, rules, sym, ap, ◌∙◌}
-use Rattle.std.proofs.lemmas.List.{set_split}
-use Rattle.std.specs.List.{remove}
-use Rattle.coef_int.specs.Range.{IsCoefficient}
-use Rattle.coef_int.specs.Operations.{sum_of}
-use Rattle.nc_polynomial.specs.Terms.{keep}
+use Rattle.expressions.proofs.Prelude.{◌≡◌, ◌≢◌, pos, ◌+ℤ◌, suc, ◌++◌, take, drop, set, Ok, Err, rules, sym, ap, ◌∙◌, set_split, remove, IsCoefficient, sum_of, keep, keep-nonzero}
 use Rattle.nc_polynomial.specs.declared.fault.PolyFault.TheVariants as fault
-use Rattle.nc_polynomial.proofs.Checked.{keep-nonzero}
 use Rattle.expressions.proofs.SumsWithTerm.{sum-changed, sum-overflows}
 use Rattle.expressions.proofs.added.add_at.Goals as goal
 use Rattle.expressions.proofs.added.add_at.Goals.{then-total-eq0, else-total-eq0}

@@ -1,9 +1,4 @@
-use Rattle.std.proofs.Common.{◌≡◌, ◌≤◌, length, Ok, Err, rules, sym, ap, subst, ◌∙◌, arith, List}
-use Rattle.std.specs.List.{insert}
-use Rattle.std.specs.List.Sorted.{IsBinarySearchResult}
-use Rattle.coef_int.specs.Range.{IsCoefficient}
-use Rattle.word_core.specs.Canonical.{word_cmp}
-use Rattle.definitions.specs.Poly.{Term}
+use Rattle.expressions.proofs.Prelude.{◌≡◌, ◌≤◌, length, Ok, Err, rules, sym, ap, subst, ◌∙◌, arith, List, insert, IsBinarySearchResult, IsCoefficient, word_cmp, Term}
 use Rattle.expressions.proofs.SumsWithTerm.{sum-inserted}
 use Rattle.expressions.proofs.added.add_term.Goals as goal
 

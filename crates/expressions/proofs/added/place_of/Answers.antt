@@ -1,6 +1,4 @@
-use Rattle.std.proofs.Common.{rules}
-use Rattle.std.proofs.lemmas.Fn.{always_returns_same}
-use Rattle.word_core.specs.Canonical.{word_cmp}
+use Rattle.expressions.proofs.Prelude.{rules, always_returns_same, word_cmp}
 use Rattle.expressions.proofs.added.place_of.Goals as goal
 
 pub returns-clause-place : goal.returns-clause-place

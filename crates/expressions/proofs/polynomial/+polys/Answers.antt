@@ -1,8 +1,4 @@
-use Rattle.std.proofs.Common.{◌≡◌, [], Ok, Err, rules, arith}
-use Rattle.statement_syntax.specs.declared.tree.Sum.{the_lemmas}
-use Rattle.nc_polynomial.specs.Faults.{Explains}
-use Rattle.expressions.specs.Polynomials.{term_poly, factor_poly, primary_poly, product_poly, total}
-use Rattle.abbreviations.proofs.Trees.{names_of_the_term, names_of_the_factor}
+use Rattle.expressions.proofs.Prelude.{◌≡◌, [], Ok, Err, rules, arith, the_lemmas, Explains, term_poly, factor_poly, primary_poly, product_poly, total, names_of_the_term, names_of_the_factor}
 use Rattle.expressions.proofs.Range.{in_range-primary}
 use Rattle.expressions.proofs.Totals.{so_far-next}
 use Rattle.expressions.proofs.PolynomialLoops.{summands_of, polys_of, sum-end, sum-fault, sum-next, alone-fault, alone-end, product-end, product-end_fault, product-fault, product-next}

@@ -1,6 +1,4 @@
-use Rattle.std.proofs.Common.{◌≡◌, ◌++◌, map, drop, Ok}
-use Rattle.expressions.specs.Results.{◌>>=◌}
-use Rattle.expressions.specs.Polynomials.{factor_poly}
+use Rattle.expressions.proofs.Prelude.{◌≡◌, ◌++◌, map, drop, Ok, ◌>>=◌, factor_poly}
 use Rattle.expressions.proofs.Trees.{each, summand}
 use Rattle.expressions.proofs.Totals.{SoFar}
 use Rattle.expressions.proofs.polynomial.+polys.Given as goal

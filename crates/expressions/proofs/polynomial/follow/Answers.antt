@@ -1,9 +1,4 @@
-use Rattle.std.proofs.Common.{rules, ◌≡◌, pos, [], ◌∷◌, ◌++◌, Ok, sym, ap, ◌∙◌}
-use Rattle.definitions.specs.Poly.{poly_between}
-use Rattle.nc_polynomial.specs.Faults.{sized}
-use Rattle.nc_polynomial.specs.Product.{product_result}
-use Rattle.expressions.specs.Begun.{product_begun}
-use Rattle.expressions.specs.Results.{◌>>=◌}
+use Rattle.expressions.proofs.Prelude.{rules, ◌≡◌, pos, [], ◌∷◌, ◌++◌, Ok, sym, ap, ◌∙◌, poly_between, sized, product_result, product_begun, ◌>>=◌}
 use Rattle.expressions.proofs.WordRuns.{words-behind, no-word}
 use Rattle.expressions.proofs.polynomial.follow.Goals as goal
 

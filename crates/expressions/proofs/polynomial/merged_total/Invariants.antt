@@ -1,6 +1,5 @@
-use Rattle.std.proofs.Common.{◌≡◌, length}
-use Rattle.std.specs.Vec.Iter.{into_iter_items, into_iter_len}
-use Rattle.expressions.specs.Polynomials.{sum_from, total}
+use Rattle.expressions.proofs.Prelude.{◌≡◌, length, into_iter_items, into_iter_len, total}
+use Rattle.expressions.specs.Polynomials.{sum_from}
 use Rattle.expressions.proofs.PolynomialLoops.{summands_of}
 use Rattle.expressions.proofs.polynomial.merged_total.Given as goal
 

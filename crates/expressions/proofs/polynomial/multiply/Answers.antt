@@ -1,7 +1,4 @@
-use Rattle.std.proofs.Common.{rules, arith, ◌≡◌, [], length, ap, ◌∙◌}
-use Rattle.std.proofs.lemmas.List.{nil_from_length}
-use Rattle.definitions.specs.Poly.{poly_between}
-use Rattle.nc_polynomial.specs.Faults.{sized}
+use Rattle.expressions.proofs.Prelude.{rules, arith, ◌≡◌, [], length, ap, ◌∙◌, nil_from_length, poly_between, sized}
 use Rattle.expressions.proofs.WordRuns.{no-word}
 use Rattle.expressions.proofs.polynomial.multiply.Goals as goal
 

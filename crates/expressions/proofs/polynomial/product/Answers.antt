@@ -1,9 +1,4 @@
-use Rattle.std.proofs.Common.{rules, ◌≡◌, [], ◌∷◌, sym, ap, ◌∙◌}
-use Rattle.std.specs.Vec.Iter.{into_iter_items}
-use Rattle.definitions.specs.Poly.{poly_between}
-use Rattle.nc_polynomial.specs.Faults.{sized}
-use Rattle.expressions.specs.Polynomials.{product_from, product_poly}
-use Rattle.expressions.specs.Results.{◌>>=◌}
+use Rattle.expressions.proofs.Prelude.{rules, ◌≡◌, [], ◌∷◌, sym, ap, ◌∙◌, into_iter_items, poly_between, sized, product_from, product_poly, ◌>>=◌}
 use Rattle.expressions.proofs.PolynomialLoops.{polys_of}
 use Rattle.expressions.proofs.WordRuns.{no-word}
 use Rattle.expressions.proofs.polynomial.product.Goals as goal

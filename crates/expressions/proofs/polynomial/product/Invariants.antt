@@ -1,8 +1,4 @@
-use Rattle.std.proofs.Common.{◌≡◌, length}
-use Rattle.std.specs.Vec.Iter.{into_iter_items, into_iter_len}
-use Rattle.expressions.specs.Begun.{product_begun}
-use Rattle.expressions.specs.Polynomials.{product_from, product_poly}
-use Rattle.expressions.specs.Results.{◌>>=◌}
+use Rattle.expressions.proofs.Prelude.{◌≡◌, length, into_iter_items, into_iter_len, product_begun, product_from, product_poly, ◌>>=◌}
 use Rattle.expressions.proofs.PolynomialLoops.{polys_of}
 use Rattle.expressions.proofs.polynomial.product.Given as goal
 

@@ -1,5 +1,4 @@
-use Rattle.std.proofs.Common.{◌≡◌, rules, ap, ◌∙◌}
-use Rattle.nc_polynomial.specs.Arithmetic.{multiple_result}
+use Rattle.expressions.proofs.Prelude.{◌≡◌, rules, ap, ◌∙◌, multiple_result}
 use Rattle.expressions.proofs.Multiples.{least, least-multiple}
 use Rattle.expressions.proofs.polynomial.scale.Goals as goal
 

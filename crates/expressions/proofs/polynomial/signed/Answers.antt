@@ -1,6 +1,4 @@
-use Rattle.std.proofs.Common.{◌≡◌, rules, sym, subst}
-use Rattle.nc_polynomial.specs.Terms.{negated}
-use Rattle.nc_polynomial.specs.Shape.{IsCanonical}
+use Rattle.expressions.proofs.Prelude.{◌≡◌, rules, sym, subst, negated, IsCanonical}
 use Rattle.expressions.proofs.Canonical.{canonical-negated}
 use Rattle.expressions.proofs.polynomial.signed.Goals as goal
 

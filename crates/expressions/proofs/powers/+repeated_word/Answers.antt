@@ -1,4 +1,4 @@
-use Rattle.std.proofs.Common.{rules}
+use Rattle.expressions.proofs.Prelude.{rules}
 use Rattle.expressions.proofs.RepeatedWords.{repeated-even, repeated-odd}
 use Rattle.expressions.proofs.powers.+repeated_word.Goals as goal
 

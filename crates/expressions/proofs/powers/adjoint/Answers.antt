@@ -1,9 +1,4 @@
-use Rattle.std.proofs.Common.{◌≡◌, take, sym, ap, subst, ◌∙◌}
-use Rattle.std.proofs.lemmas.List.{take_all}
-use Rattle.std.specs.List.{All}
-use Rattle.coef_int.specs.Range.{IsCoefficient}
-use Rattle.definitions.specs.Generators.{adjoint_poly}
-use Rattle.quiver.specs.Declarations.{quiver_of}
+use Rattle.expressions.proofs.Prelude.{◌≡◌, take, sym, ap, subst, ◌∙◌, take_all, All, IsCoefficient, adjoint_poly, quiver_of}
 use Rattle.expressions.proofs.Canonical.{in_range-adjoint_poly}
 use Rattle.expressions.proofs.powers.adjoint.Goals as goal
 

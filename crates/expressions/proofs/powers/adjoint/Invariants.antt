@@ -1,6 +1,4 @@
-use Rattle.std.proofs.Common.{◌≡◌, take}
-use Rattle.definitions.specs.Generators.{adjoint_poly}
-use Rattle.quiver.specs.Declarations.{quiver_of}
+use Rattle.expressions.proofs.Prelude.{◌≡◌, take, adjoint_poly, quiver_of}
 use Rattle.expressions.proofs.powers.adjoint.Given as goal
 
 abbrev pub invariant-loop-term : goal.invariant-loop-term

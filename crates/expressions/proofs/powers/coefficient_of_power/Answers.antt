@@ -1,9 +1,5 @@
-use Rattle.std.proofs.Common.{rules, ◌≡◌, ◌+◌, ◌*ℤ◌, ◌≤◌, length, to_z, of_z, Err, sym, subst, ◌∙◌, arith}
-use Rattle.std.specs.Int.{w128}
-use Rattle.coef_int.specs.Range.{IsCoefficient}
+use Rattle.expressions.proofs.Prelude.{rules, ◌≡◌, ◌+◌, ◌*ℤ◌, ◌≤◌, length, to_z, of_z, Err, sym, subst, ◌∙◌, arith, w128, IsCoefficient, product_of, repeated_word}
 use Rattle.nc_polynomial.specs.declared.fault.PolyFault.TheVariants as fault
-use Rattle.coef_int.specs.Operations.{product_of}
-use Rattle.expressions.specs.Repeated.{repeated_word}
 use Rattle.expressions.proofs.TermPowers.{coefficient-alone, length-repeated-next, term-overflows, term-next, canonical-next}
 use Rattle.expressions.proofs.powers.coefficient_of_power.Goals as goal
 

@@ -1,7 +1,4 @@
-use Rattle.std.proofs.Common.{◌≡◌, ◌≤◌, ◌-◌, [], ◌∷◌, length, replicate}
-use Rattle.nc_polynomial.specs.Shape.{IsCanonical}
-use Rattle.expressions.specs.Polynomials.{product_from, product_poly}
-use Rattle.expressions.specs.Repeated.{repeated_word}
+use Rattle.expressions.proofs.Prelude.{◌≡◌, ◌≤◌, ◌-◌, [], ◌∷◌, length, replicate, IsCanonical, product_from, product_poly, repeated_word}
 use Rattle.expressions.proofs.powers.coefficient_of_power.Given as goal
 
 -- the factors that are left, after the power so far, make the whole power

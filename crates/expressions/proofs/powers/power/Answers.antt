@@ -1,6 +1,4 @@
-use Rattle.std.proofs.Common.{rules, ◌≡◌, [], length, Ok, sym, ap, ◌∙◌}
-use Rattle.std.proofs.lemmas.List.{nil_from_length}
-use Rattle.expressions.specs.Polynomials.{power_poly}
+use Rattle.expressions.proofs.Prelude.{rules, ◌≡◌, [], length, Ok, sym, ap, ◌∙◌, nil_from_length, power_poly}
 use Rattle.expressions.proofs.TermPowers.{power-zero}
 use Rattle.expressions.proofs.powers.power.Goals as goal
 

@@ -1,5 +1,4 @@
-use Rattle.std.proofs.Common.{rules, ◌≡◌, Ok, ◌∙◌, arith}
-use Rattle.nc_polynomial.specs.Product.{product_result}
+use Rattle.expressions.proofs.Prelude.{rules, ◌≡◌, Ok, ◌∙◌, arith, product_result}
 use Rattle.expressions.proofs.Copies.{power-next}
 use Rattle.expressions.proofs.powers.power_of_sum.Goals as goal
 

@@ -1,5 +1,4 @@
-use Rattle.std.proofs.Common.{◌≡◌, ◌≤◌, ◌-◌, replicate}
-use Rattle.expressions.specs.Polynomials.{product_from, product_poly}
+use Rattle.expressions.proofs.Prelude.{◌≡◌, ◌≤◌, ◌-◌, replicate, product_from, product_poly}
 use Rattle.expressions.proofs.powers.power_of_sum.Given as goal
 
 -- the factors that are left, after the power so far, make the whole power

@@ -1,5 +1,4 @@
-use Rattle.std.proofs.Common.{rules, ◌≡◌, ◌≤◌, ◌<◌, ◌*◌, length, to_z, of_z, pos, sym, ◌∙◌, arith}
-use Rattle.std.specs.Int.{w128}
+use Rattle.expressions.proofs.Prelude.{rules, ◌≡◌, ◌≤◌, ◌<◌, ◌*◌, length, to_z, of_z, pos, sym, ◌∙◌, arith, w128}
 use Rattle.expressions.proofs.UnitPowers.{unit-power, canonical-unit, unit-too_long, unit-even, unit-odd}
 use Rattle.expressions.proofs.powers.unit_of_power.Goals as goal
 

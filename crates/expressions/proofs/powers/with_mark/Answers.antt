@@ -1,8 +1,4 @@
-use Rattle.std.proofs.Common.{rules, ◌≡◌, Ok}
-use Rattle.quiver.specs.Declarations.{quiver_of}
-use Rattle.statement_syntax.specs.declared.tree.Mark.TheVariants.{Power}
-use Rattle.expressions.specs.Due.{due_poly}
-use Rattle.expressions.specs.Polynomials.{power_poly}
+use Rattle.expressions.proofs.Prelude.{rules, ◌≡◌, Ok, quiver_of, Power, due_poly, power_poly}
 use Rattle.expressions.proofs.Range.{in_range-mark_poly, in_range-due}
 use Rattle.expressions.proofs.TwoAdjoints.{due-turned}
 use Rattle.expressions.proofs.powers.with_mark.Goals as goal

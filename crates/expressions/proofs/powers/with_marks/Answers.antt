@@ -1,11 +1,4 @@
-use Rattle.std.proofs.Common.{rules, ◌≡◌, ◌+◌, drop, get_or, sym, ap, ◌∙◌}
-use Rattle.std.proofs.lemmas.List.{get_or_default}
-use Rattle.nc_polynomial.proofs.Steps.{drop_next}
-use Rattle.quiver.specs.Declarations.{quiver_of}
-use Rattle.statement_syntax.specs.declared.tree.Mark.TheVariants.{Adjoint}
-use Rattle.expressions.specs.Due.{due_poly, due_marked}
-use Rattle.expressions.specs.Polynomials.{marked_poly}
-use Rattle.expressions.specs.Results.{◌>>=◌}
+use Rattle.expressions.proofs.Prelude.{rules, ◌≡◌, ◌+◌, drop, get_or, sym, ap, ◌∙◌, get_or_default, drop_next, quiver_of, Adjoint, due_poly, due_marked, marked_poly, ◌>>=◌}
 use Rattle.expressions.proofs.TwoAdjoints.{due-next}
 use Rattle.expressions.proofs.powers.with_marks.Goals as goal
 

@@ -1,10 +1,4 @@
-use Rattle.std.proofs.Common.{◌≡◌, drop}
-use Rattle.std.specs.List.{All}
-use Rattle.word_core.specs.Letters.{IsOver}
-use Rattle.quiver.specs.Declarations.{letter_count, quiver_of}
-use Rattle.expressions.specs.Due.{due_poly}
-use Rattle.expressions.specs.Polynomials.{marked_poly}
-use Rattle.expressions.specs.Results.{◌>>=◌}
+use Rattle.expressions.proofs.Prelude.{◌≡◌, drop, All, IsOver, letter_count, quiver_of, due_poly, marked_poly, ◌>>=◌}
 use Rattle.expressions.proofs.powers.with_marks.Given as goal
 
 -- the marks that are left give the same

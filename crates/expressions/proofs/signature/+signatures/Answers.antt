@@ -1,8 +1,4 @@
-use Rattle.std.proofs.Common.{◌≡◌, rules, Ok, Err, ◌∙◌, arith}
-use Rattle.statement_syntax.specs.declared.tree.Sum.{the_lemmas}
-use Rattle.quiver.specs.Declarations.{object_count}
-use Rattle.expressions.specs.Signatures.{term_signature, factor_signature}
-use Rattle.abbreviations.proofs.Trees.{names_of_the_term, names_of_the_factor}
+use Rattle.expressions.proofs.Prelude.{◌≡◌, rules, Ok, Err, ◌∙◌, arith, the_lemmas, object_count, term_signature, factor_signature, names_of_the_term, names_of_the_factor}
 use Rattle.expressions.proofs.Ends.{objects-marked_signature, objects-product_step, objects-sum_step}
 use Rattle.expressions.proofs.SignatureLoops.{sum-end, sum-fault, sum-next, only-factor, product-end, product-fault, product-next}
 use Rattle.expressions.proofs.signature.+signatures.Goals as goal

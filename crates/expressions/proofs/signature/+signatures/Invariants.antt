@@ -1,7 +1,5 @@
-use Rattle.std.proofs.Common.{◌≡◌, ◌≢◌, length, drop, Ok, None, IfOk}
-use Rattle.quiver.specs.Declarations.{object_count}
-use Rattle.expressions.specs.Results.{◌>>=◌}
-use Rattle.expressions.specs.Signatures.{HasObjects, product_from, sum_from}
+use Rattle.expressions.proofs.Prelude.{◌≡◌, ◌≢◌, length, drop, Ok, None, IfOk, object_count, ◌>>=◌, HasObjects, sum_from}
+use Rattle.expressions.specs.Signatures.{product_from}
 use Rattle.expressions.proofs.Trees.{each, factor_part, term_part}
 use Rattle.expressions.proofs.signature.+signatures.Given as goal
 

@@ -1,5 +1,4 @@
-use Rattle.std.proofs.Common.{◌≡◌, drop}
-use Rattle.expressions.specs.Signatures.{marked_signature}
+use Rattle.expressions.proofs.Prelude.{◌≡◌, drop, marked_signature}
 use Rattle.expressions.proofs.signature.marked_signature.Given as goal
 
 abbrev pub invariant-loop-mark : goal.invariant-loop-mark

@@ -1,6 +1,4 @@
-use Rattle.std.proofs.Common.{arith, ◌≡◌, length}
-use Rattle.std.proofs.lemmas.Grind.{common_steps}
-use Rattle.flow_io.specs.Files.{place_of}
+use Rattle.flow_io.proofs.Prelude.{arith, ◌≡◌, length, common_steps, place_of}
 use Rattle.flow_io.proofs.FileLemmas.{file_under-at}
 use Rattle.flow_io.proofs.memory_shelf.place_in.Goals as goal
 

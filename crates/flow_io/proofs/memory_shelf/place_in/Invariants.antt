@@ -1,5 +1,4 @@
-use Rattle.std.proofs.Common.{◌≡◌, ◌+◌, drop}
-use Rattle.flow_io.specs.Files.{place_of, file_under}
+use Rattle.flow_io.proofs.Prelude.{◌≡◌, ◌+◌, drop, place_of, file_under}
 use Rattle.flow_io.proofs.memory_shelf.place_in.Given as goal
 
 -- the same is told of the name by the files that are left

@@ -1,5 +1,4 @@
-use Rattle.std.proofs.Common.{◌+◌, ◌-◌, ◌≤◌, vec_len}
-use Rattle.std.specs.Io.KnownBytes.{Consumes}
+use Rattle.flow_io.proofs.Prelude.{◌+◌, ◌-◌, ◌≤◌, vec_len, Consumes}
 use Rattle.flow_io.proofs.real_shelf.read_whole.Given as goal
 
 -- the bytes so far are the first of the file, at most one past the limit

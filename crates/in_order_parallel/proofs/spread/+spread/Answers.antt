@@ -1,5 +1,4 @@
-use Rattle.std.proofs.Common.{IfOk, take, drop, subst}
-use Rattle.std.specs.List.{AllZip}
+use Rattle.in_order_parallel.proofs.Prelude.{IfOk, take, drop, subst, AllZip}
 use Rattle.in_order_parallel.proofs.Zips.{AllZip-halves}
 use Rattle.in_order_parallel.proofs.spread.+spread.Goals as goal
 

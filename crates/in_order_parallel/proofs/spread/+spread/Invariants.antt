@@ -1,4 +1,4 @@
-use Rattle.std.proofs.Common.{◌+◌, ◌*◌}
+use Rattle.in_order_parallel.proofs.Prelude.{◌+◌, ◌*◌}
 use Rattle.in_order_parallel.proofs.spread.+spread.Given as goal
 
 abbrev pub decreases-join+arg2 : goal.decreases-join+arg2

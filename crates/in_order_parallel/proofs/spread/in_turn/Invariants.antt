@@ -1,5 +1,4 @@
-use Rattle.std.proofs.Common.{take}
-use Rattle.std.specs.List.{AllZip}
+use Rattle.in_order_parallel.proofs.Prelude.{take, AllZip}
 use Rattle.in_order_parallel.proofs.spread.in_turn.Given as goal
 
 -- the items so far have their answers

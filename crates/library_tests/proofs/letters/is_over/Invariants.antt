@@ -1,4 +1,4 @@
-use Rattle.std.proofs.Common.{ℕ, ◌<◌, get_or}
+use Rattle.library_tests.proofs.Prelude.{ℕ, ◌<◌, get_or}
 use Rattle.library_tests.proofs.letters.is_over.Given as goal
 
 -- the letters that were read are below the number

@@ -1,6 +1,4 @@
-use Rattle.std.proofs.Common.{ℕ, ◌<◌, ◌+◌, List, subst, sym, arith}
-use Rattle.std.specs.List.{All}
-use Rattle.std.proofs.lemmas.List.Elements.{All-take}
+use Rattle.library_tests.proofs.Prelude.{ℕ, ◌<◌, ◌+◌, List, subst, sym, arith, All, All-take}
 use Rattle.library_tests.proofs.Below.{below-push}
 use Rattle.library_tests.proofs.matching.compare_all.Goals as goal
 

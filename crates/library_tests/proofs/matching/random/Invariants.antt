@@ -1,4 +1,4 @@
-use Rattle.std.proofs.Common.{◌<◌, length}
+use Rattle.library_tests.proofs.Prelude.{◌<◌, length}
 use Rattle.library_tests.proofs.matching.random.Given as goal
 
 abbrev pub invariant-loop : goal.invariant-loop

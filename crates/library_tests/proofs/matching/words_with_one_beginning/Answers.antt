@@ -1,5 +1,4 @@
-use Rattle.std.proofs.Common.{ℕ, ◌<◌, ◌+◌, List, subst, sym, arith}
-use Rattle.std.specs.List.{All}
+use Rattle.library_tests.proofs.Prelude.{ℕ, ◌<◌, ◌+◌, List, subst, sym, arith, All}
 use Rattle.library_tests.proofs.Below.{below-push}
 use Rattle.library_tests.proofs.matching.words_with_one_beginning.Goals as goal
 

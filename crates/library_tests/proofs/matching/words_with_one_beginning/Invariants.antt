@@ -1,5 +1,4 @@
-use Rattle.std.proofs.Common.{◌<◌, ◌+◌}
-use Rattle.std.specs.List.{All}
+use Rattle.library_tests.proofs.Prelude.{◌<◌, ◌+◌, All}
 use Rattle.library_tests.proofs.matching.words_with_one_beginning.Given as goal
 
 abbrev pub invariant-loop-number : goal.invariant-loop-number

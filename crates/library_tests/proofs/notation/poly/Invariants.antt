@@ -1,5 +1,4 @@
-use Rattle.std.specs.List.{All}
-use Rattle.coef_int.specs.Range.{IsCoefficient}
+use Rattle.library_tests.proofs.Prelude.{All, IsCoefficient}
 use Rattle.library_tests.proofs.notation.poly.Given as goal
 
 abbrev pub invariant-loop-value : goal.invariant-loop-value

@@ -1,8 +1,4 @@
-use Rattle.std.proofs.Common.{rules, ◌≡◌, ◌↔◌, Some, IfOk, slice_get, subst}
-use Rattle.std.specs.List.{Contains}
-use Rattle.std.proofs.lemmas.Option.{get_or_from_slice_get, slice_get_within}
-use Rattle.ambiguities.specs.declared.ambiguity.Ambiguity.{Ambiguity}
-use Rattle.ambiguities.specs.Listed.{IsAmbiguityFrom}
+use Rattle.library_tests.proofs.Prelude.{rules, ◌≡◌, ◌↔◌, Some, IfOk, slice_get, subst, Contains, get_or_from_slice_get, slice_get_within, Ambiguity, IsAmbiguityFrom}
 use Rattle.library_tests.proofs.overlapping.first.Goals as goal
 
 pub returns-then-len-gt0 : goal.returns-then-len-gt0

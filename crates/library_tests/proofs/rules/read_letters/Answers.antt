@@ -1,10 +1,4 @@
-use Rattle.std.proofs.Common.{rules, ◌≡◌, ◌<◌, ◌≤◌, get_or, length, arith, sym, subst}
-use Rattle.std.specs.List.{All}
-use Rattle.std.proofs.lemmas.List.{take_all}
-use Rattle.std.proofs.lemmas.List.Elements.{All-push, All-weaker}
-use Rattle.definitions.specs.Poly.{Term}
-use Rattle.word_core.specs.Letters.{IsOver}
-use Rattle.nc_polynomial.proofs.Steps.{take_next}
+use Rattle.library_tests.proofs.Prelude.{rules, ◌≡◌, ◌<◌, ◌≤◌, get_or, length, arith, sym, subst, All, take_all, All-push, All-weaker, Term, IsOver, take_next}
 use Rattle.library_tests.proofs.rules.read_letters.Goals as goal
 
 pub loop-term-preserved : goal.loop-term-preserved

@@ -1,6 +1,4 @@
-use Rattle.std.proofs.Common.{take}
-use Rattle.std.specs.List.{All}
-use Rattle.word_core.specs.Letters.{IsOver}
+use Rattle.library_tests.proofs.Prelude.{take, All, IsOver}
 use Rattle.library_tests.proofs.rules.read_letters.Given as goal
 
 abbrev pub invariant-loop-term : goal.invariant-loop-term

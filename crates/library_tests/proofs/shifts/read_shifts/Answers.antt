@@ -1,6 +1,4 @@
-use Rattle.block_text.proofs.EachText.{values_told, read_values_are}
-use Rattle.block_lines.proofs.LetterReader.{letter_known}
-use Rattle.library_tests.specs.Shifts.{shift_kind, shift_steps, HasLetter}
+use Rattle.library_tests.proofs.Prelude.{values_told, read_values_are, letter_known, shift_kind, shift_steps, HasLetter}
 use Rattle.library_tests.proofs.ShiftLaws.{reader}
 use Rattle.library_tests.proofs.shifts.read_shifts.Goals as goal
 

@@ -1,4 +1,4 @@
-use Rattle.std.proofs.Common.{◌≡◌, ℕ, ◌+◌, ◌-◌, ◌*◌, ◌<◌, length, get_or, ap, ap₂, ◌∙◌, arith}
+use Rattle.matrix_models.proofs.Prelude.{◌≡◌, ℕ, ◌+◌, ◌-◌, ◌*◌, ◌<◌, length, get_or, ap, ap₂, ◌∙◌, arith}
 use Rattle.matrix_models.proofs.Stretches.{nothing_added, done_before, done_right}
 use Rattle.matrix_models.proofs.elimination.add_multiple.Goals as goal
 

@@ -1,4 +1,5 @@
-use Rattle.std.proofs.Common.{◌≡◌, ◌+◌, get_or, ap, ◌∙◌, arith, eqb-true}
+use Rattle.matrix_models.proofs.Prelude.{◌≡◌, ◌+◌, get_or, ap, ◌∙◌, arith}
+use Rattle.std.proofs.Common.{eqb-true}
 use Rattle.matrix_models.proofs.Stretches.{eight_places, or_none}
 use Rattle.matrix_models.proofs.elimination.are_zero.Goals as goal
 

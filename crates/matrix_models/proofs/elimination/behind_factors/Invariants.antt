@@ -1,4 +1,4 @@
-use Rattle.std.proofs.Common.{◌≡◌, ◌<◌, ◌≤◌, ℕ, get_or}
+use Rattle.matrix_models.proofs.Prelude.{◌≡◌, ◌<◌, ◌≤◌, ℕ, get_or}
 use Rattle.matrix_models.proofs.elimination.behind_factors.Given as goal
 
 -- the numbers that were passed are 0

@@ -1,5 +1,4 @@
-use Rattle.std.proofs.Common.{◌-◌, ◌≤◌, length}
-use Rattle.matrix_models.specs.Elimination.{HasNoFactor}
+use Rattle.matrix_models.proofs.Prelude.{◌-◌, ◌≤◌, length, HasNoFactor}
 use Rattle.matrix_models.proofs.elimination.first_factor.Given as goal
 
 -- the numbers that were passed are 0

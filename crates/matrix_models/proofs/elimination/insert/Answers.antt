@@ -1,7 +1,4 @@
-use Rattle.std.proofs.Common.{◌≡◌, ◌<◌, All, length, sym, ap, subst, ◌∙◌}
-use Rattle.std.proofs.lemmas.List.{take_at}
-use Rattle.std.proofs.lemmas.Bool.{eqb-true, eqb-false}
-use Rattle.matrix_models.specs.Elimination.{IsPivot, HasNoFactor, MeetsAlike}
+use Rattle.matrix_models.proofs.Prelude.{◌≡◌, ◌<◌, All, length, sym, ap, subst, ◌∙◌, take_at, eqb-true, eqb-false, IsPivot, HasNoFactor, MeetsAlike}
 use Rattle.matrix_models.proofs.Rows.{pivots-set, small-set, added-pivot, added-nothing, against-all}
 use Rattle.matrix_models.proofs.Stretches.{firsts-set}
 use Rattle.matrix_models.proofs.elimination.insert.Goals as goal

@@ -1,5 +1,4 @@
-use Rattle.std.proofs.Common.{sym, subst, mod-lt, arith}
-use Rattle.definitions.specs.Moduli.{IsFieldModulus}
+use Rattle.matrix_models.proofs.Prelude.{sym, subst, mod-lt, arith, IsFieldModulus}
 use Rattle.matrix_models.proofs.Primes.{field_prime, next_factor}
 use Rattle.matrix_models.proofs.elimination.inverse.Goals as goal
 

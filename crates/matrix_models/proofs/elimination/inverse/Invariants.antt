@@ -1,4 +1,4 @@
-use Rattle.std.proofs.Common.{◌≡◌, ◌*◌, ◌%◌, ◌<◌}
+use Rattle.matrix_models.proofs.Prelude.{◌≡◌, ◌*◌, ◌%◌, ◌<◌}
 use Rattle.matrix_models.proofs.elimination.inverse.Given as goal
 
 -- the product of the number and the factor is what is left

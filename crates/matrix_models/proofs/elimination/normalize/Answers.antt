@@ -1,5 +1,4 @@
-use Rattle.std.proofs.Common.{◌<◌, length, sym, subst, arith, mod-lt}
-use Rattle.std.proofs.lemmas.List.Elements.{All-from_get_or}
+use Rattle.matrix_models.proofs.Prelude.{◌<◌, length, sym, subst, arith, mod-lt, All-from_get_or}
 use Rattle.matrix_models.proofs.Primes.{field_positive}
 use Rattle.matrix_models.proofs.Rows.{meets-scaled, alike_through}
 use Rattle.matrix_models.proofs.elimination.normalize.Goals as goal

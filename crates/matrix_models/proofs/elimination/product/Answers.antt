@@ -1,5 +1,4 @@
-use Rattle.std.proofs.Common.{◌*◌, ◌%◌, ap, ap₂, ◌∙◌}
-use Rattle.std.proofs.lemmas.Nat.{mul-mod_first}
+use Rattle.matrix_models.proofs.Prelude.{◌*◌, ◌%◌, ap, ap₂, ◌∙◌, mul-mod_first}
 use Rattle.matrix_models.proofs.elimination.product.Goals as goal
 
 pub returns : goal.returns

@@ -1,7 +1,4 @@
-use Rattle.std.proofs.Common.{◌≡◌, ℕ, List, ◌+◌, ◌-◌, ◌*◌, ◌%◌, ◌<◌, ◌≤◌, length, get_or, set, Some, None, sym, ap, subst, ◌∙◌, arith}
-use Rattle.std.proofs.lemmas.List.{get_or_read}
-use Rattle.std.proofs.Math.Nat.{mod-mod}
-use Rattle.matrix_models.specs.Elimination.{LiesIn}
+use Rattle.matrix_models.proofs.Prelude.{◌≡◌, ℕ, List, ◌+◌, ◌-◌, ◌*◌, ◌%◌, ◌<◌, ◌≤◌, length, get_or, set, Some, None, sym, ap, subst, ◌∙◌, arith, get_or_read, mod-mod, LiesIn}
 use Rattle.matrix_models.proofs.Primes.{field_positive, field_small}
 use Rattle.matrix_models.proofs.Rows.{meets-congruent, set-congruent, alike_through}
 use Rattle.matrix_models.proofs.Stretches.{pivot_lies}

@@ -1,4 +1,4 @@
-use Rattle.std.proofs.Common.{◌≡◌, ℕ, ◌*◌, ◌%◌, ◌<◌, ◌≤◌, length, get_or}
+use Rattle.matrix_models.proofs.Prelude.{◌≡◌, ℕ, ◌*◌, ◌%◌, ◌<◌, ◌≤◌, length, get_or}
 use Rattle.matrix_models.proofs.elimination.scale.Given as goal
 
 -- the entries before the place are multiplied, and the others are as they were

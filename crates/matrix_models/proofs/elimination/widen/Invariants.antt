@@ -1,4 +1,4 @@
-use Rattle.std.proofs.Common.{◌≡◌, ℕ, ◌<◌, length, get_or}
+use Rattle.matrix_models.proofs.Prelude.{◌≡◌, ℕ, ◌<◌, length, get_or}
 use Rattle.matrix_models.proofs.elimination.widen.Given as goal
 
 -- the numbers before the place are copied

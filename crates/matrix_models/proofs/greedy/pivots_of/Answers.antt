@@ -1,8 +1,4 @@
-use Rattle.std.proofs.Common.{◌≡◌, ◌+◌, ◌<◌, ◌≤◌, ◌∷◌, [], All, length, get_or, take, sym, ap, subst, ◌∙◌}
-use Rattle.std.proofs.lemmas.List.{take_all}
-use Rattle.matrix_models.specs.Systems.{IsEquation, HasNoSolution}
-use Rattle.matrix_models.specs.Elimination.{equation_of}
-use Rattle.matrix_models.specs.Pivots.{StandFor, Add, AreAgainst}
+use Rattle.matrix_models.proofs.Prelude.{◌≡◌, ◌+◌, ◌<◌, ◌≤◌, ◌∷◌, [], All, length, get_or, take, sym, ap, subst, ◌∙◌, take_all, IsEquation, HasNoSolution, equation_of, StandFor, Add, AreAgainst}
 use Rattle.matrix_models.proofs.Reduction.{front, front_more, no_solution-front, length-row_of, row_of-below, equation_of-row_of}
 use Rattle.matrix_models.proofs.greedy.pivots_of.Goals as goal
 

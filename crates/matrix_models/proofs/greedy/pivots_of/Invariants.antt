@@ -1,4 +1,4 @@
-use Rattle.matrix_models.specs.Pivots.{StandFor}
+use Rattle.matrix_models.proofs.Prelude.{StandFor}
 use Rattle.matrix_models.proofs.Reduction.{front}
 use Rattle.matrix_models.proofs.greedy.pivots_of.Given as goal
 

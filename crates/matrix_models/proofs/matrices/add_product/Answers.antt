@@ -1,4 +1,4 @@
-use Rattle.std.proofs.Common.{◌+◌, ◌*◌, ◌%◌, ◌≤◌, ap₂, ◌∙◌, arith}
+use Rattle.matrix_models.proofs.Prelude.{◌+◌, ◌*◌, ◌%◌, ◌≤◌, ap₂, ◌∙◌, arith}
 use Rattle.matrix_models.proofs.Products.{less_square}
 use Rattle.matrix_models.proofs.matrices.add_product.Goals as goal
 

@@ -1,5 +1,4 @@
-use Rattle.std.proofs.Common.{◌*◌, ap₂}
-use Rattle.matrix_models.specs.Matrix.{entry_at}
+use Rattle.matrix_models.proofs.Prelude.{◌*◌, ap₂, entry_at}
 use Rattle.matrix_models.proofs.Products.{total-next}
 use Rattle.matrix_models.proofs.matrices.product_entry.Goals as goal
 

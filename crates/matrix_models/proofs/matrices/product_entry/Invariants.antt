@@ -1,6 +1,4 @@
-use Rattle.std.proofs.Common.{◌≡◌, ◌*◌, ◌%◌, ◌<◌}
-use Rattle.matrix_models.specs.Matrix.{entry_at}
-use Rattle.matrix_models.specs.Matrices.{total}
+use Rattle.matrix_models.proofs.Prelude.{◌≡◌, ◌*◌, ◌%◌, ◌<◌, entry_at, total}
 use Rattle.matrix_models.proofs.matrices.product_entry.Given as goal
 
 -- the sum of the products so far, up to a multiple of the modulus

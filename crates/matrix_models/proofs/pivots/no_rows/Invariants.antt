@@ -1,4 +1,4 @@
-use Rattle.std.proofs.Common.{◌≡◌, replicate, None}
+use Rattle.matrix_models.proofs.Prelude.{◌≡◌, replicate, None}
 use Rattle.matrix_models.proofs.pivots.no_rows.Given as goal
 
 abbrev pub invariant-loop : goal.invariant-loop

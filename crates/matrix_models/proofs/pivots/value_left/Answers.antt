@@ -1,6 +1,4 @@
-use Rattle.std.proofs.Common.{◌*◌, ◌≤◌, get_or, sym, subst, ◌∙◌, arith}
-use Rattle.std.proofs.Math.Nat.{zero-mod}
-use Rattle.std.proofs.lemmas.Nat.{mul-le}
+use Rattle.matrix_models.proofs.Prelude.{◌*◌, ◌≤◌, get_or, sym, subst, ◌∙◌, arith, zero-mod, mul-le}
 use Rattle.matrix_models.proofs.Primes.{field_positive}
 use Rattle.matrix_models.proofs.Stretches.{none_before_sum}
 use Rattle.matrix_models.proofs.pivots.value_left.Goals as goal

@@ -1,5 +1,4 @@
-use Rattle.std.proofs.Common.{◌≡◌, ◌*◌, ◌%◌, ◌<◌, get_or}
-use Rattle.matrix_models.specs.Matrices.{total}
+use Rattle.matrix_models.proofs.Prelude.{◌≡◌, ◌*◌, ◌%◌, ◌<◌, get_or, total}
 use Rattle.matrix_models.proofs.pivots.value_left.Given as goal
 
 -- the sum of the products so far, up to a multiple of the modulus

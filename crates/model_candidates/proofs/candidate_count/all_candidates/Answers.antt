@@ -1,4 +1,4 @@
-use Rattle.adjoint_rules.proofs.Generators.{posed_quiver}
+use Rattle.model_candidates.proofs.Prelude.{posed_quiver}
 use Rattle.model_candidates.proofs.candidate_count.all_candidates.Goals as goal
 
 pub count_for-requires-clause-quiver : goal.count_for-requires-clause-quiver

@@ -1,8 +1,4 @@
-use Rattle.std.proofs.Common.{◌≡◌, ◌≤◌, ◌*◌, take}
-use Rattle.std.specs.List.{sum_by}
-use Rattle.quiver.specs.Declarations.{quiver_of}
-use Rattle.model_candidates.specs.Limits.{exhaustive_limit}
-use Rattle.model_candidates.specs.Candidates.{candidate_count}
+use Rattle.model_candidates.proofs.Prelude.{◌≡◌, ◌≤◌, ◌*◌, take, sum_by, quiver_of, exhaustive_limit, candidate_count}
 use Rattle.model_candidates.proofs.candidate_count.all_candidates.Given as goal
 
 -- the candidates of the shapes that were passed

@@ -1,4 +1,4 @@
-use Rattle.adjoint_rules.proofs.Generators.{posed_quiver}
+use Rattle.model_candidates.proofs.Prelude.{posed_quiver}
 use Rattle.model_candidates.proofs.NumberedShapes.{posed_shape}
 use Rattle.model_candidates.proofs.candidate_count.candidates.Goals as goal
 

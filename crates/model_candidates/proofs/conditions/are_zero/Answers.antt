@@ -1,8 +1,4 @@
-use Rattle.std.proofs.Common.{rules, ◌≡◌, ◌<◌, ◌+◌, ℕ, ◌⊎◌, inl, inr, get_or, sym, subst, ◌∙◌, arith, true≢false}
-use Rattle.std.proofs.lemmas.Bool.{cases_eq}
-use Rattle.std.proofs.lemmas.List.Elements.{All-get_or, All-from_get_or}
-use Rattle.model_candidates.specs.Plans.{IsAssumption, IsZeroAtSignature}
-use Rattle.model_candidates.specs.WordRows.{model_in}
+use Rattle.model_candidates.proofs.Prelude.{rules, ◌≡◌, ◌<◌, ◌+◌, ℕ, ◌⊎◌, inl, inr, get_or, sym, subst, ◌∙◌, arith, true≢false, cases_eq, All-get_or, All-from_get_or, IsAssumption, IsZeroAtSignature, model_in}
 use Rattle.model_candidates.proofs.KnownValues.{no_assumption}
 use Rattle.model_candidates.proofs.conditions.are_zero.Goals as goal
 

@@ -1,6 +1,4 @@
-use Rattle.std.proofs.Common.{ℕ, ◌<◌, get_or}
-use Rattle.model_candidates.specs.Plans.{IsZeroAtSignature}
-use Rattle.model_candidates.specs.WordRows.{model_in}
+use Rattle.model_candidates.proofs.Prelude.{ℕ, ◌<◌, get_or, IsZeroAtSignature, model_in}
 use Rattle.model_candidates.proofs.KnownValues.{no_assumption}
 use Rattle.model_candidates.proofs.conditions.are_zero.Given as goal
 

@@ -1,10 +1,4 @@
-use Rattle.std.proofs.Common.{◌≡◌, ◌↔◌, IsTrue, sym, subst, ◌∙◌}
-use Rattle.definitions.specs.Quiver.{IsTyped}
-use Rattle.definitions.specs.Soundness.{HasValueZeroAt}
-use Rattle.matrix_models.specs.Matrices.{matrices}
-use Rattle.model_checker.specs.Representations.{representation_of}
-use Rattle.model_candidates.specs.Plans.{terms_of}
-use Rattle.model_candidates.specs.WordRows.{model_in, quiver_in}
+use Rattle.model_candidates.proofs.Prelude.{◌≡◌, ◌↔◌, IsTrue, sym, subst, ◌∙◌, IsTyped, HasValueZeroAt, matrices, representation_of, terms_of, model_in, quiver_in}
 use Rattle.model_candidates.proofs.AskedAssumptions.{terms_there}
 use Rattle.model_candidates.proofs.KnownTerms.{coefficients_there}
 use Rattle.model_candidates.proofs.conditions.is_condition_zero.Goals as goal

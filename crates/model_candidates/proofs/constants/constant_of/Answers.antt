@@ -1,6 +1,4 @@
-use Rattle.std.proofs.Common.{◌≡◌, ◌+◌, ◌%◌, ◌<◌, ℕ, get_or, sym, subst, ◌∙◌, arith, mod-lt}
-use Rattle.matrix_models.specs.Matrix.{entry_at}
-use Rattle.model_candidates.specs.WordRows.{value_in}
+use Rattle.model_candidates.proofs.Prelude.{◌≡◌, ◌+◌, ◌%◌, ◌<◌, ℕ, get_or, sym, subst, ◌∙◌, arith, mod-lt, entry_at, value_in}
 use Rattle.model_candidates.proofs.MatrixRows.{AreRows, one_row_more, rows_of_matrix}
 use Rattle.model_candidates.proofs.GivenValues.{given_of, positive}
 use Rattle.model_candidates.proofs.ValueRows.{value_ends}

@@ -1,5 +1,4 @@
-use Rattle.matrix_models.specs.Matrix.{entry_at}
-use Rattle.model_candidates.specs.WordRows.{value_in}
+use Rattle.model_candidates.proofs.Prelude.{entry_at, value_in}
 use Rattle.model_candidates.proofs.MatrixRows.{AreRows}
 use Rattle.model_candidates.proofs.constants.constant_of.Given as goal
 

@@ -1,9 +1,4 @@
-use Rattle.std.proofs.Common.{◌≡◌, ◌+◌, ◌%◌, ◌<◌, ◌≤◌, ℕ, ℤ, List, get_or, length, take, sym, ap, subst, ◌∙◌, arith}
-use Rattle.std.specs.List.{All, sum_by}
-use Rattle.std.proofs.lemmas.List.{take_all}
-use Rattle.quiver.proofs.Counts.{letters-quiver_of}
-use Rattle.matrix_models.specs.Matrix.{entry_at}
-use Rattle.model_candidates.specs.WordRows.{product_in, quiver_in, term_entry}
+use Rattle.model_candidates.proofs.Prelude.{◌≡◌, ◌+◌, ◌%◌, ◌<◌, ◌≤◌, ℕ, ℤ, List, get_or, length, take, sym, ap, subst, ◌∙◌, arith, All, sum_by, take_all, letters-quiver_of, entry_at, product_in, quiver_in, term_entry}
 use Rattle.model_candidates.proofs.KnownConstants.{few_at, nothing_there}
 use Rattle.model_candidates.proofs.SolvedTerms.{path_over}
 use Rattle.model_candidates.proofs.GivenValues.{given_of}

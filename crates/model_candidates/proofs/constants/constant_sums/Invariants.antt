@@ -1,7 +1,4 @@
-use Rattle.std.proofs.Common.{◌≡◌, ℕ, ◌*◌, ◌%◌, ◌<◌, length, get_or, take}
-use Rattle.std.specs.List.{All, sum_by}
-use Rattle.adjoint_rules.specs.Limits.{shape_side_limit}
-use Rattle.model_candidates.specs.WordRows.{term_entry}
+use Rattle.model_candidates.proofs.Prelude.{◌≡◌, ℕ, ◌*◌, ◌%◌, ◌<◌, length, get_or, take, All, sum_by, shape_side_limit, term_entry}
 use Rattle.model_candidates.proofs.constants.constant_sums.Given as goal
 
 -- what the terms that were passed add

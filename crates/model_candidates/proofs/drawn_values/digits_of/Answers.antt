@@ -1,8 +1,4 @@
-use Rattle.std.proofs.Common.{rules, ◌≡◌, ◌/◌, ◌%◌, ◌^◌, ◌++◌, ◌∷◌, [], ◌∙◌, ap, ap₂, sym, arith}
-use Rattle.std.proofs.lemmas.List.FromFn.{map-range_with_len_more}
-use Rattle.std.proofs.lemmas.Grind.{pow_more}
-use Rattle.std.proofs.Math.Nat.{div-div-eq-div-mul}
-use Rattle.model_candidates.specs.Candidates.{digit}
+use Rattle.model_candidates.proofs.Prelude.{rules, ◌≡◌, ◌/◌, ◌%◌, ◌^◌, ◌++◌, ◌∷◌, [], ◌∙◌, ap, ap₂, sym, arith, map-range_with_len_more, pow_more, div-div-eq-div-mul, digit}
 use Rattle.model_candidates.proofs.drawn_values.digits_of.Goals as goal
 
 pub loop-place-preserved : goal.loop-place-preserved

@@ -1,6 +1,4 @@
-use Rattle.std.proofs.Common.{◌≡◌, ◌/◌, ◌^◌, map}
-use Rattle.std.specs.List.{range_with_len}
-use Rattle.model_candidates.specs.Candidates.{digit}
+use Rattle.model_candidates.proofs.Prelude.{◌≡◌, ◌/◌, ◌^◌, map, range_with_len, digit}
 use Rattle.model_candidates.proofs.drawn_values.digits_of.Given as goal
 
 -- the digits of the entries that were passed, and what is left of the number

@@ -1,8 +1,4 @@
-use Rattle.std.proofs.Common.{rules, ◌≡◌, ◌+◌, ◌*◌, ◌%◌, ◌++◌, ◌∷◌, [], ◌∙◌, ap, ap₂, sym, arith}
-use Rattle.std.proofs.lemmas.List.FromFn.{map-range_with_len_more}
-use Rattle.rand_pcg.specs.Lcg.{advance, next, started, increment_of}
-use Rattle.rand_pcg.specs.Pcg.{multiplier_64, pcg32}
-use Rattle.model_candidates.specs.Candidates.{word_of_stream}
+use Rattle.model_candidates.proofs.Prelude.{rules, ◌≡◌, ◌+◌, ◌*◌, ◌%◌, ◌++◌, ◌∷◌, [], ◌∙◌, ap, ap₂, sym, arith, map-range_with_len_more, advance, next, started, increment_of, multiplier_64, pcg32, word_of_stream}
 use Rattle.model_candidates.proofs.Streams.{advance_more}
 use Rattle.model_candidates.proofs.drawn_values.draws_of.Goals as goal
 

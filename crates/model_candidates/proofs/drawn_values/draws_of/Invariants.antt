@@ -1,8 +1,4 @@
-use Rattle.std.proofs.Common.{◌≡◌, ◌+◌, ◌*◌, ◌%◌, map}
-use Rattle.std.specs.List.{range_with_len}
-use Rattle.rand_pcg.specs.Lcg.{advance, started, increment_of}
-use Rattle.rand_pcg.specs.Pcg.{multiplier_64}
-use Rattle.model_candidates.specs.Candidates.{word_of_stream}
+use Rattle.model_candidates.proofs.Prelude.{◌≡◌, ◌+◌, ◌*◌, ◌%◌, map, range_with_len, advance, started, increment_of, multiplier_64, word_of_stream}
 use Rattle.model_candidates.proofs.drawn_values.draws_of.Given as goal
 
 -- the draws of the entries that were passed, and the stream behind their words

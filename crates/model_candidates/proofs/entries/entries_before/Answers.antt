@@ -1,8 +1,4 @@
-use Rattle.std.proofs.Common.{rules, true, false, ◌≡◌, ◌+◌, ◌∙◌, ap, ap₂, sym, length, arith}
-use Rattle.std.proofs.lemmas.List.{length-append}
-use Rattle.quiver.specs.Declarations.{quiver_of}
-use Rattle.model_candidates.specs.Candidates.{is_declared_map, map_entries}
-use Rattle.model_candidates.specs.EntryPlaces.{entries_before}
+use Rattle.model_candidates.proofs.Prelude.{rules, true, false, ◌≡◌, ◌+◌, ◌∙◌, ap, ap₂, sym, length, arith, length-append, quiver_of, is_declared_map, map_entries, entries_before}
 use Rattle.model_candidates.proofs.EntryPlaces.{entries_with, entries_without}
 use Rattle.model_candidates.proofs.entries.entries_before.Goals as goal
 use Rattle.model_candidates.proofs.entries.entries_before.Goals.{then-is_declared, else-is_declared}

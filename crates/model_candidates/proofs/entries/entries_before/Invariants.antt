@@ -1,6 +1,4 @@
-use Rattle.std.proofs.Common.{◌≡◌, ◌≤◌, ◌*◌, length}
-use Rattle.quiver.specs.Declarations.{quiver_of}
-use Rattle.model_candidates.specs.EntryPlaces.{entries_before}
+use Rattle.model_candidates.proofs.Prelude.{◌≡◌, ◌≤◌, ◌*◌, length, quiver_of, entries_before}
 use Rattle.model_candidates.proofs.entries.entries_before.Given as goal
 
 -- the entries of the maps that were passed

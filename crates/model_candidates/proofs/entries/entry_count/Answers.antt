@@ -1,7 +1,4 @@
-use Rattle.std.proofs.Common.{length, ap, sym, ◌∙◌}
-use Rattle.quiver.specs.Declarations.{quiver_of}
-use Rattle.quiver.proofs.Counts.{letters-quiver_of}
-use Rattle.model_candidates.specs.EntryPlaces.{entries_before}
+use Rattle.model_candidates.proofs.Prelude.{length, ap, sym, ◌∙◌, quiver_of, letters-quiver_of, entries_before}
 use Rattle.model_candidates.proofs.entries.entry_count.Goals as goal
 
 pub returns-clause-count : goal.returns-clause-count

@@ -1,9 +1,4 @@
-use Rattle.std.proofs.Common.{◌≡◌, ◌<◌, ◌∙◌, ap, sym, eq-eqb, true≢false, arith}
-use Rattle.std.proofs.lemmas.Bool.Decides.{Decides-eqb}
-use Rattle.definitions.specs.Quiver.{letters, star}
-use Rattle.quiver.specs.Declarations.{quiver_of}
-use Rattle.quiver.proofs.Counts.{letters-quiver_of}
-use Rattle.model_candidates.specs.Candidates.{side_in}
+use Rattle.model_candidates.proofs.Prelude.{◌≡◌, ◌<◌, ◌∙◌, ap, sym, eq-eqb, true≢false, arith, Decides-eqb, letters, star, quiver_of, letters-quiver_of, side_in}
 use Rattle.model_candidates.proofs.EntryPlaces.{few, few_self, self_map_count, other_map_count}
 use Rattle.model_candidates.proofs.entries.map_entry_count.Goals as goal
 

@@ -1,15 +1,5 @@
-use Rattle.std.proofs.Common.{◌≡◌, IfOk, IsTrue, IsFalse, sym, ap, ap₂, subst, ◌∙◌}
-use Rattle.definitions.specs.Category.{IsArrow}
-use Rattle.definitions.specs.Quiver.{IsTyped}
+use Rattle.model_candidates.proofs.Prelude.{◌≡◌, IfOk, IsTrue, IsFalse, sym, ap, ap₂, subst, ◌∙◌, IsArrow, IsTyped, matrices, Add, AreAgainst, representation_of, side_of, numbers_in, has_few, terms_of, residues, assumption_value, solved_terms, rows_with, equations_of, model_in, quiver_in}
 use Rattle.definitions.specs.Representation.{value_at}
-use Rattle.matrix_models.specs.Matrices.{matrices}
-use Rattle.matrix_models.specs.Pivots.{Add, AreAgainst}
-use Rattle.model_checker.specs.Representations.{representation_of, side_of}
-use Rattle.model_candidates.specs.Known.{numbers_in}
-use Rattle.model_candidates.specs.Plans.{has_few, terms_of}
-use Rattle.model_candidates.specs.Residues.{residues}
-use Rattle.model_candidates.specs.Factors.{assumption_value, solved_terms, rows_with, equations_of}
-use Rattle.model_candidates.specs.WordRows.{model_in, quiver_in}
 use Rattle.model_candidates.proofs.AskedAssumptions.{terms_there}
 use Rattle.model_candidates.proofs.KnownTerms.{coefficients_there, known_fit, known_sides}
 use Rattle.model_candidates.proofs.GivenValues.{given_of}

@@ -1,9 +1,4 @@
-use Rattle.std.proofs.Common.{sym, subst, true≢false, ◌∙◌}
-use Rattle.std.specs.List.{All}
-use Rattle.std.proofs.lemmas.Result.{IfOk-weaker}
-use Rattle.quiver.specs.Declarations.{quiver_of}
-use Rattle.model_candidates.specs.Candidates.{model_by}
-use Rattle.model_candidates.specs.Plans.{IsAssumption, IsZeroAtSignature}
+use Rattle.model_candidates.proofs.Prelude.{sym, subst, true≢false, ◌∙◌, All, IfOk-weaker, quiver_of, model_by, IsAssumption, IsZeroAtSignature}
 use Rattle.model_candidates.proofs.Found.{none_weaker, some_weaker}
 use Rattle.model_candidates.proofs.equations.pivots_at.Goals as goal
 

@@ -1,15 +1,4 @@
-use Rattle.std.proofs.Common.{◌≡◌, length, sym, ap, ap₂, subst, ◌∙◌}
-use Rattle.std.specs.List.{All}
-use Rattle.std.proofs.lemmas.Result.{IfOk-weaker}
-use Rattle.quiver.specs.Declarations.{quiver_of}
-use Rattle.matrix_models.specs.Systems.{HasNoSolution}
-use Rattle.matrix_models.specs.Pivots.{StandFor}
-use Rattle.model_candidates.specs.Candidates.{model_by}
-use Rattle.model_candidates.specs.Unknowns.{filled, set_count, unit_values}
-use Rattle.model_candidates.specs.Plans.{AreEntryValues, IsZeroAtSignature}
-use Rattle.model_candidates.specs.Equations.{system_for}
-use Rattle.model_candidates.specs.Factors.{system_in}
-use Rattle.model_candidates.specs.Known.{AreZeros}
+use Rattle.model_candidates.proofs.Prelude.{◌≡◌, length, sym, ap, ap₂, subst, ◌∙◌, All, IfOk-weaker, quiver_of, HasNoSolution, StandFor, model_by, filled, set_count, unit_values, AreEntryValues, IsZeroAtSignature, system_for, system_in, AreZeros}
 use Rattle.model_candidates.proofs.FilledValues.{filled_again, length-unit_values}
 use Rattle.model_candidates.proofs.Found.{none_weaker, some_weaker}
 use Rattle.model_candidates.proofs.PlanSystems.{plan_start, plan_hold, hold_filled}

@@ -1,14 +1,4 @@
-use Rattle.std.proofs.Common.{◌≡◌, ◌+◌, ◌++◌, ◌∷◌, [], ◌<◌, ℕ, List, drop, get_or, length, take, sym, ap, subst, ◌∙◌}
-use Rattle.std.specs.List.{flat_map}
-use Rattle.std.proofs.lemmas.List.{append-nil, append_assoc, take-append-drop, take_more}
-use Rattle.std.proofs.lemmas.Grind.{flat_map-append}
-use Rattle.matrix_models.specs.declared.system.LinearRow.{LinearRow}
-use Rattle.matrix_models.specs.Systems.{HasNoSolution}
-use Rattle.matrix_models.specs.Pivots.{Add, AreAgainst, StandFor}
-use Rattle.matrix_models.proofs.AddedEquations.{against-before}
-use Rattle.model_candidates.specs.declared.plan.LinearAssumption.{LinearAssumption}
-use Rattle.model_candidates.specs.Factors.{equations_of, system_in}
-use Rattle.model_candidates.specs.WordRows.{model_in}
+use Rattle.model_candidates.proofs.Prelude.{◌≡◌, ◌+◌, ◌++◌, ◌∷◌, [], ◌<◌, ℕ, List, drop, get_or, length, take, sym, ap, subst, ◌∙◌, flat_map, append-nil, append_assoc, take-append-drop, take_more, flat_map-append, LinearRow, HasNoSolution, Add, AreAgainst, StandFor, against-before, LinearAssumption, equations_of, system_in, model_in}
 use Rattle.model_candidates.proofs.equations.pivots_with.Goals as goal
 
 abbrev no_assumption : LinearAssumption

@@ -1,7 +1,4 @@
-use Rattle.std.proofs.Common.{take}
-use Rattle.matrix_models.specs.Pivots.{StandFor}
-use Rattle.model_candidates.specs.Factors.{system_in}
-use Rattle.model_candidates.specs.WordRows.{model_in}
+use Rattle.model_candidates.proofs.Prelude.{take, StandFor, system_in, model_in}
 use Rattle.model_candidates.proofs.equations.pivots_with.Given as goal
 
 -- the pivots stand for the equations of the assumptions that were passed

@@ -1,8 +1,4 @@
-use Rattle.std.proofs.Common.{◌≡◌, ◌+◌, ◌*◌, ◌%◌, ◌<◌, ℕ, List, length, get_or, set, sym, ap, ap₂, subst, ◌∙◌, arith}
-use Rattle.std.proofs.lemmas.List.{length-set}
-use Rattle.std.proofs.lemmas.List.Elements.{All-get_or, All-set}
-use Rattle.std.proofs.lemmas.Option.{get_or_from_slice_get, slice_get_within}
-use Rattle.matrix_models.specs.Matrix.{entry_at}
+use Rattle.model_candidates.proofs.Prelude.{◌≡◌, ◌+◌, ◌*◌, ◌%◌, ◌<◌, ℕ, List, length, get_or, set, sym, ap, ap₂, subst, ◌∙◌, arith, length-set, All-get_or, All-set, get_or_from_slice_get, slice_get_within, entry_at}
 use Rattle.model_candidates.proofs.FactorRows.{line_nothing, place_added, place_skipped}
 use Rattle.model_candidates.proofs.factor_rows.add_line.Goals as goal
 

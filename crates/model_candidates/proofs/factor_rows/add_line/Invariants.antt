@@ -1,6 +1,4 @@
-use Rattle.std.proofs.Common.{◌≡◌, ℕ, ◌+◌, ◌*◌, ◌%◌, ◌<◌, length, get_or}
-use Rattle.std.specs.List.{All}
-use Rattle.model_candidates.specs.Factors.{line_factor}
+use Rattle.model_candidates.proofs.Prelude.{◌≡◌, ℕ, ◌+◌, ◌*◌, ◌%◌, ◌<◌, length, get_or, All, line_factor}
 use Rattle.model_candidates.proofs.factor_rows.add_line.Given as goal
 
 -- with what the places that were passed add

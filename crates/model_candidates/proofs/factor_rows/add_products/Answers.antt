@@ -1,5 +1,4 @@
-use Rattle.std.proofs.Common.{get_or, subst, sym, ◌∙◌, arith}
-use Rattle.model_candidates.specs.Factors.{FitsTerm}
+use Rattle.model_candidates.proofs.Prelude.{get_or, subst, sym, ◌∙◌, arith, FitsTerm}
 use Rattle.model_candidates.proofs.FactorRows.{line_added}
 use Rattle.model_candidates.proofs.factor_rows.add_products.Goals as goal
 

@@ -1,7 +1,4 @@
-use Rattle.std.proofs.Common.{◌≡◌, ℕ, ◌+◌, ◌*◌, ◌%◌, ◌<◌, length, get_or}
-use Rattle.std.specs.List.{All}
-use Rattle.matrix_models.specs.Matrices.{total}
-use Rattle.model_candidates.specs.Factors.{place_factor}
+use Rattle.model_candidates.proofs.Prelude.{◌≡◌, ℕ, ◌+◌, ◌*◌, ◌%◌, ◌<◌, length, get_or, All, total, place_factor}
 use Rattle.model_candidates.proofs.factor_rows.add_products.Given as goal
 
 -- with what the rows that were passed add

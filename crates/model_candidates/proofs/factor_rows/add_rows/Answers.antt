@@ -1,12 +1,5 @@
-use Rattle.std.proofs.Common.{◌≡◌, ◌+◌, ◌-◌, ◌*◌, ◌<◌, ◌++◌, ◌∷◌, [], ℕ, List, All, length, map, sym, ap, ap₂, subst, ◌∙◌, arith}
-use Rattle.std.specs.List.{range_with_len}
-use Rattle.std.proofs.lemmas.List.FromFn.{map-range_with_len_more}
-use Rattle.matrix_models.specs.declared.system.LinearRow.{LinearRow}
-use Rattle.matrix_models.specs.Elimination.{equation_of}
-use Rattle.matrix_models.specs.Pivots.{Add, AreAgainst}
-use Rattle.matrix_models.proofs.AddedEquations.{add-both, against-behind, against-before}
-use Rattle.matrix_models.proofs.Reduction.{equation_of-row_of, length-row_of, row_of-below}
-use Rattle.model_candidates.specs.Factors.{row_with, rows_with}
+use Rattle.model_candidates.proofs.Prelude.{◌≡◌, ◌+◌, ◌-◌, ◌*◌, ◌<◌, ◌++◌, ◌∷◌, [], ℕ, List, length, map, sym, ap, ap₂, subst, ◌∙◌, arith, range_with_len, map-range_with_len_more, LinearRow, equation_of, Add, AreAgainst, add-both, against-behind, against-before, equation_of-row_of, length-row_of, row_of-below, row_with, rows_with}
+use Rattle.std.proofs.Common.{All}
 use Rattle.model_candidates.proofs.FactorRows.{row_is_equation}
 use Rattle.model_candidates.proofs.Ranges.{map_range_split}
 use Rattle.model_candidates.proofs.factor_rows.add_rows.Goals as goal

@@ -1,7 +1,4 @@
-use Rattle.std.proofs.Common.{◌≡◌, length, map}
-use Rattle.std.specs.List.{range_with_len}
-use Rattle.matrix_models.specs.Pivots.{Add}
-use Rattle.model_candidates.specs.Factors.{row_with}
+use Rattle.model_candidates.proofs.Prelude.{◌≡◌, length, map, range_with_len, Add, row_with}
 use Rattle.model_candidates.proofs.factor_rows.add_rows.Given as goal
 
 -- the equations of the places that were passed are added

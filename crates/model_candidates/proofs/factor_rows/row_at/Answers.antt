@@ -1,9 +1,4 @@
-use Rattle.std.proofs.Common.{◌≡◌, ◌+◌, ◌-◌, ◌/◌, ◌%◌, ◌++◌, ◌∷◌, [], ℕ, List, length, map, set, sym, ap, ap₂, ◌∙◌, arith}
-use Rattle.std.specs.List.{range_with_len}
-use Rattle.std.proofs.Math.Seq.{set-append_seam}
-use Rattle.std.proofs.lemmas.List.FromFn.{map-range_with_len_more, length-map-range_with_len}
-use Rattle.matrix_models.specs.Matrix.{entry_at}
-use Rattle.model_candidates.specs.Factors.{terms_factor}
+use Rattle.model_candidates.proofs.Prelude.{◌≡◌, ◌+◌, ◌-◌, ◌/◌, ◌%◌, ◌++◌, ◌∷◌, [], ℕ, List, length, map, set, sym, ap, ap₂, ◌∙◌, arith, range_with_len, set-append_seam, map-range_with_len_more, length-map-range_with_len, entry_at, terms_factor}
 use Rattle.model_candidates.proofs.factor_rows.row_at.Goals as goal
 
 pub index_mut-requires : goal.index_mut-requires

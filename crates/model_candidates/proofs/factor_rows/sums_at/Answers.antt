@@ -1,6 +1,4 @@
-use Rattle.std.proofs.Common.{◌≡◌, ◌+◌, ◌%◌, ◌<◌, ℕ, ◌++◌, length, get_or, take, sym, ap, subst, ◌∙◌, arith}
-use Rattle.std.proofs.lemmas.List.{take_at, take_all}
-use Rattle.model_candidates.specs.Factors.{term_factor, terms_factor}
+use Rattle.model_candidates.proofs.Prelude.{◌≡◌, ◌+◌, ◌%◌, ◌<◌, ℕ, ◌++◌, length, get_or, take, sym, ap, subst, ◌∙◌, arith, take_at, take_all, term_factor, terms_factor}
 use Rattle.model_candidates.proofs.FactorRows.{AreSums, term_added, residues}
 use Rattle.model_candidates.proofs.factor_rows.sums_at.Goals as goal
 

@@ -1,4 +1,4 @@
-use Rattle.std.proofs.Common.{take}
+use Rattle.model_candidates.proofs.Prelude.{take}
 use Rattle.model_candidates.proofs.FactorRows.{AreSums}
 use Rattle.model_candidates.proofs.factor_rows.sums_at.Given as goal
 

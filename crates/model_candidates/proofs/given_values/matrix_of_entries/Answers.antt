@@ -1,9 +1,4 @@
-use Rattle.std.proofs.Common.{◌<◌, ◌≤◌, get_or, ap, ◌∙◌, arith}
-use Rattle.std.specs.Result.{IsErrOf}
-use Rattle.std.proofs.Common.{Err}
-use Rattle.std.proofs.lemmas.Bool.{leb-true}
-use Rattle.std.proofs.lemmas.List.Quantifiers.{position-Some}
-use Rattle.matrix_models.specs.declared.fault.MatrixFault.TheVariants.{EntryTooLarge}
+use Rattle.model_candidates.proofs.Prelude.{◌<◌, ◌≤◌, get_or, ap, ◌∙◌, arith, IsErrOf, Err, leb-true, position-Some, EntryTooLarge}
 use Rattle.model_candidates.proofs.given_values.matrix_of_entries.Goals as goal
 
 pub unreachable-requires-in-Err-EntryTooLarge : goal.unreachable-requires-in-Err-EntryTooLarge

@@ -1,11 +1,4 @@
-use Rattle.std.proofs.Common.{rules, ◌≡◌, ◌<◌, ◌*◌, ◌/◌, ◌%◌, ℕ, ◌++◌, ◌∷◌, [], map, length, ap, ap₂, sym, subst, ◌∙◌, arith}
-use Rattle.std.specs.List.{range_with_len, All}
-use Rattle.std.proofs.lemmas.List.Elements.{All-push}
-use Rattle.std.proofs.lemmas.List.FromFn.{map-range_with_len_more, length-map-range_with_len}
-use Rattle.std.proofs.lemmas.Result.{IfOk-weaker}
-use Rattle.definitions.specs.Quiver.{source, target}
-use Rattle.quiver.specs.Declarations.{quiver_of}
-use Rattle.model_candidates.specs.Candidates.{side_in, entry_shown, value_of_entry}
+use Rattle.model_candidates.proofs.Prelude.{rules, ◌≡◌, ◌<◌, ◌*◌, ◌/◌, ◌%◌, ℕ, ◌++◌, ◌∷◌, [], map, length, ap, ap₂, sym, subst, ◌∙◌, arith, range_with_len, All, All-push, map-range_with_len_more, length-map-range_with_len, IfOk-weaker, source, target, quiver_of, side_in, entry_shown, value_of_entry}
 use Rattle.model_candidates.proofs.CandidateModels.{value_below}
 use Rattle.model_candidates.proofs.given_values.matrix_with.Goals as goal
 

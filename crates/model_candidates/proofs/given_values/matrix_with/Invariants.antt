@@ -1,7 +1,4 @@
-use Rattle.std.proofs.Common.{◌≡◌, ◌/◌, ◌%◌, ◌<◌, map}
-use Rattle.std.specs.List.{range_with_len, All}
-use Rattle.quiver.specs.Declarations.{quiver_of}
-use Rattle.model_candidates.specs.Candidates.{entry_shown, value_of_entry}
+use Rattle.model_candidates.proofs.Prelude.{◌≡◌, ◌/◌, ◌%◌, ◌<◌, map, range_with_len, All, quiver_of, entry_shown, value_of_entry}
 use Rattle.model_candidates.proofs.given_values.matrix_with.Given as goal
 
 -- the values of the entries that were passed

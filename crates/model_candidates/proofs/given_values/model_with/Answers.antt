@@ -1,12 +1,4 @@
-use Rattle.std.proofs.Common.{rules, true, false, ◌≡◌, ◌+◌, ◌++◌, ◌∷◌, [], Some, None, cond, map, length, ap, ap₂, sym, ◌∙◌, arith}
-use Rattle.std.specs.List.{range_with_len}
-use Rattle.std.proofs.lemmas.List.{length-append}
-use Rattle.std.proofs.lemmas.List.FromFn.{map-range_with_len_more}
-use Rattle.definitions.specs.Quiver.{letters}
-use Rattle.quiver.specs.Declarations.{quiver_of}
-use Rattle.quiver.proofs.Counts.{letters-quiver_of}
-use Rattle.model_candidates.specs.Candidates.{is_declared_map, map_entries, matrix_by, place_by}
-use Rattle.model_candidates.specs.EntryPlaces.{entries_before}
+use Rattle.model_candidates.proofs.Prelude.{rules, true, false, ◌≡◌, ◌+◌, ◌++◌, ◌∷◌, [], Some, None, cond, map, length, ap, ap₂, sym, ◌∙◌, arith, range_with_len, length-append, map-range_with_len_more, letters, quiver_of, letters-quiver_of, is_declared_map, map_entries, matrix_by, place_by, entries_before}
 use Rattle.model_candidates.proofs.EntryPlaces.{entries_with, entries_without}
 use Rattle.model_candidates.proofs.given_values.model_with.Goals as goal
 use Rattle.model_candidates.proofs.given_values.model_with.Goals.{then-is_declared+in_ok-matrix, else-is_declared}

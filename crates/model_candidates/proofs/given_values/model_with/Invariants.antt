@@ -1,8 +1,4 @@
-use Rattle.std.proofs.Common.{◌≡◌, ◌≤◌, ◌*◌, map, length}
-use Rattle.std.specs.List.{range_with_len}
-use Rattle.quiver.specs.Declarations.{quiver_of}
-use Rattle.model_candidates.specs.Candidates.{place_by}
-use Rattle.model_candidates.specs.EntryPlaces.{entries_before}
+use Rattle.model_candidates.proofs.Prelude.{◌≡◌, ◌≤◌, ◌*◌, map, length, range_with_len, quiver_of, place_by, entries_before}
 use Rattle.model_candidates.proofs.given_values.model_with.Given as goal
 
 -- the matrices of the letters that were passed, and the place of the next entry

@@ -1,6 +1,4 @@
-use Rattle.std.proofs.Common.{◌≡◌, ◌≤◌, true, nat_le, sym, ap, subst, ◌∙◌, arith}
-use Rattle.std.proofs.lemmas.Bool.{leb-true}
-use Rattle.model_candidates.specs.EntryPlaces.{is_kept, place_within}
+use Rattle.model_candidates.proofs.Prelude.{◌≡◌, ◌≤◌, true, nat_le, sym, ap, subst, ◌∙◌, arith, leb-true, is_kept, place_within}
 use Rattle.model_candidates.proofs.EntryPlaces.{place_of_all, place_behind}
 use Rattle.model_candidates.proofs.given_values.place_in_map.Goals as goal
 

@@ -1,12 +1,4 @@
-use Rattle.std.proofs.Common.{ℕ, Bool, true, List, ◌≡◌, ◌<◌, ◌+◌, nat_eq, length, get_or, ap, ap₂, sym, ◌∙◌, arith}
-use Rattle.definitions.specs.Quiver.{letters, source, target, star}
-use Rattle.std.proofs.lemmas.List.Elements.{All-get_or}
-use Rattle.adjoint_rules.specs.declared.parts.Shape.{Shape}
-use Rattle.adjoint_rules.specs.Problem.{IsSide}
-use Rattle.quiver.specs.Declarations.{Declaration, letter_count, quiver_of}
-use Rattle.quiver.proofs.Counts.{letters-quiver_of}
-use Rattle.model_candidates.specs.Candidates.{side_in, is_self, is_declared_map, entries_of}
-use Rattle.model_candidates.specs.EntryPlaces.{entries_before, is_kept, place_within}
+use Rattle.model_candidates.proofs.Prelude.{ℕ, Bool, true, List, ◌≡◌, ◌<◌, ◌+◌, nat_eq, length, get_or, ap, ap₂, sym, ◌∙◌, arith, letters, source, target, star, All-get_or, Shape, IsSide, Declaration, letter_count, quiver_of, letters-quiver_of, side_in, is_self, is_declared_map, entries_of, entries_before, is_kept, place_within}
 use Rattle.model_candidates.proofs.EntryPlaces.{kept_value, kept_inside}
 use Rattle.model_candidates.proofs.given_values.value_kept.Goals as goal
 

@@ -1,6 +1,4 @@
-use Rattle.std.proofs.Common.{◌≡◌, nat_eq, ap, sym, ◌∙◌, arith}
-use Rattle.quiver.specs.Declarations.{quiver_of}
-use Rattle.model_candidates.specs.Candidates.{entry, entry_shown, is_self, value_of_entry}
+use Rattle.model_candidates.proofs.Prelude.{◌≡◌, nat_eq, ap, sym, ◌∙◌, arith, quiver_of, entry, entry_shown, is_self, value_of_entry}
 use Rattle.model_candidates.proofs.EntryPlaces.{shown_mirrored, shown_itself, shown_behind}
 use Rattle.model_candidates.proofs.given_values.value_shown.Goals as goal
 use Rattle.model_candidates.proofs.given_values.value_shown.Goals.{else-selfmade-via-then-selfmade+else-column-row, else-selfmade-via-else-selfmade}

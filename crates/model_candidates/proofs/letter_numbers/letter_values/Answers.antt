@@ -1,10 +1,4 @@
-use Rattle.std.proofs.Common.{rules, ◌≡◌, ◌*◌, ◌/◌, ◌%◌, ℕ, ◌++◌, ◌∷◌, [], map, ap, ap₂, sym, ◌∙◌, arith}
-use Rattle.std.specs.List.{range_with_len}
-use Rattle.std.proofs.lemmas.List.FromFn.{map-range_with_len_more}
-use Rattle.definitions.specs.Quiver.{source, target}
-use Rattle.quiver.specs.Declarations.{quiver_of}
-use Rattle.model_candidates.specs.Candidates.{side_in}
-use Rattle.model_candidates.specs.LetterNumbers.{letter_value}
+use Rattle.model_candidates.proofs.Prelude.{rules, ◌≡◌, ◌*◌, ◌/◌, ◌%◌, ℕ, ◌++◌, ◌∷◌, [], map, ap, ap₂, sym, ◌∙◌, arith, range_with_len, map-range_with_len_more, source, target, quiver_of, side_in, letter_value}
 use Rattle.model_candidates.proofs.letter_numbers.letter_values.Goals as goal
 
 pub loop-place-preserved : goal.loop-place-preserved

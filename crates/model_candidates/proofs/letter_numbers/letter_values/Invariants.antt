@@ -1,7 +1,4 @@
-use Rattle.std.proofs.Common.{◌≡◌, ◌/◌, ◌%◌, map}
-use Rattle.std.specs.List.{range_with_len}
-use Rattle.quiver.specs.Declarations.{quiver_of}
-use Rattle.model_candidates.specs.LetterNumbers.{letter_value}
+use Rattle.model_candidates.proofs.Prelude.{◌≡◌, ◌/◌, ◌%◌, map, range_with_len, quiver_of, letter_value}
 use Rattle.model_candidates.proofs.letter_numbers.letter_values.Given as goal
 
 -- the values at the places that were passed

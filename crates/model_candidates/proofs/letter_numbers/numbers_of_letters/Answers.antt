@@ -1,13 +1,4 @@
-use Rattle.std.proofs.Common.{rules, true, false, ◌≡◌, ◌<◌, ◌++◌, ◌∷◌, [], ℕ, Option, List, Some, None, cond, map, length, ap, ap₂, sym, ◌∙◌, arith}
-use Rattle.std.specs.List.{range_with_len}
-use Rattle.std.proofs.lemmas.List.FromFn.{map-range_with_len_more}
-use Rattle.definitions.specs.Quiver.{letters}
-use Rattle.quiver.specs.Declarations.{quiver_of}
-use Rattle.quiver.proofs.Counts.{letters-quiver_of}
-use Rattle.adjoint_rules.proofs.Generators.{posed_quiver}
-use Rattle.model_candidates.specs.Candidates.{is_solved}
-use Rattle.model_candidates.specs.Unknowns.{solved_flags, unknown_numbers}
-use Rattle.model_candidates.specs.LetterNumbers.{letter_numbers, letter_values}
+use Rattle.model_candidates.proofs.Prelude.{rules, true, false, ◌≡◌, ◌<◌, ◌++◌, ◌∷◌, [], ℕ, Option, List, Some, None, cond, map, length, ap, ap₂, sym, ◌∙◌, arith, range_with_len, map-range_with_len_more, letters, quiver_of, letters-quiver_of, posed_quiver, is_solved, solved_flags, unknown_numbers, letter_numbers, letter_values}
 use Rattle.model_candidates.proofs.CandidateModels.{is_declared}
 use Rattle.model_candidates.proofs.GivenValues.{solved_maps}
 use Rattle.model_candidates.proofs.LetterEntries.{has_solved_map, solved_map}

@@ -1,10 +1,4 @@
-use Rattle.std.proofs.Common.{rules, ◌≡◌, ◌++◌, ◌∷◌, [], map, ap, ap₂, sym, ◌∙◌, arith}
-use Rattle.std.specs.List.{range_with_len}
-use Rattle.std.proofs.lemmas.List.FromFn.{map-range_with_len_more}
-use Rattle.definitions.specs.Quiver.{letters}
-use Rattle.quiver.specs.Declarations.{quiver_of}
-use Rattle.quiver.proofs.Counts.{letters-quiver_of}
-use Rattle.model_candidates.specs.LetterTables.{letter_table}
+use Rattle.model_candidates.proofs.Prelude.{rules, ◌≡◌, ◌++◌, ◌∷◌, [], map, ap, ap₂, sym, ◌∙◌, arith, range_with_len, map-range_with_len_more, letters, quiver_of, letters-quiver_of, letter_table}
 use Rattle.model_candidates.proofs.letter_tables.letter_tables.Goals as goal
 
 pub loop-number-preserved : goal.loop-number-preserved

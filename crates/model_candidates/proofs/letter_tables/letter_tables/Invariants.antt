@@ -1,7 +1,4 @@
-use Rattle.std.proofs.Common.{◌≡◌, map}
-use Rattle.std.specs.List.{range_with_len}
-use Rattle.quiver.specs.Declarations.{quiver_of}
-use Rattle.model_candidates.specs.LetterTables.{letter_table}
+use Rattle.model_candidates.proofs.Prelude.{◌≡◌, map, range_with_len, quiver_of, letter_table}
 use Rattle.model_candidates.proofs.letter_tables.letter_tables.Given as goal
 
 -- the tables of the letters that were passed

@@ -1,7 +1,4 @@
-use Rattle.std.proofs.Common.{subst}
-use Rattle.std.proofs.lemmas.Result.{IfOk-weaker}
-use Rattle.adjoint_rules.specs.declared.parts.Shape.{Shape}
-use Rattle.model_candidates.specs.Candidates.{IsCandidate, IsShapeOf}
+use Rattle.model_candidates.proofs.Prelude.{subst, IfOk-weaker, Shape, IsCandidate, IsShapeOf}
 use Rattle.model_candidates.proofs.one_candidate.candidate.Goals as goal
 
 pub returns : goal.returns

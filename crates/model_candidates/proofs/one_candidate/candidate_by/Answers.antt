@@ -1,9 +1,5 @@
-use Rattle.std.proofs.Common.{◌≡◌, Some, IfSome, sym, ap, subst, ◌∙◌}
+use Rattle.model_candidates.proofs.Prelude.{◌≡◌, Some, IfSome, sym, ap, subst, ◌∙◌, quiver_of, posed_quiver, IsCandidate, model_by, AreEntryValues}
 use Rattle.std.specs.Option.{option_map}
-use Rattle.quiver.specs.Declarations.{quiver_of}
-use Rattle.adjoint_rules.proofs.Generators.{posed_quiver}
-use Rattle.model_candidates.specs.Candidates.{IsCandidate, model_by}
-use Rattle.model_candidates.specs.Plans.{AreEntryValues}
 use Rattle.model_candidates.proofs.NumberedShapes.{posed_shape, shape_numbered, one_shape}
 use Rattle.model_candidates.proofs.one_candidate.candidate_by.Goals as goal
 

@@ -1,11 +1,5 @@
-use Rattle.std.proofs.Common.{ℕ, ◌+◌, ◌*◌, ◌%◌, List, map, not, Some, IfNone, IfSome, IfOk, sym, ap, subst, ◌∙◌, arith}
-use Rattle.std.specs.List.{range_with_len}
+use Rattle.model_candidates.proofs.Prelude.{ℕ, ◌+◌, ◌*◌, ◌%◌, List, map, not, Some, IfNone, IfSome, IfOk, sym, ap, subst, ◌∙◌, arith, range_with_len, IfOk-weaker, quiver_of, posed_quiver, IsCandidate, IsGreedy, IsSolution, digit, model_by, word_of_stream, AreEntryValues}
 use Rattle.std.specs.Option.{option_map}
-use Rattle.std.proofs.lemmas.Result.{IfOk-weaker}
-use Rattle.quiver.specs.Declarations.{quiver_of}
-use Rattle.adjoint_rules.proofs.Generators.{posed_quiver}
-use Rattle.model_candidates.specs.Candidates.{IsCandidate, IsGreedy, IsSolution, digit, model_by, word_of_stream}
-use Rattle.model_candidates.specs.Plans.{AreEntryValues}
 use Rattle.model_candidates.proofs.CandidateModels.{modulus_of_shape}
 use Rattle.model_candidates.proofs.NumberedShapes.{digits_are_values, draws_are_values, one_shape, plan_fits, posed_shape, shape_numbered}
 use Rattle.model_candidates.proofs.TestedValues.{drawn_candidate, greedy_are_values}

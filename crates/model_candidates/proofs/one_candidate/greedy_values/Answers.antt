@@ -1,12 +1,6 @@
-use Rattle.std.proofs.Common.{◌≡◌, ◌<◌, All, IfNone, IfSome, length, sym, ap, ap₂, subst, ◌∙◌}
-use Rattle.matrix_models.specs.Systems.{HasNoSolution}
+use Rattle.model_candidates.proofs.Prelude.{◌≡◌, ◌<◌, IfNone, IfSome, length, sym, ap, ap₂, subst, ◌∙◌, HasNoSolution, StandFor, IsGreedy, model_by, filled, picked, set_count, IsZeroAtSignature, system_for, quiver_of}
+use Rattle.std.proofs.Common.{All}
 use Rattle.matrix_models.specs.Greedy as of_system
-use Rattle.matrix_models.specs.Pivots.{StandFor}
-use Rattle.model_candidates.specs.Candidates.{IsGreedy, model_by}
-use Rattle.model_candidates.specs.Unknowns.{filled, picked, set_count}
-use Rattle.model_candidates.specs.Plans.{IsZeroAtSignature}
-use Rattle.model_candidates.specs.Equations.{system_for}
-use Rattle.quiver.specs.Declarations.{quiver_of}
 use Rattle.model_candidates.proofs.DrawnEntries.{flag_of_each}
 use Rattle.model_candidates.proofs.GivenValues.{AreGiven}
 use Rattle.model_candidates.proofs.PlanSystems.{plan_conditions, plan_prefer, plan_greedy, plan_none}

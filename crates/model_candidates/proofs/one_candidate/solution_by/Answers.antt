@@ -1,6 +1,5 @@
-use Rattle.std.proofs.Common.{◌<◌, All, length, sym, ap, subst, ◌∙◌}
-use Rattle.std.proofs.lemmas.Result.{IfOk-weaker}
-use Rattle.matrix_models.specs.Pivots.{AreGreedyFor}
+use Rattle.model_candidates.proofs.Prelude.{◌<◌, length, sym, ap, subst, ◌∙◌, IfOk-weaker, AreGreedyFor}
+use Rattle.std.proofs.Common.{All}
 use Rattle.model_candidates.proofs.one_candidate.solution_by.Goals as goal
 
 pub values-requires-clause-size : goal.values-requires-clause-size

@@ -1,18 +1,5 @@
-use Rattle.std.proofs.Common.{rules, ◌≡◌, ◌<◌, Some, slice_get, ◌++◌, ◌∷◌, [], ℕ, Bool, true, false, cond, length, ap, sym, subst, ◌∙◌, true≢false}
-use Rattle.std.specs.List.{All}
-use Rattle.std.proofs.lemmas.Slice.Zip.{AllZip-long}
-use Rattle.nc_polynomial.specs.declared.poly.Poly.{Poly}
-use Rattle.traced_rows.proofs.Lists.{all_push, all_front, last_in}
-use Rattle.quiver.specs.Declarations.{letter_count, quiver_of}
-use Rattle.quiver.proofs.Counts.{letters-quiver_of}
-use Rattle.adjoint_rules.specs.declared.problem.Problem.{Problem}
-use Rattle.adjoint_rules.specs.Problem.{IsTypedOf}
-use Rattle.adjoint_rules.proofs.Generators.{posed_quiver}
-use Rattle.model_candidates.specs.declared.plan.LinearAssumption.{LinearAssumption}
-use Rattle.model_checker.specs.Models.{IsZeroIn}
-use Rattle.model_candidates.specs.Plans.{IsAssumption, IsZeroAtSignature, is_asked}
+use Rattle.model_candidates.proofs.Prelude.{rules, ◌≡◌, ◌<◌, Some, slice_get, ◌++◌, ◌∷◌, [], ℕ, Bool, true, false, cond, length, ap, sym, subst, ◌∙◌, true≢false, All, AllZip-long, Poly, all_push, all_front, last_in, letter_count, quiver_of, letters-quiver_of, Problem, IsTypedOf, posed_quiver, LinearAssumption, IsZeroIn, IsAssumption, IsZeroAtSignature, is_asked, item_at}
 use Rattle.model_candidates.proofs.AskedAssumptions.{kept_more, signed_at, letters_within, is_assumption, zero_everywhere}
-use Rattle.model_checker.proofs.Places.{item_at}
 use Rattle.model_candidates.proofs.plan.assumptions_asked.Goals as goal
 use Rattle.model_candidates.proofs.plan.assumptions_asked.Goals.{then-is_asked+in_ok-push, else-is_asked}
 

@@ -1,10 +1,4 @@
-use Rattle.std.proofs.Common.{filter, take, if◌then◌else◌}
-use Rattle.std.specs.List.{All, AllByRecursion}
-use Rattle.quiver.specs.Declarations.{quiver_of}
-use Rattle.matrix_models.specs.declared.model.Model.{Model}
-use Rattle.adjoint_rules.specs.Problem.{polynomials}
-use Rattle.model_checker.specs.Models.{IsZeroIn}
-use Rattle.model_candidates.specs.Plans.{IsAssumption, IsZeroAtSignature, is_asked}
+use Rattle.model_candidates.proofs.Prelude.{filter, take, if◌then◌else◌, All, AllByRecursion, quiver_of, Model, polynomials, IsZeroIn, IsAssumption, IsZeroAtSignature, is_asked}
 use Rattle.model_candidates.proofs.plan.assumptions_asked.Given as goal
 
 -- those that were passed

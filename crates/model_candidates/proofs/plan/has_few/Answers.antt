@@ -1,9 +1,4 @@
-use Rattle.std.proofs.Common.{◌≡◌, ◌<◌, ◌&&◌, ℤ, ℕ, List, true, false, nat_le, get_or, length, sym, ap, ap₂, ◌∙◌, arith}
-use Rattle.std.proofs.lemmas.Bool.{le-leb, lt-leb}
-use Rattle.std.proofs.lemmas.List.Folds.{list_all_at, list_all_more}
-use Rattle.std.proofs.lemmas.Option.{get_or_from_slice_get}
-use Rattle.quiver.specs.Declarations.{quiver_of}
-use Rattle.model_candidates.specs.Candidates.{solved_count}
+use Rattle.model_candidates.proofs.Prelude.{◌≡◌, ◌<◌, ◌&&◌, ℤ, ℕ, List, true, false, nat_le, get_or, length, sym, ap, ap₂, ◌∙◌, arith, le-leb, lt-leb, list_all_at, list_all_more, get_or_from_slice_get, quiver_of, solved_count}
 use Rattle.model_candidates.proofs.plan.has_few.Goals as goal
 
 pub returns-then-solved_count-most : goal.returns-then-solved_count-most

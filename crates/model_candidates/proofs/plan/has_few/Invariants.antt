@@ -1,7 +1,4 @@
-use Rattle.std.proofs.Common.{◌≡◌, true, nat_le, take}
-use Rattle.std.specs.List.{list_all}
-use Rattle.quiver.specs.Declarations.{quiver_of}
-use Rattle.model_candidates.specs.Candidates.{solved_count}
+use Rattle.model_candidates.proofs.Prelude.{◌≡◌, true, nat_le, take, list_all, quiver_of, solved_count}
 use Rattle.model_candidates.proofs.plan.has_few.Given as goal
 
 -- each word that was passed has so many solved letters at most

@@ -1,11 +1,4 @@
-use Rattle.std.proofs.Common.{◌≡◌, ◌<◌, ℕ, Bool, List, ◌||◌, sym, ap, subst, ◌∙◌, arith}
-use Rattle.std.specs.List.{All, AllByRecursion}
-use Rattle.std.proofs.lemmas.List.Elements.{recursion_from_All}
-use Rattle.definitions.specs.Quiver.{IsQuiver, letters, star}
-use Rattle.word_core.specs.declared.letter.Letter.{Letter}
-use Rattle.quiver.specs.Declarations.{Declaration, letter_count, quiver_of}
-use Rattle.quiver.proofs.Counts.{letters-quiver_of}
-use Rattle.model_candidates.specs.Candidates.{is_solved, is_solved_map}
+use Rattle.model_candidates.proofs.Prelude.{◌≡◌, ◌<◌, ℕ, Bool, List, ◌||◌, sym, ap, subst, ◌∙◌, arith, All, AllByRecursion, recursion_from_All, IsQuiver, letters, star, Letter, Declaration, letter_count, quiver_of, letters-quiver_of, is_solved, is_solved_map}
 use Rattle.model_candidates.proofs.SolvedLetters.{solved_by_maps}
 use Rattle.model_candidates.proofs.plan.is_solved.Goals as goal
 

@@ -1,10 +1,4 @@
-use Rattle.std.proofs.Common.{◌^◌, nat_le, ap, subst, ◌∙◌}
-use Rattle.quiver.specs.Declarations.{quiver_of}
-use Rattle.model_candidates.specs.declared.plan.Plan.{Plan}
-use Rattle.model_candidates.specs.Limits.{exhaustive_limit}
-use Rattle.model_candidates.specs.Plans.{FitsShape}
-use Rattle.model_candidates.specs.Unknowns.{set_count, solved_flags}
-use Rattle.adjoint_rules.proofs.Generators.{posed_quiver}
+use Rattle.model_candidates.proofs.Prelude.{◌^◌, nat_le, ap, subst, ◌∙◌, quiver_of, Plan, exhaustive_limit, FitsShape, set_count, solved_flags, posed_quiver}
 use Rattle.model_candidates.proofs.NumberedShapes.{one_shape, posed_shape}
 use Rattle.model_candidates.proofs.plan.plan_of.Goals as goal
 

@@ -1,4 +1,4 @@
-use Rattle.std.proofs.Common.{◌≡◌, ◌++◌, replicate}
+use Rattle.model_candidates.proofs.Prelude.{◌≡◌, ◌++◌, replicate}
 use Rattle.model_candidates.proofs.plan.push_flags.Given as goal
 
 -- with the flags that were pushed

@@ -1,7 +1,4 @@
-use Rattle.std.proofs.Common.{rules, ◌≤◌, take, arith}
-use Rattle.std.proofs.lemmas.List.{length-take-le}
-use Rattle.quiver.specs.Declarations.{quiver_of}
-use Rattle.model_candidates.specs.Candidates.{is_solved}
+use Rattle.model_candidates.proofs.Prelude.{rules, ◌≤◌, take, arith, length-take-le, quiver_of, is_solved}
 use Rattle.model_candidates.proofs.SolvedLetters.{few_kept}
 use Rattle.model_candidates.proofs.plan.solved_count.Goals as goal
 

@@ -1,6 +1,4 @@
-use Rattle.std.proofs.Common.{◌≡◌, take}
-use Rattle.quiver.specs.Declarations.{quiver_of}
-use Rattle.model_candidates.specs.Candidates.{solved_count}
+use Rattle.model_candidates.proofs.Prelude.{◌≡◌, take, quiver_of, solved_count}
 use Rattle.model_candidates.proofs.plan.solved_count.Given as goal
 
 -- the solved letters that were passed

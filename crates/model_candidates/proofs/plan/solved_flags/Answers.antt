@@ -1,11 +1,4 @@
-use Rattle.std.proofs.Common.{rules, ◌≡◌, ◌++◌, true, false, Bool, length, map, replicate, sym, ap, ap₂, ◌∙◌, arith}
-use Rattle.std.proofs.lemmas.List.{map-append}
-use Rattle.std.proofs.lemmas.List.Elements.{All-from_recursion, All-weaker, recursion_from_All}
-use Rattle.definitions.specs.Quiver.{letters}
-use Rattle.quiver.specs.Declarations.{quiver_of}
-use Rattle.quiver.proofs.Counts.{letters-quiver_of}
-use Rattle.model_candidates.specs.Candidates.{Entry, is_declared_map, is_solved_map, map_entries}
-use Rattle.model_candidates.specs.EntryPlaces.{entries_before}
+use Rattle.model_candidates.proofs.Prelude.{rules, ◌≡◌, ◌++◌, true, false, Bool, length, map, replicate, sym, ap, ap₂, ◌∙◌, arith, map-append, All-from_recursion, All-weaker, recursion_from_All, letters, quiver_of, letters-quiver_of, Entry, is_declared_map, is_solved_map, map_entries, entries_before}
 use Rattle.model_candidates.proofs.EntryPlaces.{entries_of_map, entries_with, entries_without}
 use Rattle.model_candidates.proofs.SolvedLetters.{map-same}
 use Rattle.model_candidates.proofs.plan.solved_flags.Goals as goal

@@ -1,7 +1,4 @@
-use Rattle.std.proofs.Common.{◌≡◌, map}
-use Rattle.quiver.specs.Declarations.{quiver_of}
-use Rattle.model_candidates.specs.Candidates.{is_solved_map}
-use Rattle.model_candidates.specs.EntryPlaces.{entries_before}
+use Rattle.model_candidates.proofs.Prelude.{◌≡◌, map, quiver_of, is_solved_map, entries_before}
 use Rattle.model_candidates.proofs.plan.solved_flags.Given as goal
 
 -- the flags of the entries of the maps that were passed

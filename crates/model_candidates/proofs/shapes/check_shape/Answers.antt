@@ -1,8 +1,4 @@
-use Rattle.std.proofs.Common.{◌<◌, ◌≤◌, take, length, get_or, refl, sym, ap, subst, arith, rules}
-use Rattle.std.specs.List.{All}
-use Rattle.std.proofs.lemmas.List.{take_all, take_more}
-use Rattle.std.proofs.lemmas.List.Elements.{All-push}
-use Rattle.adjoint_rules.specs.Problem.{IsSide}
+use Rattle.model_candidates.proofs.Prelude.{◌<◌, ◌≤◌, take, length, get_or, refl, sym, ap, subst, arith, rules, All, take_all, take_more, All-push, IsSide}
 use Rattle.model_candidates.proofs.shapes.check_shape.Goals as goal
 
 pub loop-place-preserved : goal.loop-place-preserved

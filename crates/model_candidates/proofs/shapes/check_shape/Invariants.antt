@@ -1,6 +1,4 @@
-use Rattle.std.proofs.Common.{take}
-use Rattle.std.specs.List.{All}
-use Rattle.adjoint_rules.specs.Problem.{IsSide}
+use Rattle.model_candidates.proofs.Prelude.{take, All, IsSide}
 use Rattle.model_candidates.proofs.shapes.check_shape.Given as goal
 
 -- the sides that were passed are sides

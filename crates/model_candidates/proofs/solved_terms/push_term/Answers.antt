@@ -1,21 +1,4 @@
-use Rattle.std.proofs.Common.{rules, ◌≡◌, ◌+◌, ◌*◌, ◌<◌, ◌≤◌, ◌++◌, ◌∷◌, [], ℕ, ℤ, List, true, length, get_or, take, drop, Some, Option, option_map, sym, ap, subst, ◌∙◌, arith}
-use Rattle.std.specs.List.{All}
-use Rattle.std.proofs.lemmas.List.{take_all}
-use Rattle.std.proofs.lemmas.Option.{same_Some}
-use Rattle.std.proofs.lemmas.List.FromFn.{length-map-range_with_len}
-use Rattle.definitions.specs.Quiver.{source, target, letters, leads}
-use Rattle.quiver.specs.Declarations.{letter_count}
-use Rattle.quiver.proofs.Counts.{letters-quiver_of}
-use Rattle.matrix_models.specs.Matrices.{matrices}
-use Rattle.representations.proofs.ValueLoop.{term_is_path}
-use Rattle.model_checker.specs.Representations.{representation_of}
-use Rattle.adjoint_rules.specs.Limits.{shape_side_limit}
-use Rattle.model_candidates.specs.declared.solved_terms.SolvedTerm.{SolvedTerm}
-use Rattle.model_candidates.specs.Known.{numbers_in}
-use Rattle.model_candidates.specs.WordRows.{model_in, quiver_in}
-use Rattle.model_candidates.specs.LetterNumbers.{letter_numbers}
-use Rattle.model_candidates.specs.Factors.{letters_product, residue, listed, term_around, solved_term}
-use Rattle.model_candidates.specs.LetterNumbers.{letter_values}
+use Rattle.model_candidates.proofs.Prelude.{rules, ◌≡◌, ◌+◌, ◌*◌, ◌<◌, ◌≤◌, ◌++◌, ◌∷◌, [], ℕ, ℤ, List, true, length, get_or, take, drop, Some, Option, option_map, sym, ap, subst, ◌∙◌, arith, All, take_all, same_Some, length-map-range_with_len, source, target, letters, leads, letter_count, letters-quiver_of, matrices, term_is_path, representation_of, shape_side_limit, SolvedTerm, numbers_in, model_in, quiver_in, letter_numbers, letters_product, residue, listed, term_around, solved_term, letter_values}
 use Rattle.model_candidates.proofs.GivenValues.{given_of}
 use Rattle.model_candidates.proofs.ValueRows.{coefficient_at}
 use Rattle.model_candidates.proofs.WordRows.{few_numbers}

@@ -1,12 +1,4 @@
-use Rattle.std.proofs.Common.{rules, ◌≡◌, ◌+◌, ◌<◌, ◌≤◌, ℕ, false, length, get_or, None, ◌⊎◌, inl, inr, sym, ap, subst, ◌∙◌, arith}
-use Rattle.std.proofs.lemmas.Bool.{cases_lt}
-use Rattle.std.proofs.lemmas.List.Elements.{All-get_or}
-use Rattle.std.proofs.lemmas.List.FromFn.{length-map-range_with_len}
-use Rattle.definitions.specs.Quiver.{letters}
-use Rattle.quiver.specs.Declarations.{letter_count, quiver_of}
-use Rattle.quiver.proofs.Counts.{letters-quiver_of}
-use Rattle.model_candidates.specs.Candidates.{is_solved}
-use Rattle.model_candidates.specs.LetterNumbers.{letter_numbers}
+use Rattle.model_candidates.proofs.Prelude.{rules, ◌≡◌, ◌+◌, ◌<◌, ◌≤◌, ℕ, false, length, get_or, None, ◌⊎◌, inl, inr, sym, ap, subst, ◌∙◌, arith, cases_lt, All-get_or, length-map-range_with_len, letters, letter_count, quiver_of, letters-quiver_of, is_solved, letter_numbers}
 use Rattle.model_candidates.proofs.SolvedPlaces.{first_place, no_place}
 use Rattle.model_candidates.proofs.SolvedTerms.{solved_where_numbered, unsolved_where_none}
 use Rattle.model_candidates.proofs.solved_terms.solved_place.Goals as goal

@@ -1,6 +1,4 @@
-use Rattle.std.proofs.Common.{◌≡◌, ℕ, false, ◌<◌, get_or}
-use Rattle.model_candidates.specs.Candidates.{is_solved}
-use Rattle.model_candidates.specs.WordRows.{quiver_in}
+use Rattle.model_candidates.proofs.Prelude.{◌≡◌, ℕ, false, ◌<◌, get_or, is_solved, quiver_in}
 use Rattle.model_candidates.proofs.solved_terms.solved_place.Given as goal
 
 -- no letter that was passed is one

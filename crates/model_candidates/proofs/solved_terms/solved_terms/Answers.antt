@@ -1,12 +1,4 @@
-use Rattle.std.proofs.Common.{◌≡◌, ◌<◌, ◌++◌, ◌∷◌, [], ℕ, ℤ, pos, List, length, get_or, take, sym, ap, ◌∙◌, arith}
-use Rattle.std.specs.List.{flat_map}
-use Rattle.std.proofs.lemmas.List.{append-nil, take_more}
-use Rattle.std.proofs.lemmas.Grind.{flat_map-append}
-use Rattle.std.proofs.lemmas.Option.{slice_get-get_or}
-use Rattle.model_candidates.specs.declared.solved_terms.SolvedTerm.{SolvedTerm}
-use Rattle.model_candidates.specs.Known.{numbers_in}
-use Rattle.model_candidates.specs.WordRows.{model_in, quiver_in}
-use Rattle.model_candidates.specs.Factors.{solved_term, listed}
+use Rattle.model_candidates.proofs.Prelude.{◌≡◌, ◌<◌, ◌++◌, ◌∷◌, [], ℕ, ℤ, pos, List, length, get_or, take, sym, ap, ◌∙◌, arith, flat_map, append-nil, take_more, flat_map-append, slice_get-get_or, SolvedTerm, numbers_in, model_in, quiver_in, solved_term, listed}
 use Rattle.model_candidates.proofs.solved_terms.solved_terms.Goals as goal
 
 abbrev no_term : ℤ × List ℕ

@@ -1,7 +1,4 @@
-use Rattle.std.proofs.Common.{◌≡◌, take}
-use Rattle.model_candidates.specs.Known.{numbers_in}
-use Rattle.model_candidates.specs.WordRows.{model_in, quiver_in}
-use Rattle.model_candidates.specs.Factors.{solved_terms}
+use Rattle.model_candidates.proofs.Prelude.{◌≡◌, take, numbers_in, model_in, quiver_in, solved_terms}
 use Rattle.model_candidates.proofs.solved_terms.solved_terms.Given as goal
 
 -- the terms that were passed and have a solved letter

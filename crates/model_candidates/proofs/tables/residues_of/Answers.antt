@@ -1,7 +1,4 @@
-use Rattle.std.proofs.Common.{rules, ◌≡◌, ◌+◌, ◌<◌, ◌++◌, ◌∷◌, [], ℕ, ℤ, List, length, take, ap, ap₂, sym, ◌∙◌, arith}
-use Rattle.std.proofs.lemmas.List.{take_more, map_push}
-use Rattle.std.proofs.lemmas.Option.{get_or_from_slice_get}
-use Rattle.model_candidates.specs.Residues.{residue, residues}
+use Rattle.model_candidates.proofs.Prelude.{rules, ◌≡◌, ◌+◌, ◌<◌, ◌++◌, ◌∷◌, [], ℕ, ℤ, List, length, take, ap, ap₂, sym, ◌∙◌, arith, take_more, map_push, get_or_from_slice_get, residue, residues}
 use Rattle.model_candidates.proofs.tables.residues_of.Goals as goal
 
 pub loop-place-preserved : goal.loop-place-preserved

@@ -1,5 +1,4 @@
-use Rattle.std.proofs.Common.{◌≡◌, take}
-use Rattle.model_candidates.specs.Residues.{residues}
+use Rattle.model_candidates.proofs.Prelude.{◌≡◌, take, residues}
 use Rattle.model_candidates.proofs.tables.residues_of.Given as goal
 
 -- those of the terms that were passed

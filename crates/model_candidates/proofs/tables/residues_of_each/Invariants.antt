@@ -1,5 +1,4 @@
-use Rattle.std.proofs.Common.{◌≡◌, map, take}
-use Rattle.model_candidates.specs.Residues.{residues}
+use Rattle.model_candidates.proofs.Prelude.{◌≡◌, map, take, residues}
 use Rattle.model_candidates.proofs.tables.residues_of_each.Given as goal
 
 -- those of the polynomials that were passed

@@ -1,6 +1,4 @@
-use Rattle.std.proofs.Common.{arith}
-use Rattle.quiver.specs.Declarations.{quiver_of}
-use Rattle.adjoint_rules.proofs.Generators.{posed_quiver}
+use Rattle.model_candidates.proofs.Prelude.{arith, quiver_of, posed_quiver}
 use Rattle.model_candidates.proofs.CandidateModels.{modulus_of_shape}
 use Rattle.model_candidates.proofs.tables.tables_of.Goals as goal
 

@@ -1,15 +1,4 @@
-use Rattle.std.proofs.Common.{◌≤◌, length, refl, sym, ap, subst, ◌∙◌, arith, true≢false}
-use Rattle.std.specs.List.{AllByRecursion}
-use Rattle.std.proofs.lemmas.Bool.{and_parts}
-use Rattle.std.proofs.lemmas.List.{length-map, take_all}
-use Rattle.std.proofs.lemmas.Slice.Zip.{AllZip-long}
-use Rattle.quiver.specs.Declarations.{quiver_of}
-use Rattle.adjoint_rules.specs.Problem.{HasObjects, IsTypedOf}
-use Rattle.model_checker.specs.Models.{IsZeroIn, assumptions_of}
-use Rattle.model_checker.proofs.Places.{all_at, zip_at, one_more}
-use Rattle.model_candidates.specs.Candidates.{model_by}
-use Rattle.model_candidates.specs.Plans.{has_few}
-use Rattle.model_candidates.specs.Residues.{residues}
+use Rattle.model_candidates.proofs.Prelude.{◌≤◌, length, refl, sym, ap, subst, ◌∙◌, arith, true≢false, AllByRecursion, and_parts, length-map, take_all, AllZip-long, quiver_of, HasObjects, IsTypedOf, IsZeroIn, assumptions_of, all_at, zip_at, one_more, model_by, has_few, residues}
 use Rattle.model_candidates.proofs.NumberedShapes.{one_shape, plan_fits, posed_shape, shape_numbered}
 use Rattle.model_candidates.proofs.TestedValues.{residues_at, zero_at, zero_linear, zero_tells}
 use Rattle.model_candidates.proofs.tested_values.are_zero.Goals as goal

@@ -1,7 +1,4 @@
-use Rattle.std.proofs.Common.{take}
-use Rattle.std.specs.List.{AllByRecursion}
-use Rattle.model_checker.specs.Models.{IsZeroIn, assumptions_of}
-use Rattle.model_candidates.specs.WordRows.{model_in}
+use Rattle.model_candidates.proofs.Prelude.{take, AllByRecursion, IsZeroIn, assumptions_of, model_in}
 use Rattle.model_candidates.proofs.tested_values.are_zero.Given as goal
 
 -- the assumptions that were passed are zero

@@ -1,12 +1,4 @@
-use Rattle.std.proofs.Common.{◌-◌, length, sym, ap, subst, ◌∙◌, arith}
-use Rattle.std.proofs.lemmas.List.{length-map}
-use Rattle.std.proofs.lemmas.Slice.Zip.{AllZip-long}
-use Rattle.quiver.specs.Declarations.{quiver_of}
-use Rattle.adjoint_rules.specs.Problem.{HasObjects, IsTypedOf}
-use Rattle.model_checker.specs.Models.{IsZeroIn, claim_polynomial}
-use Rattle.model_checker.proofs.Places.{all_at, zip_at, generator_at-number}
-use Rattle.model_candidates.specs.Candidates.{model_by}
-use Rattle.model_candidates.specs.Residues.{residues}
+use Rattle.model_candidates.proofs.Prelude.{◌-◌, length, sym, ap, subst, ◌∙◌, arith, length-map, AllZip-long, quiver_of, HasObjects, IsTypedOf, IsZeroIn, claim_polynomial, all_at, zip_at, generator_at-number, model_by, residues}
 use Rattle.model_candidates.proofs.NumberedShapes.{one_shape, plan_fits, posed_shape, shape_numbered}
 use Rattle.model_candidates.proofs.TestedValues.{residues_at, zero_tells}
 use Rattle.model_candidates.proofs.tested_values.is_claim_zero.Goals as goal

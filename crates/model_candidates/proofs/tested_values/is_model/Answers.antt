@@ -1,4 +1,4 @@
-use Rattle.std.proofs.Common.{not, ap, ◌∙◌, sym}
+use Rattle.model_candidates.proofs.Prelude.{not, ap, ◌∙◌, sym}
 use Rattle.model_candidates.proofs.tested_values.is_model.Goals as goal
 
 pub are_zero-requires-clause-linear : goal.are_zero-requires-clause-linear

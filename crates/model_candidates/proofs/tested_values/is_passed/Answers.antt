@@ -1,4 +1,4 @@
-use Rattle.adjoint_rules.proofs.Generators.{posed_quiver}
+use Rattle.model_candidates.proofs.Prelude.{posed_quiver}
 use Rattle.model_candidates.proofs.tested_values.is_passed.Goals as goal
 
 pub has_few-requires-clause-quiver : goal.has_few-requires-clause-quiver

@@ -1,6 +1,4 @@
-use Rattle.std.proofs.Common.{rules, ◌≡◌, ℕ, Bool, List, ◌+◌, ◌<◌, ◌++◌, ◌∷◌, [], true, false, length, get_or, take, sym, ap, ◌∙◌, arith}
-use Rattle.std.proofs.lemmas.List.{take_all, take_more}
-use Rattle.model_candidates.specs.Unknowns.{filled, set_count}
+use Rattle.model_candidates.proofs.Prelude.{rules, ◌≡◌, ℕ, Bool, List, ◌+◌, ◌<◌, ◌++◌, ◌∷◌, [], true, false, length, get_or, take, sym, ap, ◌∙◌, arith, take_all, take_more, filled, set_count}
 use Rattle.model_candidates.proofs.FilledValues.{length-filled}
 use Rattle.model_candidates.proofs.SolvedEntries.{before, before_more, before_within, filled_set, filled_as_drawn}
 use Rattle.model_candidates.proofs.unknowns.filled.Goals as goal

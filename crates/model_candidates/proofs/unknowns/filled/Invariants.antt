@@ -1,5 +1,4 @@
-use Rattle.std.proofs.Common.{◌≡◌, take}
-use Rattle.model_candidates.specs.Unknowns.{filled}
+use Rattle.model_candidates.proofs.Prelude.{◌≡◌, take, filled}
 use Rattle.model_candidates.proofs.SolvedEntries.{before}
 use Rattle.model_candidates.proofs.unknowns.filled.Given as goal
 

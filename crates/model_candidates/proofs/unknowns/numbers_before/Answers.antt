@@ -1,5 +1,4 @@
-use Rattle.std.proofs.Common.{arith}
-use Rattle.std.proofs.lemmas.Iterator.{items_from_collect, YieldsList-from_range}
+use Rattle.model_candidates.proofs.Prelude.{arith, items_from_collect, YieldsList-from_range}
 use Rattle.model_candidates.proofs.unknowns.numbers_before.Goals as goal
 
 pub returns : goal.returns

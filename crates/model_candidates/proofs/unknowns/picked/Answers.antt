@@ -1,6 +1,4 @@
-use Rattle.std.proofs.Common.{rules, ◌≡◌, ◌+◌, ◌<◌, ◌++◌, ◌∷◌, [], true, false, length, get_or, take, sym, ap, ◌∙◌, arith}
-use Rattle.std.proofs.lemmas.List.{take_all, take_more}
-use Rattle.model_candidates.specs.Unknowns.{picked}
+use Rattle.model_candidates.proofs.Prelude.{rules, ◌≡◌, ◌+◌, ◌<◌, ◌++◌, ◌∷◌, [], true, false, length, get_or, take, sym, ap, ◌∙◌, arith, take_all, take_more, picked}
 use Rattle.model_candidates.proofs.SolvedEntries.{before, before_more, before_within, before_all, length-picked, picked_set}
 use Rattle.model_candidates.proofs.unknowns.picked.Goals as goal
 use Rattle.model_candidates.proofs.unknowns.picked.Goals.{then-solved-place+in_ok-push, else-solved-place}

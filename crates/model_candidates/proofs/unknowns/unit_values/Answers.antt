@@ -1,5 +1,4 @@
-use Rattle.std.proofs.Common.{rules, ◌≡◌, cond, nat_eq, ◌++◌, ◌∷◌, [], sym, ap₂, ◌∙◌, arith}
-use Rattle.std.proofs.lemmas.List.FromFn.{map-range_with_len_more}
+use Rattle.model_candidates.proofs.Prelude.{rules, ◌≡◌, cond, nat_eq, ◌++◌, ◌∷◌, [], sym, ap₂, ◌∙◌, arith, map-range_with_len_more}
 use Rattle.model_candidates.proofs.unknowns.unit_values.Goals as goal
 
 pub loop-k-preserved : goal.loop-k-preserved

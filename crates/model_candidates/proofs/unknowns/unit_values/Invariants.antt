@@ -1,5 +1,4 @@
-use Rattle.std.proofs.Common.{◌≡◌, cond, nat_eq, map}
-use Rattle.std.specs.List.{range_with_len}
+use Rattle.model_candidates.proofs.Prelude.{◌≡◌, cond, nat_eq, map, range_with_len}
 use Rattle.model_candidates.proofs.unknowns.unit_values.Given as goal
 
 -- the values before the place

@@ -1,5 +1,4 @@
-use Rattle.std.proofs.Common.{rules, ◌≡◌, ◌+◌, ◌≤◌, Bool, true, false, cond, get_or, take, refl, sym, ap₂, subst, ◌∙◌, arith}
-use Rattle.std.proofs.lemmas.List.{length-take-le}
+use Rattle.model_candidates.proofs.Prelude.{rules, ◌≡◌, ◌+◌, ◌≤◌, Bool, true, false, cond, get_or, take, refl, sym, ap₂, subst, ◌∙◌, arith, length-take-le}
 use Rattle.model_candidates.proofs.SolvedEntries.{before_more, count_of, set_count_within}
 use Rattle.model_candidates.proofs.unknowns.unknown_count.Goals as goal
 

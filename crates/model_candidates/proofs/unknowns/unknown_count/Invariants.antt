@@ -1,4 +1,4 @@
-use Rattle.std.proofs.Common.{◌≡◌}
+use Rattle.model_candidates.proofs.Prelude.{◌≡◌}
 use Rattle.model_candidates.proofs.SolvedEntries.{before}
 use Rattle.model_candidates.proofs.unknowns.unknown_count.Given as goal
 

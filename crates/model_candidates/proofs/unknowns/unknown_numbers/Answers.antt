@@ -1,8 +1,4 @@
-use Rattle.std.proofs.Common.{rules, ◌≡◌, length, replicate, ap, ap₂, ◌∙◌}
-use Rattle.std.specs.List.{range_with_len}
-use Rattle.std.proofs.lemmas.List.FromFn.{length-range_with_len}
-use Rattle.std.proofs.lemmas.Result.{IfOk-weaker}
-use Rattle.model_candidates.specs.Unknowns.{filled, unknown_numbers}
+use Rattle.model_candidates.proofs.Prelude.{rules, ◌≡◌, length, replicate, ap, ap₂, ◌∙◌, range_with_len, length-range_with_len, IfOk-weaker, filled, unknown_numbers}
 use Rattle.model_candidates.proofs.unknowns.unknown_numbers.Goals as goal
 
 pub filled-requires-clause-one_for_each : goal.filled-requires-clause-one_for_each

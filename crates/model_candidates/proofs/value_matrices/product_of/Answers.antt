@@ -1,6 +1,4 @@
-use Rattle.std.proofs.Common.{◌≡◌, ◌+◌, ◌<◌, ℕ, drop, get_or, take, sym, subst, ◌∙◌, arith}
-use Rattle.matrix_models.specs.Matrix.{entry_at}
-use Rattle.model_candidates.specs.WordRows.{product_in}
+use Rattle.model_candidates.proofs.Prelude.{◌≡◌, ◌+◌, ◌<◌, ℕ, drop, get_or, take, sym, subst, ◌∙◌, arith, entry_at, product_in}
 use Rattle.model_candidates.proofs.GivenValues.{given_of, product_ends}
 use Rattle.model_candidates.proofs.MatrixRows.{AreRows, one_row_more, rows_of_matrix}
 use Rattle.model_candidates.proofs.WordRows.{entry_below}

@@ -1,6 +1,4 @@
-use Rattle.std.proofs.Common.{drop, take}
-use Rattle.matrix_models.specs.Matrix.{entry_at}
-use Rattle.model_candidates.specs.WordRows.{product_in}
+use Rattle.model_candidates.proofs.Prelude.{drop, take, entry_at, product_in}
 use Rattle.model_candidates.proofs.MatrixRows.{AreRows}
 use Rattle.model_candidates.proofs.value_matrices.product_of.Given as goal
 

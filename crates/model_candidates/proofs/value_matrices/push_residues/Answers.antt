@@ -1,7 +1,4 @@
-use Rattle.std.proofs.Common.{rules, ◌≡◌, ◌+◌, ◌<◌, length, ◌%◌, ℕ, ◌++◌, ◌∷◌, [], get_or, map, sym, ap, ◌∙◌, arith}
-use Rattle.std.specs.List.{range_with_len}
-use Rattle.std.proofs.lemmas.List.{append_assoc, length-append}
-use Rattle.std.proofs.lemmas.List.FromFn.{length-map-range_with_len, map-range_with_len_more}
+use Rattle.model_candidates.proofs.Prelude.{rules, ◌≡◌, ◌+◌, ◌<◌, length, ◌%◌, ℕ, ◌++◌, ◌∷◌, [], get_or, map, sym, ap, ◌∙◌, arith, range_with_len, append_assoc, length-append, length-map-range_with_len, map-range_with_len_more}
 use Rattle.model_candidates.proofs.value_matrices.push_residues.Goals as goal
 
 pub push-requires : goal.push-requires

@@ -1,5 +1,4 @@
-use Rattle.std.proofs.Common.{◌≡◌, ◌%◌, ◌++◌, get_or, map}
-use Rattle.std.specs.List.{range_with_len}
+use Rattle.model_candidates.proofs.Prelude.{◌≡◌, ◌%◌, ◌++◌, get_or, map, range_with_len}
 use Rattle.model_candidates.proofs.value_matrices.push_residues.Given as goal
 
 -- with the numbers of the columns that were passed

@@ -1,6 +1,4 @@
-use Rattle.std.proofs.Common.{◌≡◌, ℕ, ◌+◌, ◌*◌, ◌%◌, ◌<◌, ◌≤◌, length, get_or}
-use Rattle.std.specs.List.{All}
-use Rattle.adjoint_rules.specs.Limits.{shape_side_limit}
+use Rattle.model_candidates.proofs.Prelude.{◌≡◌, ℕ, ◌+◌, ◌*◌, ◌%◌, ◌<◌, ◌≤◌, length, get_or, All, shape_side_limit}
 use Rattle.model_candidates.proofs.value_rows.add_multiple.Given as goal
 
 -- the sums in the columns that were passed have the multiple, and the others are as they were

@@ -1,8 +1,5 @@
-use Rattle.std.proofs.Common.{◌≡◌, ◌%◌, ◌<◌, get_or, refl, sym, ap, subst, ◌∙◌, arith, true≢false}
+use Rattle.model_candidates.proofs.Prelude.{◌≡◌, ◌%◌, ◌<◌, get_or, refl, sym, ap, subst, ◌∙◌, arith, true≢false, entry_at, side_in, value_in}
 use borrow.Author.Count.{below_more}
-use Rattle.matrix_models.specs.Matrix.{entry_at}
-use Rattle.model_candidates.specs.Candidates.{side_in}
-use Rattle.model_candidates.specs.WordRows.{value_in}
 use Rattle.model_candidates.proofs.value_rows.is_row_zero.Goals as goal
 
 pub loop-column-preserved : goal.loop-column-preserved

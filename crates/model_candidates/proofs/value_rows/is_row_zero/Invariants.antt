@@ -1,6 +1,4 @@
-use Rattle.std.proofs.Common.{◌≡◌, ℕ, ◌<◌}
-use Rattle.matrix_models.specs.Matrix.{entry_at}
-use Rattle.model_candidates.specs.WordRows.{value_in}
+use Rattle.model_candidates.proofs.Prelude.{◌≡◌, ℕ, ◌<◌, entry_at, value_in}
 use Rattle.model_candidates.proofs.value_rows.is_row_zero.Given as goal
 
 -- the entries that were passed are zero

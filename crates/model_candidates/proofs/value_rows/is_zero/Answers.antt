@@ -1,8 +1,4 @@
-use Rattle.std.proofs.Common.{◌≡◌, ◌+◌, ◌<◌, ℕ, ◌⊎◌, inl, inr, refl, sym, subst, ◌∙◌, arith, true≢false}
-use Rattle.std.proofs.lemmas.Bool.{cases_eq}
-use Rattle.matrix_models.specs.Matrix.{entry_at}
-use Rattle.model_candidates.specs.Candidates.{side_in}
-use Rattle.model_candidates.specs.WordRows.{value_in}
+use Rattle.model_candidates.proofs.Prelude.{◌≡◌, ◌+◌, ◌<◌, ℕ, ◌⊎◌, inl, inr, refl, sym, subst, ◌∙◌, arith, true≢false, cases_eq, entry_at, side_in, value_in}
 use Rattle.model_candidates.proofs.GivenValues.{given_of}
 use Rattle.model_candidates.proofs.ValueRows.{entry_of_zero, zero_by_entries}
 use Rattle.model_candidates.proofs.value_rows.is_zero.Goals as goal

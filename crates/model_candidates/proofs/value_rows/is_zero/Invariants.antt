@@ -1,7 +1,4 @@
-use Rattle.std.proofs.Common.{◌≡◌, ℕ, ◌<◌}
-use Rattle.matrix_models.specs.Matrix.{entry_at}
-use Rattle.model_candidates.specs.Candidates.{side_in}
-use Rattle.model_candidates.specs.WordRows.{value_in}
+use Rattle.model_candidates.proofs.Prelude.{◌≡◌, ℕ, ◌<◌, entry_at, side_in, value_in}
 use Rattle.model_candidates.proofs.value_rows.is_zero.Given as goal
 
 -- the rows that were passed are zero

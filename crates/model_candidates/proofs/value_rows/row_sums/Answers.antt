@@ -1,8 +1,4 @@
-use Rattle.std.proofs.Common.{◌%◌, ◌<◌, ◌≤◌, get_or, length, take, sym, ap, subst, ◌∙◌, arith}
-use Rattle.std.specs.List.{sum_by}
-use Rattle.std.proofs.lemmas.List.{take_all}
-use Rattle.matrix_models.specs.Matrix.{entry_at}
-use Rattle.model_candidates.specs.WordRows.{product_in, term_entry}
+use Rattle.model_candidates.proofs.Prelude.{◌%◌, ◌<◌, ◌≤◌, get_or, length, take, sym, ap, subst, ◌∙◌, arith, sum_by, take_all, entry_at, product_in, term_entry}
 use Rattle.model_candidates.proofs.GivenValues.{given_of}
 use Rattle.model_candidates.proofs.ValueRows.{coefficient_below, leads_at, next_sum, paths_of, value_entry, whole_word}
 use Rattle.model_candidates.proofs.value_rows.row_sums.Goals as goal

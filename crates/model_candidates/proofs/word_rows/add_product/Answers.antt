@@ -1,5 +1,4 @@
-use Rattle.std.proofs.Common.{◌+◌, ◌*◌, ◌%◌, ◌≤◌, ap₂, ◌∙◌, arith}
-use Rattle.matrix_models.proofs.Products.{less_square}
+use Rattle.model_candidates.proofs.Prelude.{◌+◌, ◌*◌, ◌%◌, ◌≤◌, ap₂, ◌∙◌, arith, less_square}
 use Rattle.model_candidates.proofs.word_rows.add_product.Goals as goal
 
 pub returns-else-more-square-clause-alike : goal.returns-else-more-square-clause-alike

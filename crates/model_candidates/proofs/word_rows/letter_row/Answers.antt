@@ -1,14 +1,4 @@
-use Rattle.std.proofs.Common.{◌≡◌, ◌<◌, ◌≤◌, ℕ, get_or, Option, ◌⊎◌, inl, inr, sym, ap, subst, ◌∙◌}
-use Rattle.std.proofs.lemmas.Bool.{cases_lt}
-use Rattle.std.proofs.lemmas.List.Elements.{All-from_get_or}
-use Rattle.definitions.specs.Quiver.{letters}
-use Rattle.matrix_models.specs.Matrix.{entry_at}
-use Rattle.matrix_models.specs.Entries.{entry_at_below}
-use Rattle.model_candidates.specs.declared.letter_tables.LetterTable.{LetterTable}
-use Rattle.model_candidates.specs.declared.word_rows.EntryValues.{EntryValues}
-use Rattle.model_candidates.specs.Candidates.{side_in}
-use Rattle.model_candidates.specs.LetterTables.{letter_table}
-use Rattle.model_candidates.specs.WordRows.{matrix_in, quiver_in}
+use Rattle.model_candidates.proofs.Prelude.{◌≡◌, ◌<◌, ◌≤◌, ℕ, get_or, Option, ◌⊎◌, inl, inr, sym, ap, subst, ◌∙◌, cases_lt, All-from_get_or, letters, entry_at, entry_at_below, LetterTable, EntryValues, side_in, letter_table, matrix_in, quiver_in}
 use Rattle.model_candidates.proofs.GivenValues.{given_of, positive}
 use Rattle.model_candidates.proofs.LetterTables.{table_there}
 use Rattle.model_candidates.proofs.WordRows.{FitsLetter, fits_letter, is_unit, identity_entry, letter_ends, letter_inside, tables_long}

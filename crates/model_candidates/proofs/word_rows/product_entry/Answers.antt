@@ -1,6 +1,4 @@
-use Rattle.std.proofs.Common.{◌*◌, get_or, ap}
-use Rattle.matrix_models.proofs.Products.{total-next}
-use Rattle.model_candidates.specs.LetterTables.{value_in_table}
+use Rattle.model_candidates.proofs.Prelude.{◌*◌, get_or, ap, total-next, value_in_table}
 use Rattle.model_candidates.proofs.word_rows.product_entry.Goals as goal
 
 pub loop-k-preserved : goal.loop-k-preserved

@@ -1,6 +1,4 @@
-use Rattle.std.proofs.Common.{◌≡◌, ◌*◌, ◌%◌, ◌<◌, get_or}
-use Rattle.matrix_models.specs.Matrices.{total}
-use Rattle.model_candidates.specs.LetterTables.{value_in_table}
+use Rattle.model_candidates.proofs.Prelude.{◌≡◌, ◌*◌, ◌%◌, ◌<◌, get_or, total, value_in_table}
 use Rattle.model_candidates.proofs.word_rows.product_entry.Given as goal
 
 -- the sum of the products so far, up to a multiple of the modulus

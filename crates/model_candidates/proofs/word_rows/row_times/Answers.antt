@@ -1,10 +1,4 @@
-use Rattle.std.proofs.Common.{◌≡◌, ◌*◌, ◌%◌, ◌<◌, get_or, sym, ap, subst, ◌∙◌}
-use Rattle.matrix_models.specs.Matrix.{entry_at}
-use Rattle.matrix_models.specs.Matrices.{total}
-use Rattle.matrix_models.specs.Totals.{total_same}
-use Rattle.model_candidates.specs.Candidates.{side_in}
-use Rattle.model_candidates.specs.LetterTables.{letter_table, value_in_table}
-use Rattle.model_candidates.specs.WordRows.{matrix_in, quiver_in}
+use Rattle.model_candidates.proofs.Prelude.{◌≡◌, ◌*◌, ◌%◌, ◌<◌, get_or, sym, ap, subst, ◌∙◌, entry_at, total, total_same, side_in, letter_table, value_in_table, matrix_in, quiver_in}
 use Rattle.model_candidates.proofs.LetterTables.{table_there}
 use Rattle.model_candidates.proofs.WordRows.{entry_below, fits_letter, is_unit, letter_inside, row_times_identity, tables_long}
 use Rattle.model_candidates.proofs.word_rows.row_times.Goals as goal

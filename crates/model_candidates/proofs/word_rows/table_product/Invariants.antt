@@ -1,8 +1,4 @@
-use Rattle.std.proofs.Common.{◌≡◌, ◌*◌, ◌%◌, ◌<◌, ℕ, get_or, length}
-use Rattle.std.specs.List.{All}
-use Rattle.adjoint_rules.specs.Limits.{shape_side_limit}
-use Rattle.matrix_models.specs.Matrices.{total}
-use Rattle.model_candidates.specs.LetterTables.{value_in_table}
+use Rattle.model_candidates.proofs.Prelude.{◌≡◌, ◌*◌, ◌%◌, ◌<◌, ℕ, get_or, length, All, shape_side_limit, total, value_in_table}
 use Rattle.model_candidates.proofs.word_rows.table_product.Given as goal
 
 -- the entries in the columns that were passed

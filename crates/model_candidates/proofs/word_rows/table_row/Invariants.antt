@@ -1,6 +1,4 @@
-use Rattle.std.proofs.Common.{◌≡◌, ◌<◌, ◌≤◌, ℕ, get_or, length}
-use Rattle.adjoint_rules.specs.Limits.{shape_side_limit}
-use Rattle.model_candidates.specs.LetterTables.{value_in_table}
+use Rattle.model_candidates.proofs.Prelude.{◌≡◌, ◌<◌, ◌≤◌, ℕ, get_or, length, shape_side_limit, value_in_table}
 use Rattle.model_candidates.proofs.word_rows.table_row.Given as goal
 
 -- the values in the columns that were passed, and zeros behind them

@@ -1,9 +1,4 @@
-use Rattle.std.proofs.Common.{rules, ◌≡◌, ◌*◌, ◌%◌, ◌<◌, ℕ, get_or, take, sym, subst, arith}
-use Rattle.definitions.specs.Quiver.{letters, source, target}
-use Rattle.matrix_models.specs.Matrix.{entry_at}
-use Rattle.matrix_models.specs.Matrices.{total}
-use Rattle.model_candidates.specs.Candidates.{side_in}
-use Rattle.model_candidates.specs.WordRows.{IsRow, matrix_in, quiver_in}
+use Rattle.model_candidates.proofs.Prelude.{rules, ◌≡◌, ◌*◌, ◌%◌, ◌<◌, ℕ, get_or, take, sym, subst, arith, letters, source, target, entry_at, total, side_in, IsRow, matrix_in, quiver_in}
 use Rattle.model_candidates.proofs.WordRows.{IsSoFar, letter_counted, so_far_all, so_far_first, so_far_next, step_at, unit_is_row}
 use Rattle.model_candidates.proofs.word_rows.word_row.Goals as goal
 

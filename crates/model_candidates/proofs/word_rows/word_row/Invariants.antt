@@ -1,4 +1,4 @@
-use Rattle.std.proofs.Common.{take}
+use Rattle.model_candidates.proofs.Prelude.{take}
 use Rattle.model_candidates.proofs.WordRows.{IsSoFar}
 use Rattle.model_candidates.proofs.word_rows.word_row.Given as goal
 

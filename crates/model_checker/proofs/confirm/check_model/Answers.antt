@@ -1,4 +1,4 @@
-use Rattle.adjoint_rules.proofs.Generators.{posed_quiver}
+use Rattle.model_checker.proofs.Prelude.{posed_quiver}
 use Rattle.model_checker.proofs.confirm.check_model.Goals as goal
 
 pub representation_of-requires-clause-quiver : goal.representation_of-requires-clause-quiver

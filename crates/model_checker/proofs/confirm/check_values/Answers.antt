@@ -1,7 +1,4 @@
-use Rattle.std.proofs.Common.{IfSome, IfNone, sym, subst, ◌∙◌, true≢false}
-use Rattle.std.specs.List.{AllByRecursion}
-use Rattle.model_checker.specs.Models.{IsZeroIn, assumptions_of}
-use Rattle.model_checker.specs.Refusals.{IsFirstNotZero}
+use Rattle.model_checker.proofs.Prelude.{IfSome, IfNone, sym, subst, ◌∙◌, true≢false, AllByRecursion, IsZeroIn, assumptions_of, IsFirstNotZero}
 use Rattle.model_checker.proofs.Judged.{not_all_zero}
 use Rattle.model_checker.proofs.confirm.check_values.Goals as goal
 

@@ -1,5 +1,4 @@
-use Rattle.std.proofs.Common.{rules}
-use Rattle.adjoint_rules.proofs.Generators.{posed_quiver}
+use Rattle.model_checker.proofs.Prelude.{rules, posed_quiver}
 use Rattle.model_checker.proofs.confirm.confirm_model.Goals as goal
 
 pub check_maps-requires-clause-quiver : goal.check_maps-requires-clause-quiver

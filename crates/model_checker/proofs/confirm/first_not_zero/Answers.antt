@@ -1,8 +1,4 @@
-use Rattle.std.proofs.Common.{◌<◌, length, ap, sym, refl, subst, ◌∙◌, true≢false}
-use Rattle.std.proofs.lemmas.Slice.Zip.{AllZip-long}
-use Rattle.adjoint_rules.specs.Problem.{IsTypedOf, HasObjects}
-use Rattle.adjoint_rules.proofs.Generators.{posed_quiver}
-use Rattle.model_checker.specs.Models.{IsZeroIn}
+use Rattle.model_checker.proofs.Prelude.{◌<◌, length, ap, sym, refl, subst, ◌∙◌, true≢false, AllZip-long, IsTypedOf, HasObjects, posed_quiver, IsZeroIn}
 use Rattle.model_checker.proofs.Places.{item_at, all_at, zip_at, generator_at-suc, inside, one_more}
 use Rattle.model_checker.proofs.confirm.first_not_zero.Goals as goal
 

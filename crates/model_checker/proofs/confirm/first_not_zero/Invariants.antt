@@ -1,6 +1,4 @@
-use Rattle.std.proofs.Common.{take}
-use Rattle.std.specs.List.{AllByRecursion}
-use Rattle.model_checker.specs.Models.{IsZeroIn, assumptions_of}
+use Rattle.model_checker.proofs.Prelude.{take, AllByRecursion, IsZeroIn, assumptions_of}
 use Rattle.model_checker.proofs.confirm.first_not_zero.Given as goal
 
 -- the assumptions that were passed are zero

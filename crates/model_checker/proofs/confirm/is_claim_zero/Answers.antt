@@ -1,9 +1,4 @@
-use Rattle.std.proofs.Common.{◌-◌, sym, subst, arith}
-use Rattle.std.proofs.lemmas.Slice.Zip.{AllZip-long}
-use Rattle.std.proofs.lemmas.Result.{IfOk-weaker}
-use Rattle.adjoint_rules.specs.Problem.{IsTypedOf, HasObjects}
-use Rattle.adjoint_rules.proofs.Generators.{posed_quiver}
-use Rattle.model_checker.specs.Models.{IsZeroIn}
+use Rattle.model_checker.proofs.Prelude.{◌-◌, sym, subst, arith, AllZip-long, IfOk-weaker, IsTypedOf, HasObjects, posed_quiver, IsZeroIn}
 use Rattle.model_checker.proofs.Places.{all_at, zip_at, generator_at-number}
 use Rattle.model_checker.proofs.confirm.is_claim_zero.Goals as goal
 

@@ -1,10 +1,4 @@
-use Rattle.std.proofs.Common.{◌≡◌, ◌<◌, get_or, None, ap, sym, subst, ◌∙◌, true≢false, eqb-true, eq-eqb}
-use Rattle.std.proofs.lemmas.Option.{get_or_from_slice_get}
-use Rattle.definitions.specs.Quiver.{star}
-use Rattle.quiver.specs.Declarations.{quiver_of}
-use Rattle.quiver.proofs.Counts.{letters-quiver_of}
-use Rattle.matrix_models.specs.Matrices.{transpose}
-use Rattle.model_checker.specs.Models.{HasEnds}
+use Rattle.model_checker.proofs.Prelude.{◌≡◌, ◌<◌, get_or, None, ap, sym, subst, ◌∙◌, true≢false, eqb-true, eq-eqb, get_or_from_slice_get, star, quiver_of, letters-quiver_of, transpose, HasEnds}
 use Rattle.model_checker.proofs.maps.check_map.Goals as goal
 use Rattle.model_checker.proofs.maps.check_map.Goals.{else-eq-via-then-eq+in_ok-is_self_transposed+else-not-branch, else-eq-via-else-eq}
 

@@ -1,5 +1,4 @@
-use Rattle.std.proofs.Common.{arith, rules}
-use Rattle.quiver.proofs.Counts.{letters-quiver_of}
+use Rattle.model_checker.proofs.Prelude.{arith, rules, letters-quiver_of}
 use Rattle.model_checker.proofs.maps.check_maps.Goals as goal
 
 pub check_map-requires-clause-map : goal.check_map-requires-clause-map

@@ -1,5 +1,4 @@
-use Rattle.quiver.specs.Declarations.{quiver_of}
-use Rattle.model_checker.specs.Models.{HaveMatrices}
+use Rattle.model_checker.proofs.Prelude.{quiver_of, HaveMatrices}
 use Rattle.model_checker.proofs.maps.check_maps.Given as goal
 
 -- the declared maps that were passed have their matrices

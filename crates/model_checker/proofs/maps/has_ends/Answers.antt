@@ -1,8 +1,4 @@
-use Rattle.std.proofs.Common.{◌≡◌, sym, subst, ◌∙◌, true≢false, eqb-true, eq-eqb}
-use Rattle.definitions.specs.Quiver.{source, target}
-use Rattle.quiver.specs.Declarations.{quiver_of}
-use Rattle.matrix_models.specs.Matrix.{IsMatrix}
-use Rattle.model_checker.specs.Representations.{side_of}
+use Rattle.model_checker.proofs.Prelude.{◌≡◌, sym, subst, ◌∙◌, true≢false, eqb-true, eq-eqb, source, target, quiver_of, IsMatrix, side_of}
 use Rattle.model_checker.proofs.Arrows.{side_read}
 use Rattle.model_checker.proofs.maps.has_ends.Goals as goal
 use Rattle.model_checker.proofs.maps.has_ends.Goals.{then-modulus-model, else-modulus-model}

@@ -1,10 +1,4 @@
-use Rattle.std.proofs.Common.{◌≡◌, ◌<◌, ◌≤◌, Some, IfOk, sym, ap, subst, ◌∙◌, rules}
-use Rattle.definitions.specs.Quiver.{star}
-use Rattle.quiver.specs.Declarations.{quiver_of}
-use Rattle.quiver.proofs.Counts.{letters-quiver_of}
-use Rattle.matrix_models.specs.Matrices.{identity_matrix}
-use Rattle.model_checker.specs.Models.{IsMap}
-use Rattle.model_checker.specs.Representations.{map_at, matrix_or_zero}
+use Rattle.model_checker.proofs.Prelude.{◌≡◌, ◌<◌, ◌≤◌, Some, IfOk, sym, ap, subst, ◌∙◌, rules, star, quiver_of, letters-quiver_of, identity_matrix, IsMap, map_at, matrix_or_zero}
 use Rattle.model_checker.proofs.Arrows.{side_read, arrow_of-identity, arrow_of-map, adjoint_is_map}
 use Rattle.model_checker.proofs.representation.arrow_for.Goals as goal
 

@@ -1,10 +1,4 @@
-use Rattle.std.proofs.Common.{◌≡◌, map, sym, ap, ap₂, ◌∙◌, ◌++◌, ◌∷◌, [], arith, rules}
-use Rattle.std.specs.List.{range_with_len}
-use Rattle.std.proofs.lemmas.List.FromFn.{map-range_with_len_more}
-use Rattle.definitions.specs.Quiver.{letters}
-use Rattle.quiver.specs.Declarations.{quiver_of}
-use Rattle.quiver.proofs.Counts.{letters-quiver_of}
-use Rattle.model_checker.specs.Representations.{arrow_of}
+use Rattle.model_checker.proofs.Prelude.{◌≡◌, map, sym, ap, ap₂, ◌∙◌, ◌++◌, ◌∷◌, [], arith, rules, range_with_len, map-range_with_len_more, letters, quiver_of, letters-quiver_of, arrow_of}
 use Rattle.model_checker.proofs.representation.representation_of.Goals as goal
 
 pub loop-number-preserved : goal.loop-number-preserved

@@ -1,7 +1,4 @@
-use Rattle.std.proofs.Common.{◌≡◌, map}
-use Rattle.std.specs.List.{range_with_len}
-use Rattle.quiver.specs.Declarations.{quiver_of}
-use Rattle.model_checker.specs.Representations.{arrow_of}
+use Rattle.model_checker.proofs.Prelude.{◌≡◌, map, range_with_len, quiver_of, arrow_of}
 use Rattle.model_checker.proofs.representation.representation_of.Given as goal
 
 -- the matrices of the letters that were passed

@@ -1,7 +1,4 @@
-use Rattle.std.proofs.Common.{◌≡◌, sym, ap₂, ◌∙◌}
-use Rattle.quiver.specs.Declarations.{quiver_of}
-use Rattle.matrix_models.specs.Matrices.{matrices, zero_matrix}
-use Rattle.model_checker.specs.Representations.{side_of, representation_of}
+use Rattle.model_checker.proofs.Prelude.{◌≡◌, sym, ap₂, ◌∙◌, quiver_of, matrices, zero_matrix, side_of, representation_of}
 use Rattle.model_checker.proofs.Values.{is_representation, value_is, zero_from_value, object_is, object_at}
 use Rattle.model_checker.proofs.value.is_zero.Goals as goal
 

@@ -1,6 +1,4 @@
-use Rattle.std.proofs.Common.{◌≡◌, ◌<◌, ◌+◌, length, get_or, ap, sym, subst, ◌∙◌, arith}
-use Rattle.std.proofs.lemmas.List.FromFn.{length-range_with_len, get_or-range_with_len}
-use Rattle.model_search.specs.Searches.{CanBeTested}
+use Rattle.model_search.proofs.Prelude.{◌≡◌, ◌<◌, ◌+◌, length, get_or, ap, sym, subst, ◌∙◌, arith, length-range_with_len, get_or-range_with_len, CanBeTested}
 use Rattle.model_search.proofs.candidate_search.answers_of.Goals as goal
 
 pub map_in_order-requires-clause-can_go : goal.map_in_order-requires-clause-can_go

@@ -1,10 +1,4 @@
-use Rattle.std.proofs.Common.{◌≡◌, ◌<◌, ◌+◌, ◌++◌, ◌∷◌, [], length, get_or, Option, None, IsNone, sym, subst, ◌∙◌, rules, arith}
-use Rattle.std.proofs.lemmas.List.{get_or_default}
-use Rattle.std.proofs.lemmas.List.Elements.{All-get_or}
-use Rattle.quiver.specs.Declarations.{quiver_of}
-use Rattle.model_checker.specs.Models.{IsClaimNumber}
-use Rattle.model_candidates.specs.Candidates.{model_by}
-use Rattle.model_search.specs.declared.found.Found.{Found}
+use Rattle.model_search.proofs.Prelude.{◌≡◌, ◌<◌, ◌+◌, ◌++◌, ◌∷◌, [], length, get_or, Option, None, IsNone, sym, subst, ◌∙◌, rules, arith, get_or_default, All-get_or, quiver_of, IsClaimNumber, model_by, Found}
 use Rattle.model_search.proofs.Tested.{TellFirst, tell_none, tell_more}
 use Rattle.model_search.proofs.candidate_search.broken_claims.Goals as goal
 

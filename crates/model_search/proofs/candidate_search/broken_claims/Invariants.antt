@@ -1,6 +1,4 @@
-use Rattle.quiver.specs.Declarations.{quiver_of}
-use Rattle.adjoint_rules.specs.declared.parts.Shape.{Shape}
-use Rattle.model_candidates.specs.Candidates.{IsShapeOf, model_by}
+use Rattle.model_search.proofs.Prelude.{quiver_of, Shape, IsShapeOf, model_by}
 use Rattle.model_search.proofs.Tested.{TellFirst}
 use Rattle.model_search.proofs.candidate_search.broken_claims.Given as goal
 

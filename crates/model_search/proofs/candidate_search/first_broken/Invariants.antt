@@ -1,4 +1,4 @@
-use Rattle.model_search.specs.Searches.{AreUnbroken}
+use Rattle.model_search.proofs.Prelude.{AreUnbroken}
 use Rattle.model_search.proofs.candidate_search.first_broken.Given as goal
 
 -- by the answers that were passed the claim isn't broken

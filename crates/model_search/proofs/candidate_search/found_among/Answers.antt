@@ -1,5 +1,4 @@
-use Rattle.std.proofs.Common.{length, get_or, MatchOption, subst, arith}
-use Rattle.model_search.specs.Searches.{AreUnbroken, IsFirstBroken}
+use Rattle.model_search.proofs.Prelude.{length, get_or, MatchOption, subst, arith, AreUnbroken, IsFirstBroken}
 use Rattle.model_search.proofs.Blocks.{first_of_answers, none_of_answers}
 use Rattle.model_search.proofs.candidate_search.found_among.Goals as goal
 

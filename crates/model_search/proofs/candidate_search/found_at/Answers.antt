@@ -1,4 +1,4 @@
-use Rattle.std.proofs.Common.{refl}
+use Rattle.model_search.proofs.Prelude.{refl}
 use Rattle.model_search.proofs.Breaking.{breaks_as_named}
 use Rattle.model_search.proofs.candidate_search.found_at.Goals as goal
 

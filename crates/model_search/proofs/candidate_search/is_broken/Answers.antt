@@ -1,6 +1,4 @@
-use Rattle.quiver.specs.Declarations.{quiver_of}
-use Rattle.model_checker.specs.Models.{IsZeroIn, claim_polynomial}
-use Rattle.model_candidates.specs.Candidates.{model_by}
+use Rattle.model_search.proofs.Prelude.{quiver_of, IsZeroIn, claim_polynomial, model_by}
 use Rattle.model_search.proofs.Tested.{told_not}
 use Rattle.model_search.proofs.candidate_search.is_broken.Goals as goal
 

@@ -1,4 +1,4 @@
-use Rattle.std.proofs.Common.{◌≡◌, replicate, None}
+use Rattle.model_search.proofs.Prelude.{◌≡◌, replicate, None}
 use Rattle.model_search.proofs.candidate_search.no_candidates.Given as goal
 
 abbrev pub invariant-loop : goal.invariant-loop

@@ -1,7 +1,4 @@
-use Rattle.std.proofs.Common.{◌≡◌, ◌<◌, ◌≤◌, ◌+◌, length, get_or, not, Option, None, IsNone, refl, sym, ap, subst, ◌∙◌, arith, true≢false}
-use Rattle.std.proofs.lemmas.List.{get_or_default}
-use Rattle.model_search.specs.declared.found.Found.{Found}
-use Rattle.model_search.specs.Searches.{IsSearchedTo}
+use Rattle.model_search.proofs.Prelude.{◌≡◌, ◌<◌, ◌≤◌, ◌+◌, length, get_or, not, Option, None, IsNone, refl, sym, ap, subst, ◌∙◌, arith, true≢false, get_or_default, Found, IsSearchedTo}
 use Rattle.model_search.proofs.Blocks.{told_from_tested}
 use Rattle.model_search.proofs.SearchSteps.{noted_more, noted_same, searched_further, searched_once}
 use Rattle.model_search.proofs.candidate_search.note.Goals as goal

@@ -1,4 +1,4 @@
-use Rattle.std.proofs.Common.{◌+◌, length}
+use Rattle.model_search.proofs.Prelude.{◌+◌, length}
 use Rattle.model_search.proofs.SearchSteps.{AreNoted}
 use Rattle.model_search.proofs.candidate_search.note.Given as goal
 

@@ -1,5 +1,4 @@
-use Rattle.std.proofs.Common.{◌+◌, arith}
-use Rattle.std.proofs.lemmas.Iterator.{items_from_collect, YieldsList-from_range}
+use Rattle.model_search.proofs.Prelude.{◌+◌, arith, items_from_collect, YieldsList-from_range}
 use Rattle.model_search.proofs.candidate_search.numbers_from.Goals as goal
 
 pub returns : goal.returns

@@ -1,5 +1,4 @@
-use Rattle.std.proofs.Common.{◌+◌, get_or, None, sym, subst, arith}
-use Rattle.std.specs.List.{AllZip}
+use Rattle.model_search.proofs.Prelude.{◌+◌, get_or, None, sym, subst, arith, AllZip}
 use Rattle.model_search.proofs.SearchSteps.{least_found, none_breaks, zip_by_places}
 use Rattle.model_search.proofs.candidate_search.search_each.Goals as goal
 

@@ -1,10 +1,4 @@
-use Rattle.std.proofs.Common.{◌≡◌, ◌<◌, ◌≤◌, ◌+◌, length, get_or, None, sym, ap, subst, ◌∙◌, arith}
-use Rattle.std.specs.List.{list_any}
-use Rattle.std.proofs.lemmas.List.{take_at}
-use Rattle.quiver.specs.Declarations.{quiver_of}
-use Rattle.model_candidates.specs.Candidates.{candidate_count}
-use Rattle.model_candidates.proofs.NumberedShapes.{shape_of_number}
-use Rattle.model_search.specs.Searches.{AreSearchedTo, IsSearchedTo}
+use Rattle.model_search.proofs.Prelude.{◌≡◌, ◌<◌, ◌≤◌, ◌+◌, length, get_or, None, sym, ap, subst, ◌∙◌, arith, list_any, take_at, quiver_of, candidate_count, shape_of_number, AreSearchedTo, IsSearchedTo}
 use Rattle.model_search.proofs.Blocks.{answers_are, tested_moved}
 use Rattle.model_search.proofs.SearchSteps.{searched_shape, searched_whole}
 use Rattle.model_search.proofs.candidate_search.search_shape.Goals as goal

@@ -1,5 +1,4 @@
-use Rattle.std.proofs.Common.{◌≤◌, ◌-◌}
-use Rattle.model_search.specs.Searches.{AreSearchedTo}
+use Rattle.model_search.proofs.Prelude.{◌≤◌, ◌-◌, AreSearchedTo}
 use Rattle.model_search.proofs.candidate_search.search_shape.Given as goal
 
 -- the candidates before this block are searched

@@ -1,9 +1,4 @@
-use Rattle.std.proofs.Common.{None, Some, IfSome, sym, subst, ◌∙◌, true≢false}
-use Rattle.std.specs.Option.{option_map}
-use Rattle.quiver.specs.Declarations.{quiver_of}
-use Rattle.model_candidates.specs.Candidates.{IsCandidate, model_by}
-use Rattle.model_candidates.specs.Plans.{AreEntryValues}
-use Rattle.model_candidates.proofs.TestedValues.{linear_in_candidate}
+use Rattle.model_search.proofs.Prelude.{None, Some, IfSome, sym, subst, ◌∙◌, true≢false, option_map, quiver_of, IsCandidate, model_by, AreEntryValues, linear_in_candidate}
 use Rattle.model_search.proofs.Tested.{flags_refute, tested_by, tested_without_model}
 use Rattle.model_search.proofs.candidate_search.test.Goals as goal
 

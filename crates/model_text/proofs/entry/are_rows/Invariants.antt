@@ -1,8 +1,4 @@
-use Rattle.std.proofs.Common.{◌≡◌, ◌+◌, ℕ, List, Option, Some, None, Bor, length}
-use Rattle.std.specs.List.{list_all}
-use Rattle.model_text.specs.ModelBlocks.{is_row_of}
-use Rattle.model_text.specs.Reading.{rows_behind}
-use Rattle.model_text.specs.Views.{line_in}
+use Rattle.model_text.proofs.Prelude.{◌≡◌, ◌+◌, ℕ, List, Option, Some, None, Bor, length, list_all, is_row_of, rows_behind, line_in}
 use Rattle.model_text.proofs.entry.are_rows.Given as goal
 
 -- the rows so far have so many numbers

@@ -1,4 +1,4 @@
-use Rattle.std.proofs.Common.{List, ℕ, sym, ap, ◌∙◌}
+use Rattle.model_text.proofs.Prelude.{List, ℕ, sym, ap, ◌∙◌}
 use Rattle.model_text.proofs.Rows.{cut_at, never_cut}
 use Rattle.model_text.proofs.entry.first_row.Goals as goal
 

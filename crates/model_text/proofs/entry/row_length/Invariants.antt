@@ -1,5 +1,4 @@
-use Rattle.std.proofs.Common.{◌≡◌, ◌≤◌, ◌+◌, length}
-use Rattle.block_text.specs.Tokens.{tokens_of}
+use Rattle.model_text.proofs.Prelude.{◌≡◌, ◌≤◌, ◌+◌, length, tokens_of}
 use Rattle.model_text.proofs.entry.row_length.Given as goal
 
 -- the tokens so far and those that are left

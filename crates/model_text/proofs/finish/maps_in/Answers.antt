@@ -1,6 +1,4 @@
-use Rattle.std.proofs.Common.{rules, arith, ◌≡◌, ◌++◌, ◌∷◌, [], ◌∙◌, ap, sym}
-use Rattle.std.proofs.lemmas.List.FromFn.{map-range_with_len_more}
-use Rattle.model_text.specs.Reading.{matrix_in}
+use Rattle.model_text.proofs.Prelude.{rules, arith, ◌≡◌, ◌++◌, ◌∷◌, [], ◌∙◌, ap, sym, map-range_with_len_more, matrix_in}
 use Rattle.model_text.proofs.finish.maps_in.Goals as goal
 
 pub loop-letter-preserved : goal.loop-letter-preserved

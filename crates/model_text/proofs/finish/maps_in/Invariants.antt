@@ -1,6 +1,4 @@
-use Rattle.std.proofs.Common.{◌≡◌, map}
-use Rattle.std.specs.List.{range_with_len}
-use Rattle.model_text.specs.Reading.{matrix_in}
+use Rattle.model_text.proofs.Prelude.{◌≡◌, map, range_with_len, matrix_in}
 use Rattle.model_text.proofs.finish.maps_in.Given as goal
 
 abbrev pub invariant-loop-letter : goal.invariant-loop-letter

@@ -1,5 +1,4 @@
-use Rattle.std.proofs.Common.{◌≡◌, drop}
-use Rattle.model_text.specs.Reading.{matrix_in}
+use Rattle.model_text.proofs.Prelude.{◌≡◌, drop, matrix_in}
 use Rattle.model_text.proofs.finish.matrix_in.Given as goal
 
 -- those that are left say the same

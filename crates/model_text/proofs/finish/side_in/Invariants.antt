@@ -1,5 +1,4 @@
-use Rattle.std.proofs.Common.{◌≡◌, drop}
-use Rattle.model_text.specs.Reading.{side_in}
+use Rattle.model_text.proofs.Prelude.{◌≡◌, drop, side_in}
 use Rattle.model_text.proofs.finish.side_in.Given as goal
 
 -- those that are left say the same

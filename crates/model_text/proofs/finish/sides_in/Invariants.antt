@@ -1,6 +1,4 @@
-use Rattle.std.proofs.Common.{◌≡◌, map}
-use Rattle.std.specs.List.{range_with_len}
-use Rattle.model_text.specs.Reading.{side_in}
+use Rattle.model_text.proofs.Prelude.{◌≡◌, map, range_with_len, side_in}
 use Rattle.model_text.proofs.finish.sides_in.Given as goal
 
 abbrev pub invariant-loop-object : goal.invariant-loop-object

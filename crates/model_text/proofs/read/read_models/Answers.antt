@@ -1,6 +1,4 @@
-use Rattle.block_text.proofs.EachText.{values_told}
-use Rattle.model_text.specs.Models.{model_kind}
-use Rattle.model_text.specs.Reading.{model_steps}
+use Rattle.model_text.proofs.Prelude.{values_told, model_kind, model_steps}
 use Rattle.model_text.proofs.ModelValues.{are_models}
 use Rattle.model_text.proofs.Reader.{reader}
 use Rattle.model_text.proofs.read.read_models.Goals as goal

@@ -1,8 +1,4 @@
-use Rattle.std.proofs.Common.{◌<◌, ◌≤◌, ◌+◌, ◌*◌, ◌∙◌, arith, sym, ap, ap₂, subst, length}
-use Rattle.std.specs.List.{All}
-use Rattle.block_text.specs.Tokens.{tokens_of}
-use Rattle.model_text.specs.Reading.{rows_behind}
-use Rattle.model_text.specs.Views.{line_in}
+use Rattle.model_text.proofs.Prelude.{◌<◌, ◌≤◌, ◌+◌, ◌*◌, ◌∙◌, arith, sym, ap, ap₂, subst, length, All, tokens_of, rows_behind, line_in}
 use Rattle.model_text.proofs.Values.{row_values, rows_fit}
 use Rattle.model_text.proofs.value.map_value.Goals as goal
 

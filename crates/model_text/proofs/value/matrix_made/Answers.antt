@@ -1,6 +1,4 @@
-use Rattle.std.proofs.Common.{◌<◌, ◌∙◌, arith, ap, get_or, nat_le, Err}
-use Rattle.std.proofs.lemmas.Bool.Decides.{nat_tests}
-use Rattle.std.proofs.lemmas.List.Quantifiers.{position-Some}
+use Rattle.model_text.proofs.Prelude.{◌<◌, ◌∙◌, arith, ap, get_or, nat_le, Err, nat_tests, position-Some}
 use Rattle.model_text.proofs.value.matrix_made.Goals as goal
 
 -- the shape is one

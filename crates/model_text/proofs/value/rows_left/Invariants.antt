@@ -1,6 +1,4 @@
-use Rattle.std.proofs.Common.{◌≡◌, ◌≤◌, ◌+◌, ℕ, List, Option, Some, None, Bor, length}
-use Rattle.model_text.specs.Reading.{rows_behind}
-use Rattle.model_text.specs.Views.{line_in}
+use Rattle.model_text.proofs.Prelude.{◌≡◌, ◌≤◌, ◌+◌, ℕ, List, Option, Some, None, Bor, length, rows_behind, line_in}
 use Rattle.model_text.proofs.value.rows_left.Given as goal
 
 abbrev size : Option (Bor (List ℕ)) → ℕ

@@ -1,7 +1,4 @@
-use Rattle.std.proofs.Common.{◌∷◌}
-use Rattle.block_text.specs.Tokens.{tokens_of}
-use Rattle.model_text.specs.Reading.{rows_behind}
-use Rattle.model_text.specs.Views.{line_in}
+use Rattle.model_text.proofs.Prelude.{◌∷◌, tokens_of, rows_behind, line_in}
 use Rattle.model_text.proofs.Values.{values_are, rows_of_numbers}
 use Rattle.model_text.proofs.value.values_of.Goals as goal
 

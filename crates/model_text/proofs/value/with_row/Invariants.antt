@@ -1,8 +1,4 @@
-use Rattle.std.proofs.Common.{◌≡◌, true, length}
-use Rattle.std.specs.List.{list_all}
-use Rattle.block_text.specs.Letters.{is_number}
-use Rattle.block_text.specs.Tokens.{tokens_of}
-use Rattle.model_text.specs.Reading.{after, values_below}
+use Rattle.model_text.proofs.Prelude.{◌≡◌, true, length, list_all, is_number, tokens_of, after, values_below}
 use Rattle.model_text.proofs.value.with_row.Given as goal
 
 -- the values so far, before those that are left

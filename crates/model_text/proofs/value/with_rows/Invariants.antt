@@ -1,7 +1,4 @@
-use Rattle.std.proofs.Common.{◌≡◌, ◌+◌, ◌∷◌, ℕ, List, Option, Some, None, Bor, length}
-use Rattle.block_text.specs.Tokens.{tokens_of}
-use Rattle.model_text.specs.Reading.{rows_behind, values_in}
-use Rattle.model_text.specs.Views.{line_in}
+use Rattle.model_text.proofs.Prelude.{◌≡◌, ◌+◌, ◌∷◌, ℕ, List, Option, Some, None, Bor, length, tokens_of, rows_behind, values_in, line_in}
 use Rattle.model_text.proofs.Values.{HaveNumbers}
 use Rattle.model_text.proofs.value.with_rows.Given as goal
 

@@ -1,6 +1,4 @@
-use Rattle.std.proofs.Common.{rules, arith, ◌≡◌, ◌<◌, ◌++◌, ◌∙◌, ap, refl, get_or, length, None}
-use Rattle.std.proofs.lemmas.List.{get_or_read_under}
-use Rattle.model_text.specs.Written.{map_text}
+use Rattle.model_text.proofs.Prelude.{rules, arith, ◌≡◌, ◌<◌, ◌++◌, ◌∙◌, ap, refl, get_or, length, None, get_or_read_under, map_text}
 use Rattle.model_text.proofs.Ranges.{text_put}
 use Rattle.model_text.proofs.write.put_maps.Goals as goal
 

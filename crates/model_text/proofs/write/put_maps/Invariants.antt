@@ -1,6 +1,4 @@
-use Rattle.std.proofs.Common.{◌≡◌, ◌++◌, get_or, None}
-use Rattle.std.specs.List.{flat_map, range_with_len}
-use Rattle.model_text.specs.Written.{map_text}
+use Rattle.model_text.proofs.Prelude.{◌≡◌, ◌++◌, get_or, None, flat_map, range_with_len, map_text}
 use Rattle.model_text.proofs.write.put_maps.Given as goal
 
 abbrev pub invariant-loop-letter : goal.invariant-loop-letter

@@ -1,6 +1,4 @@
-use Rattle.std.proofs.Common.{◌≡◌, ◌++◌}
-use Rattle.std.specs.List.{flat_map, range_with_len}
-use Rattle.model_text.specs.Written.{entry_text}
+use Rattle.model_text.proofs.Prelude.{◌≡◌, ◌++◌, flat_map, range_with_len, entry_text}
 use Rattle.model_text.proofs.write.put_row.Given as goal
 
 abbrev pub invariant-loop-column : goal.invariant-loop-column

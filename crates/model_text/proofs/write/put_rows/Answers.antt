@@ -1,5 +1,4 @@
-use Rattle.std.proofs.Common.{rules, ◌≡◌, ◌++◌}
-use Rattle.model_text.specs.Written.{part_text}
+use Rattle.model_text.proofs.Prelude.{rules, ◌≡◌, ◌++◌, part_text}
 use Rattle.model_text.proofs.Ranges.{text_put}
 use Rattle.model_text.proofs.write.put_rows.Goals as goal
 

@@ -1,6 +1,4 @@
-use Rattle.std.proofs.Common.{◌≡◌, ◌++◌}
-use Rattle.std.specs.List.{flat_map, range_with_len}
-use Rattle.model_text.specs.Written.{part_text}
+use Rattle.model_text.proofs.Prelude.{◌≡◌, ◌++◌, flat_map, range_with_len, part_text}
 use Rattle.model_text.proofs.write.put_rows.Given as goal
 
 abbrev pub invariant-loop-row : goal.invariant-loop-row

@@ -1,6 +1,4 @@
-use Rattle.std.proofs.Common.{rules, arith, ◌≡◌, ◌<◌, ◌++◌, ◌∙◌, ap, get_or, length}
-use Rattle.std.proofs.lemmas.List.{get_or_default}
-use Rattle.model_text.specs.Written.{side_text}
+use Rattle.model_text.proofs.Prelude.{rules, arith, ◌≡◌, ◌<◌, ◌++◌, ◌∙◌, ap, get_or, length, get_or_default, side_text}
 use Rattle.model_text.proofs.Ranges.{text_put}
 use Rattle.model_text.proofs.write.put_sides.Goals as goal
 

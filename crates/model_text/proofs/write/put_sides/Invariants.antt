@@ -1,6 +1,4 @@
-use Rattle.std.proofs.Common.{◌≡◌, ◌++◌, get_or}
-use Rattle.std.specs.List.{flat_map, range_with_len}
-use Rattle.model_text.specs.Written.{side_text}
+use Rattle.model_text.proofs.Prelude.{◌≡◌, ◌++◌, get_or, flat_map, range_with_len, side_text}
 use Rattle.model_text.proofs.write.put_sides.Given as goal
 
 abbrev pub invariant-loop-object : goal.invariant-loop-object

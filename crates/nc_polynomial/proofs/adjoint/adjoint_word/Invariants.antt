@@ -1,5 +1,4 @@
-use Rattle.std.proofs.Common.{◌≡◌, ◌≤◌, length, drop}
-use Rattle.nc_polynomial.specs.Adjoint.{numbers_of, reversed_star}
+use Rattle.nc_polynomial.proofs.Prelude.{◌≡◌, ◌≤◌, length, drop, numbers_of, reversed_star}
 use Rattle.nc_polynomial.proofs.adjoint.adjoint_word.Given as goal
 
 abbrev pub invariant-loop-place : goal.invariant-loop-place

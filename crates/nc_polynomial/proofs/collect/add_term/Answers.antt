@@ -1,7 +1,5 @@
-use Rattle.std.proofs.Common.{rules, ◌≡◌, ◌+ℤ◌, pos, arith, to_z, of_z}
+use Rattle.nc_polynomial.proofs.Prelude.{rules, ◌≡◌, ◌+ℤ◌, pos, arith, to_z, of_z, ints, coefficient_in}
 use mir.Syntax.{w128}
-use Rattle.std.proofs.lemmas.Int.{ints}
-use Rattle.nc_polynomial.specs.Collected.{coefficient_in}
 use Rattle.nc_polynomial.proofs.Words.{coefficient_in-written}
 use Rattle.nc_polynomial.proofs.collect.add_term.Goals as goal
 

@@ -1,10 +1,4 @@
-use Rattle.std.proofs.Common.{rules, ◌≡◌, ◌+◌, ◌∷◌, ◌*ℤ◌, None, Ok, drop, sym, ap, ◌∙◌, arith}
-use Rattle.std.proofs.lemmas.List.{drop_all}
-use Rattle.coef_int.specs.Range.{IsCoefficient}
-use Rattle.coef_int.specs.Operations.{first_overflow, product_of}
-use Rattle.definitions.specs.Poly.{Term, poly_multiple}
-use Rattle.nc_polynomial.specs.Terms.{scaled, products}
-use Rattle.nc_polynomial.specs.Faults.{unless_overflow}
+use Rattle.nc_polynomial.proofs.Prelude.{rules, ◌≡◌, ◌+◌, ◌∷◌, ◌*ℤ◌, None, Ok, drop, sym, ap, ◌∙◌, arith, drop_all, IsCoefficient, first_overflow, product_of, Term, poly_multiple, scaled, products, unless_overflow}
 use Rattle.nc_polynomial.proofs.Chains.{first-fits, ranged_scale}
 use Rattle.nc_polynomial.proofs.Steps.{drop_next}
 use Rattle.nc_polynomial.proofs.multiples.kept_terms.Goals as goal

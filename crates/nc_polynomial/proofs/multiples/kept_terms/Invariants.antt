@@ -1,6 +1,4 @@
-use Rattle.std.proofs.Common.{◌≡◌, drop}
-use Rattle.coef_int.specs.Operations.{first_overflow}
-use Rattle.nc_polynomial.specs.Terms.{products}
+use Rattle.nc_polynomial.proofs.Prelude.{◌≡◌, drop, first_overflow, products}
 use Rattle.nc_polynomial.proofs.multiples.kept_terms.Given as goal
 
 abbrev pub invariant-loop-term : goal.invariant-loop-term

@@ -1,12 +1,5 @@
-use Rattle.std.proofs.Common.{rules, FitsSigned, ℤ, ◌≡◌, ◌++◌, [], ◌∷◌, ◌+ℤ◌, ◌*ℤ◌, Ok, Err, sym, ap, ◌∙◌, subst, to_z, of_z}
-use Rattle.std.specs.Int.{w128}
-use Rattle.std.proofs.lemmas.Int.{to_z-of_z}
-use Rattle.std.proofs.lemmas.List.{append-nil}
-use Rattle.coef_int.specs.Range.{IsCoefficient}
-use Rattle.coef_int.specs.Operations.{sum_of}
-use Rattle.definitions.specs.Poly.{poly_multiple}
+use Rattle.nc_polynomial.proofs.Prelude.{rules, FitsSigned, ℤ, ◌≡◌, ◌++◌, [], ◌∷◌, ◌+ℤ◌, ◌*ℤ◌, Ok, Err, sym, ap, ◌∙◌, subst, to_z, of_z, w128, to_z-of_z, append-nil, IsCoefficient, sum_of, poly_multiple, aligned, keep}
 use Rattle.nc_polynomial.specs.declared.fault.PolyFault.TheVariants as fault
-use Rattle.nc_polynomial.specs.Terms.{aligned, keep}
 use Rattle.nc_polynomial.proofs.Checked.{join, join-none, total_from}
 use Rattle.nc_polynomial.proofs.AlignedMultiples.{AreInRange, multiplied_pairs, aligned-multiples, in_range-aligned, next-in_range, next-fits, next-overflows}
 use Rattle.nc_polynomial.proofs.multiples.merge_multiples.Goals as goal

@@ -1,5 +1,4 @@
-use Rattle.std.proofs.Common.{length, ◌≡◌, ◌+◌}
-use Rattle.nc_polynomial.specs.Terms.{aligned}
+use Rattle.nc_polynomial.proofs.Prelude.{length, ◌≡◌, ◌+◌, aligned}
 use Rattle.nc_polynomial.proofs.Checked.{join, total_from}
 use Rattle.nc_polynomial.proofs.AlignedMultiples.{AreInRange, multiplied_pairs}
 use Rattle.nc_polynomial.proofs.multiples.merge_multiples.Given as goal

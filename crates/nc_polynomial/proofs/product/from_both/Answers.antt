@@ -1,8 +1,4 @@
-use Rattle.std.proofs.Common.{rules, ◌≡◌, ◌+◌, [], ◌∷◌, drop, Ok, Err, sym, ap, subst, ◌∙◌}
-use Rattle.std.proofs.lemmas.List.{drop_all}
-use Rattle.definitions.specs.Poly.{Term}
-use Rattle.nc_polynomial.specs.Faults.{Explains}
-use Rattle.nc_polynomial.specs.Product.{and_then, product_step, product_from}
+use Rattle.nc_polynomial.proofs.Prelude.{rules, ◌≡◌, ◌+◌, [], ◌∷◌, drop, Ok, Err, sym, ap, subst, ◌∙◌, drop_all, Term, Explains, and_then, product_step, product_from}
 use Rattle.nc_polynomial.proofs.OneTerm.{from-step_fault}
 use Rattle.nc_polynomial.proofs.Steps.{drop_next}
 use Rattle.nc_polynomial.proofs.product.from_both.Goals as goal

@@ -1,6 +1,4 @@
-use Rattle.std.proofs.Common.{◌≡◌, [], drop}
-use Rattle.nc_polynomial.specs.Product.{product_from}
-use Rattle.nc_polynomial.specs.Shape.{IsCanonical}
+use Rattle.nc_polynomial.proofs.Prelude.{◌≡◌, [], drop, product_from, IsCanonical}
 use Rattle.nc_polynomial.proofs.product.from_both.Given as goal
 
 abbrev pub invariant-loop-term : goal.invariant-loop-term

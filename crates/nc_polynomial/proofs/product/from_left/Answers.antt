@@ -1,8 +1,4 @@
-use Rattle.std.proofs.Common.{rules, ◌≡◌, [], Err, arith}
-use Rattle.nc_polynomial.specs.Arithmetic.{sum_result}
-use Rattle.nc_polynomial.specs.Faults.{Explains}
-use Rattle.nc_polynomial.specs.Product.{product_step}
-use Rattle.nc_polynomial.specs.Shape.{IsShaped}
+use Rattle.nc_polynomial.proofs.Prelude.{rules, ◌≡◌, [], Err, arith, sum_result, Explains, product_step, IsShaped}
 use Rattle.nc_polynomial.proofs.OneTerm.{one-left, one-left_fault}
 use Rattle.nc_polynomial.proofs.product.from_left.Goals as goal
 

@@ -1,10 +1,4 @@
-use Rattle.std.proofs.Common.{rules, ◌≡◌, ◌+◌, ◌≤◌, ◌*ℤ◌, ◌++◌, [], ◌∷◌, length, take, drop, Err, sym, ap, subst, ◌∙◌}
-use Rattle.std.proofs.lemmas.List.{drop_all, take-append-drop}
-use Rattle.coef_int.specs.Range.{IsCoefficient}
-use Rattle.definitions.specs.Poly.{Term}
-use Rattle.nc_polynomial.specs.Faults.{Explains}
-use Rattle.nc_polynomial.specs.Product.{product_step, product_from}
-use Rattle.nc_polynomial.specs.Shape.{IsCanonical}
+use Rattle.nc_polynomial.proofs.Prelude.{rules, ◌≡◌, ◌+◌, ◌≤◌, ◌*ℤ◌, ◌++◌, [], ◌∷◌, length, take, drop, Err, sym, ap, subst, ◌∙◌, drop_all, take-append-drop, IsCoefficient, Term, Explains, product_step, product_from, IsCanonical}
 use Rattle.nc_polynomial.proofs.OneTerm.{behind, times_term, canonical_none, canonical-step, made-step, from-step, from-step_fault}
 use Rattle.nc_polynomial.proofs.Steps.{take_next, drop_next}
 use Rattle.nc_polynomial.proofs.product.from_right.Goals as goal

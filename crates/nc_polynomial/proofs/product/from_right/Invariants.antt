@@ -1,6 +1,4 @@
-use Rattle.std.proofs.Common.{◌≡◌, [], ◌∷◌, take, drop}
-use Rattle.nc_polynomial.specs.Product.{product_from}
-use Rattle.nc_polynomial.specs.Shape.{IsCanonical}
+use Rattle.nc_polynomial.proofs.Prelude.{◌≡◌, [], ◌∷◌, take, drop, product_from, IsCanonical}
 use Rattle.nc_polynomial.proofs.OneTerm.{times_term}
 use Rattle.nc_polynomial.proofs.product.from_right.Given as goal
 

@@ -1,5 +1,4 @@
-use Rattle.std.proofs.Common.{◌≡◌, take}
-use Rattle.definitions.specs.Poly.{poly_between}
+use Rattle.nc_polynomial.proofs.Prelude.{◌≡◌, take, poly_between}
 use Rattle.nc_polynomial.proofs.product.move_terms.Given as goal
 
 abbrev pub invariant-loop-term : goal.invariant-loop-term

@@ -1,7 +1,4 @@
-use Rattle.std.proofs.Common.{rules, ◌≡◌, [], Ok, MatchResult}
-use Rattle.definitions.specs.Poly.{poly_between}
-use Rattle.nc_polynomial.specs.Terms.{products, shifted}
-use Rattle.nc_polynomial.specs.Faults.{checked, sized, Explains}
+use Rattle.nc_polynomial.proofs.Prelude.{rules, ◌≡◌, [], Ok, MatchResult, poly_between, products, shifted, checked, sized, Explains}
 use Rattle.nc_polynomial.proofs.Products.{step_adds, step_fails, shaped_shift, short_shift}
 use Rattle.nc_polynomial.proofs.Results.{ok_part, err_part}
 use Rattle.nc_polynomial.proofs.product.moved_multiple.Goals as goal

@@ -1,6 +1,4 @@
-use Rattle.std.proofs.Common.{◌≡◌, drop}
-use Rattle.definitions.specs.Poly.{poly_between}
-use Rattle.nc_polynomial.specs.Faults.{has_long_word}
+use Rattle.nc_polynomial.proofs.Prelude.{◌≡◌, drop, poly_between, has_long_word}
 use Rattle.nc_polynomial.proofs.size.check_moved.Given as goal
 
 -- no word that was passed becomes too long

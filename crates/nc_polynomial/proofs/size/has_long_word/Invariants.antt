@@ -1,5 +1,4 @@
-use Rattle.std.proofs.Common.{◌≡◌, drop}
-use Rattle.nc_polynomial.specs.Faults.{has_long_word}
+use Rattle.nc_polynomial.proofs.Prelude.{◌≡◌, drop, has_long_word}
 use Rattle.nc_polynomial.proofs.size.has_long_word.Given as goal
 
 abbrev pub invariant-loop-term : goal.invariant-loop-term

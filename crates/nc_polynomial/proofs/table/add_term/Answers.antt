@@ -1,8 +1,4 @@
-use Rattle.std.proofs.Common.{rules, ◌≡◌, ◌≢◌, ◌+ℤ◌, pos, Some, None, ◌∙◌, arith, sym, subst}
-use Rattle.std.proofs.lemmas.Int.{ints}
-use Rattle.std.proofs.Math.IntN.{+ℤ_idl, +ℤ_idr}
-use Rattle.coef_int.specs.Range.{IsCoefficient}
-use Rattle.nc_polynomial.specs.Collected.{coefficient_in}
+use Rattle.nc_polynomial.proofs.Prelude.{rules, ◌≡◌, ◌≢◌, ◌+ℤ◌, pos, Some, None, ◌∙◌, arith, sym, subst, ints, +ℤ_idl, +ℤ_idr, IsCoefficient, coefficient_in}
 use Rattle.nc_polynomial.proofs.Updates.{adds_from_update, adds_zero, running_from_update}
 use Rattle.nc_polynomial.proofs.table.add_term.Goals as goal
 

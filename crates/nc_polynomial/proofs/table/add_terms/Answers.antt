@@ -1,12 +1,5 @@
-use Rattle.std.proofs.Common.{rules, ◌≡◌, ◌++◌, ◌+ℤ◌, ◌∷◌, [], length, sym, ap, ◌∙◌, arith, append_assoc, append-nil}
-use Rattle.std.specs.Vec.Iter.{into_iter_items}
-use Rattle.std.proofs.lemmas.List.{nil_from_length}
-use Rattle.coef_int.specs.Range.{IsCoefficient}
-use Rattle.coef_int.specs.Operations.{sum_of, first_overflow}
-use Rattle.definitions.specs.Poly.{Term, coefficient_of}
-use Rattle.nc_polynomial.specs.Collected.{coefficient_in}
-use Rattle.nc_polynomial.specs.Running.{Adds}
-use Rattle.nc_polynomial.specs.Stops.{IsStoppedBy}
+use Rattle.nc_polynomial.proofs.Prelude.{rules, ◌≡◌, ◌++◌, ◌+ℤ◌, ◌∷◌, [], length, sym, ap, ◌∙◌, arith, append_assoc, into_iter_items, nil_from_length, IsCoefficient, sum_of, first_overflow, Term, coefficient_of, coefficient_in, Adds, IsStoppedBy}
+use Rattle.std.proofs.Common.{append-nil}
 use Rattle.nc_polynomial.proofs.Chains.{first-fits}
 use Rattle.nc_polynomial.proofs.Results.{err_whole}
 use Rattle.nc_polynomial.proofs.RunningSums.{table-fault, table-sum}

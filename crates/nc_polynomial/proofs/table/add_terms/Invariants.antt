@@ -1,11 +1,4 @@
-use Rattle.std.proofs.Common.{◌≡◌, ℕ, List, ◌++◌, ◌+ℤ◌, length}
-use Rattle.std.specs.BTreeMap.{IsOrdered}
-use Rattle.std.specs.Vec.Iter.{into_iter_items, into_iter_len}
-use Rattle.coef_int.specs.Operations.{first_overflow}
-use Rattle.word_core.specs.Canonical.{word_cmp}
-use Rattle.definitions.specs.Poly.{coefficient_of}
-use Rattle.nc_polynomial.specs.Collected.{coefficient_in}
-use Rattle.nc_polynomial.specs.Running.{IsRunning}
+use Rattle.nc_polynomial.proofs.Prelude.{◌≡◌, ℕ, List, ◌++◌, ◌+ℤ◌, length, IsOrdered, into_iter_items, into_iter_len, first_overflow, word_cmp, coefficient_of, coefficient_in, IsRunning}
 use Rattle.nc_polynomial.proofs.TableSums.{sums_with}
 use Rattle.nc_polynomial.proofs.table.add_terms.Given as goal
 

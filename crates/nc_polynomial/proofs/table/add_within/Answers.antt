@@ -1,7 +1,4 @@
-use Rattle.std.proofs.Common.{rules, ◌≡◌, ◌<◌, ◌≤◌, length, Ok, arith}
-use Rattle.nc_polynomial.specs.Faults.{checked}
-use Rattle.nc_polynomial.specs.Running.{IsRunning, terms_in}
-use Rattle.nc_polynomial.specs.Terms.{added, sums}
+use Rattle.nc_polynomial.proofs.Prelude.{rules, ◌≡◌, ◌<◌, ◌≤◌, length, Ok, arith, checked, IsRunning, terms_in, added, sums}
 use Rattle.nc_polynomial.proofs.RunningSums.{too_many, few_enough}
 use Rattle.nc_polynomial.proofs.Tables.{length-running}
 use Rattle.nc_polynomial.proofs.table.add_within.Goals as goal

@@ -1,6 +1,4 @@
-use Rattle.std.proofs.Common.{rules, ◌≡◌, ◌++◌, [], ◌∷◌, ap, ◌∙◌}
-use Rattle.nc_polynomial.specs.Ascending.{reversed}
-use Rattle.nc_polynomial.specs.Terms.{keep}
+use Rattle.nc_polynomial.proofs.Prelude.{rules, ◌≡◌, ◌++◌, [], ◌∷◌, ap, ◌∙◌, reversed, keep}
 use Rattle.nc_polynomial.proofs.Tables.{reversed-step}
 use Rattle.nc_polynomial.proofs.table.descending.Goals as goal
 

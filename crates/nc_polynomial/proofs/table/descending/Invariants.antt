@@ -1,6 +1,4 @@
-use Rattle.std.proofs.Common.{◌≡◌, ◌++◌, []}
-use Rattle.std.specs.BTreeMap.{btree_map_len}
-use Rattle.nc_polynomial.specs.Ascending.{reversed}
+use Rattle.nc_polynomial.proofs.Prelude.{◌≡◌, ◌++◌, [], btree_map_len, reversed}
 use Rattle.nc_polynomial.proofs.table.descending.Given as goal
 
 abbrev pub invariant-loop-word : goal.invariant-loop-word

@@ -1,9 +1,5 @@
-use Rattle.std.proofs.Common.{rules, ◌≡◌, ◌++◌, [], ◌∷◌, ◌+ℤ◌, sym, ap, ◌∙◌, Ok}
-use Rattle.std.proofs.lemmas.List.{append-nil}
+use Rattle.nc_polynomial.proofs.Prelude.{rules, ◌≡◌, ◌++◌, [], ◌∷◌, ◌+ℤ◌, sym, ap, ◌∙◌, Ok, append-nil, IsCoefficient, sum_of, aligned, totals, total_operations, keep}
 use Rattle.nc_polynomial.proofs.Chains.{ranged_add}
-use Rattle.coef_int.specs.Range.{IsCoefficient}
-use Rattle.coef_int.specs.Operations.{sum_of}
-use Rattle.nc_polynomial.specs.Terms.{aligned, totals, total_operations, keep}
 use Rattle.nc_polynomial.proofs.Checked.{join, total_from, one-fits}
 use Rattle.nc_polynomial.proofs.terms.merge_terms.Goals as goal
 

@@ -1,7 +1,4 @@
-use Rattle.std.proofs.Common.{length, ◌≡◌, ◌+◌}
-use Rattle.std.specs.List.{All}
-use Rattle.coef_int.specs.Range.{IsCoefficient}
-use Rattle.nc_polynomial.specs.Terms.{aligned}
+use Rattle.nc_polynomial.proofs.Prelude.{length, ◌≡◌, ◌+◌, All, IsCoefficient, aligned}
 use Rattle.nc_polynomial.proofs.Checked.{join, total_from}
 use Rattle.nc_polynomial.proofs.terms.merge_terms.Given as goal
 

@@ -1,14 +1,6 @@
-use Rattle.std.proofs.Common.{rules, ◌≡◌, ◌++◌, [], ◌∷◌, ◌*ℤ◌, length, sym, ap, ap₂, subst, ◌∙◌, Ok, Err, arith, to_z, of_z}
+use Rattle.nc_polynomial.proofs.Prelude.{rules, ◌≡◌, ◌++◌, [], ◌∷◌, ◌*ℤ◌, length, sym, ap, ap₂, subst, ◌∙◌, Ok, Err, arith, to_z, of_z, append-nil, nil_from_length, All-head, All-tail, All, into_iter_items, IsCoefficient, product_of, Term, multiplied, multiplications, keep}
 use mir.Syntax.{w128}
-use Rattle.std.proofs.lemmas.List.{append-nil, nil_from_length}
-use Rattle.std.proofs.lemmas.List.Elements.{All-head, All-tail}
-use Rattle.std.specs.List.{All}
-use Rattle.std.specs.Vec.Iter.{into_iter_items}
-use Rattle.coef_int.specs.Range.{IsCoefficient}
-use Rattle.coef_int.specs.Operations.{product_of}
-use Rattle.definitions.specs.Poly.{Term}
 use Rattle.nc_polynomial.specs.declared.fault.PolyFault.TheVariants as fault
-use Rattle.nc_polynomial.specs.Terms.{multiplied, multiplications, keep}
 use Rattle.nc_polynomial.proofs.Chains.{ranged_multiply}
 use Rattle.nc_polynomial.proofs.Checked.{join, join-none, multiply_from, one-fits, one-fails}
 use Rattle.nc_polynomial.proofs.terms.multiply_terms.Goals as goal

@@ -1,7 +1,4 @@
-use Rattle.std.proofs.Common.{◌≡◌, length}
-use Rattle.std.specs.List.{All}
-use Rattle.std.specs.Vec.Iter.{into_iter_items, into_iter_len}
-use Rattle.coef_int.specs.Range.{IsCoefficient}
+use Rattle.nc_polynomial.proofs.Prelude.{◌≡◌, length, All, into_iter_items, into_iter_len, IsCoefficient}
 use Rattle.nc_polynomial.proofs.Checked.{join, multiply_from}
 use Rattle.nc_polynomial.proofs.terms.multiply_terms.Given as goal
 

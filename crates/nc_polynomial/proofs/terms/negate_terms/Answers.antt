@@ -1,8 +1,4 @@
-use Rattle.std.proofs.Common.{rules, ◌≡◌, ◌<◌, neg_ℤ, get_or, length}
-use Rattle.std.proofs.lemmas.List.Edits.{map_over_more}
-use Rattle.std.proofs.lemmas.List.Elements.{All-set}
-use Rattle.coef_int.specs.Range.{IsCoefficient}
-use Rattle.definitions.specs.Poly.{Term}
+use Rattle.nc_polynomial.proofs.Prelude.{rules, ◌≡◌, ◌<◌, neg_ℤ, get_or, length, map_over_more, All-set, IsCoefficient, Term}
 use Rattle.nc_polynomial.proofs.terms.negate_terms.Goals as goal
 
 pub loop-term-preserved : goal.loop-term-preserved

@@ -1,7 +1,4 @@
-use Rattle.std.proofs.Common.{◌≡◌, ◌++◌, take, drop}
-use Rattle.std.specs.List.{All}
-use Rattle.coef_int.specs.Range.{IsCoefficient}
-use Rattle.nc_polynomial.specs.Terms.{negated}
+use Rattle.nc_polynomial.proofs.Prelude.{◌≡◌, ◌++◌, take, drop, All, IsCoefficient, negated}
 use Rattle.nc_polynomial.proofs.terms.negate_terms.Given as goal
 
 -- the first terms are turned

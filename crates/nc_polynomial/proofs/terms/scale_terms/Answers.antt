@@ -1,10 +1,5 @@
-use Rattle.std.proofs.Common.{rules, ◌≡◌, ◌+◌, ◌*ℤ◌, [], ◌∷◌, ◌++◌, drop, Ok, Err, sym, ap, ◌∙◌, arith}
-use Rattle.std.proofs.lemmas.List.{drop_all, append-nil}
-use Rattle.coef_int.specs.Range.{IsCoefficient}
-use Rattle.coef_int.specs.Operations.{product_of}
-use Rattle.definitions.specs.Poly.{Term}
+use Rattle.nc_polynomial.proofs.Prelude.{rules, ◌≡◌, ◌+◌, ◌*ℤ◌, [], ◌∷◌, ◌++◌, drop, Ok, Err, sym, ap, ◌∙◌, arith, drop_all, append-nil, IsCoefficient, product_of, Term, scaled, products, keep}
 use Rattle.nc_polynomial.specs.declared.fault.PolyFault.TheVariants as fault
-use Rattle.nc_polynomial.specs.Terms.{scaled, products, keep}
 use Rattle.nc_polynomial.proofs.Checked.{join, scale_from, one-fits, one-fails}
 use Rattle.nc_polynomial.proofs.Chains.{ranged_scale}
 use Rattle.nc_polynomial.proofs.Steps.{drop_next}

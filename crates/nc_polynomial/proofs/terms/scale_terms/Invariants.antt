@@ -1,4 +1,4 @@
-use Rattle.std.proofs.Common.{◌≡◌, drop}
+use Rattle.nc_polynomial.proofs.Prelude.{◌≡◌, drop}
 use Rattle.nc_polynomial.proofs.Checked.{join, scale_from}
 use Rattle.nc_polynomial.proofs.terms.scale_terms.Given as goal
 

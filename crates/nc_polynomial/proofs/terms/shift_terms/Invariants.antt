@@ -1,4 +1,4 @@
-use Rattle.std.proofs.Common.{◌≡◌, drop}
+use Rattle.nc_polynomial.proofs.Prelude.{◌≡◌, drop}
 use Rattle.nc_polynomial.proofs.Checked.{join, shift_from}
 use Rattle.nc_polynomial.proofs.terms.shift_terms.Given as goal
 

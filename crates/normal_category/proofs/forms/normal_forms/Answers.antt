@@ -1,6 +1,4 @@
-use Rattle.std.proofs.Common.{rules}
-use Rattle.std.specs.List.{All}
-use Rattle.normal_category.specs.Faults.{IsTypedIn, PlaysIn}
+use Rattle.normal_category.proofs.Prelude.{rules, All, IsTypedIn, PlaysIn}
 use Rattle.normal_category.proofs.PassedRules.{typed_in_play}
 use Rattle.normal_category.proofs.Problems.{problem_is_sharp}
 use Rattle.normal_category.proofs.forms.normal_forms.Goals as goal

@@ -1,7 +1,4 @@
-use Rattle.std.proofs.Common.{◌≡◌, arith, get_or, slice_get, Some}
-use Rattle.std.proofs.lemmas.Option.{slice_get-get_or}
-use Rattle.adjoint_rules.specs.Problem.{numbers, is_in_play}
-use Rattle.normal_category.specs.Faults.{PlaysIn}
+use Rattle.normal_category.proofs.Prelude.{◌≡◌, arith, get_or, slice_get, Some, slice_get-get_or, numbers, is_in_play, PlaysIn}
 use Rattle.normal_category.proofs.PassedRules.{stopped, passed_on, all_passed, plays_from_test, test_from_plays}
 use Rattle.normal_category.proofs.passes.first_out_of_play.Goals as goal
 

@@ -1,7 +1,4 @@
-use Rattle.std.proofs.Common.{◌≡◌, ◌≤◌, ℕ, Some}
-use Rattle.rule_reduce.specs.declared.rule.Rule.{Rule}
-use Rattle.rule_reduce.specs.RuleLists.{rule_at}
-use Rattle.normal_category.specs.Faults.{PlaysIn}
+use Rattle.normal_category.proofs.Prelude.{◌≡◌, ◌≤◌, ℕ, Some, Rule, rule_at, PlaysIn}
 use Rattle.normal_category.proofs.passes.first_out_of_play.Given as goal
 
 -- the rules that were passed have the property

@@ -1,8 +1,4 @@
-use Rattle.std.proofs.Common.{◌≡◌, ◌≢◌, [], suc, arith, get_or, slice_get, Some}
-use Rattle.std.proofs.lemmas.Option.{slice_get-get_or}
-use Rattle.rule_reduce.proofs.Numbers.{rule_at-all}
-use Rattle.rule_reduce.specs.declared.rule.Rule.{Rule}
-use Rattle.normal_category.specs.Faults.{IsTypedIn}
+use Rattle.normal_category.proofs.Prelude.{◌≡◌, ◌≢◌, [], suc, arith, get_or, slice_get, Some, slice_get-get_or, rule_at-all, Rule, IsTypedIn}
 use Rattle.normal_category.proofs.PassedRules.{stopped, passed_on, all_passed, empty_tells, full_tells}
 use Rattle.normal_category.proofs.passes.first_untyped.Goals as goal
 

@@ -1,7 +1,4 @@
-use Rattle.std.proofs.Common.{◌<◌, nat_eq, ap, ◌∙◌, arith}
-use Rattle.std.specs.List.{list_any}
-use Rattle.word_core.specs.declared.letter.Object.{Object}
-use Rattle.quiver.specs.Declarations.{letter_count, object_count}
+use Rattle.normal_category.proofs.Prelude.{◌<◌, nat_eq, ap, ◌∙◌, arith, list_any, Object, letter_count, object_count}
 use Rattle.normal_category.proofs.PassedRules.{object_in_play}
 use Rattle.normal_category.proofs.passes.is_in_play.Goals as goal
 

@@ -1,6 +1,4 @@
-use Rattle.std.proofs.Common.{◌≡◌, true, take}
-use Rattle.std.specs.List.{list_all}
-use Rattle.adjoint_rules.specs.Problem.{numbers, is_in_play}
+use Rattle.normal_category.proofs.Prelude.{◌≡◌, true, take, list_all, numbers, is_in_play}
 use Rattle.normal_category.proofs.passes.is_word_in_play.Given as goal
 
 -- the letters that were passed are in play

@@ -1,10 +1,4 @@
-use Rattle.std.proofs.Common.{◌∙◌}
-use Rattle.std.proofs.lemmas.List.FromFn.{length-range_with_len}
-use Rattle.std.proofs.lemmas.Slice.Zip.{AllZip-long}
-use Rattle.traced_completion.specs.PlainRun.{setting_of}
-use Rattle.claim_decider.specs.Outcomes.{IsOutcomeOf}
-use Rattle.adjoint_rules.specs.Claims.{claim_at, claim_numbers}
-use Rattle.outcome_laws.proofs.OutcomeLetters.{last_rules_have_letters}
+use Rattle.prove_command.proofs.Prelude.{◌∙◌, length-range_with_len, AllZip-long, setting_of, IsOutcomeOf, claim_at, claim_numbers, last_rules_have_letters}
 use Rattle.prove_command.proofs.Writing.{verdicts_over}
 use Rattle.prove_command.proofs.prove.decide.Goals as goal
 

@@ -1,7 +1,4 @@
-use Rattle.std.proofs.Common.{◌≡◌, sym, subst, ◌∙◌, arith}
-use Rattle.std.specs.List.{All}
-use Rattle.model_checker.specs.Models.{IsClaimNumber}
-use Rattle.prove_command.specs.Searched.{searched_from}
+use Rattle.prove_command.proofs.Prelude.{◌≡◌, sym, subst, ◌∙◌, arith, All, IsClaimNumber, searched_from}
 use Rattle.prove_command.proofs.Said.{searched_are_claims}
 use Rattle.prove_command.proofs.prove.found_for.Goals as goal
 

@@ -1,10 +1,4 @@
-use Rattle.std.proofs.Common.{◌≡◌, ◌∙◌, List, ap, rules}
-use Rattle.nc_polynomial.specs.declared.poly.Poly.{Poly}
-use Rattle.adjoint_rules.specs.declared.problem.Problem.{Problem}
-use Rattle.report_text.specs.declared.verdict.Verdict.{Verdict}
-use Rattle.report_text.specs.Report.{status_of}
-use Rattle.command_shape.proofs.Stops.{memory_ends}
-use Rattle.prove_command.specs.Answers.{print_of, AnswersClaims}
+use Rattle.prove_command.proofs.Prelude.{◌≡◌, ◌∙◌, List, ap, rules, Poly, Problem, Verdict, status_of, memory_ends, print_of, AnswersClaims}
 use Rattle.prove_command.proofs.prove.report_claims.Goals as goal
 
 -- memory is short for the verdicts

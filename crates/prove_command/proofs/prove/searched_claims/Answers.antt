@@ -1,6 +1,4 @@
-use Rattle.std.proofs.Common.{◌≡◌, ◌+◌, ◌++◌, ◌∷◌, [], take, sym, ap, ◌∙◌, append-nil, rules}
-use Rattle.claim_decider.specs.declared.outcome.Outcome.{Outcome}
-use Rattle.prove_command.specs.Searched.{halted_from}
+use Rattle.prove_command.proofs.Prelude.{◌≡◌, ◌+◌, ◌++◌, ◌∷◌, [], take, sym, ap, ◌∙◌, append-nil, rules, Outcome, halted_from}
 use Rattle.prove_command.proofs.Said.{halted_more, not_halted}
 use Rattle.prove_command.proofs.prove.searched_claims.Goals.{in-Halted+in_ok-push, in_default}
 use Rattle.prove_command.proofs.prove.searched_claims.Goals as goal

@@ -1,5 +1,4 @@
-use Rattle.std.proofs.Common.{◌≡◌, take}
-use Rattle.prove_command.specs.Searched.{halted_from}
+use Rattle.prove_command.proofs.Prelude.{◌≡◌, take, halted_from}
 use Rattle.prove_command.proofs.prove.searched_claims.Given as goal
 
 -- the numbers of the first claims that halted

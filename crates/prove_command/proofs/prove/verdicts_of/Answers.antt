@@ -1,8 +1,4 @@
-use Rattle.std.proofs.Common.{◌≡◌, ◌<◌, ◌++◌, ◌∷◌, [], length, sym, ap, subst, ◌∙◌, rules, arith}
-use Rattle.std.specs.Option.{option_flatten, option_to_list}
-use Rattle.std.specs.Vec.Iter.{into_iter_items}
-use Rattle.std.proofs.lemmas.List.{nil_from_length, length-append}
-use Rattle.prove_command.specs.Searched.{searched_from}
+use Rattle.prove_command.proofs.Prelude.{◌≡◌, ◌<◌, ◌++◌, ◌∷◌, [], length, sym, ap, subst, ◌∙◌, rules, arith, option_flatten, option_to_list, into_iter_items, nil_from_length, length-append, searched_from}
 use Rattle.prove_command.proofs.Said.{TakesNext, IsSaidBy, AreFoundFor, SaidSoFar, said_none, said_derived, said_closed, said_halted, said_all}
 use Rattle.prove_command.proofs.prove.verdicts_of.Goals.{in-Derived, in-Closed, in-Halted}
 use Rattle.prove_command.proofs.prove.verdicts_of.Goals as goal

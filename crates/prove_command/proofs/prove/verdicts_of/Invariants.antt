@@ -1,5 +1,4 @@
-use Rattle.std.proofs.Common.{◌≡◌, length}
-use Rattle.std.specs.Vec.Iter.{into_iter_items, into_iter_len}
+use Rattle.prove_command.proofs.Prelude.{◌≡◌, length, into_iter_items, into_iter_len}
 use Rattle.prove_command.proofs.Said.{SaidSoFar}
 use Rattle.prove_command.proofs.prove.verdicts_of.Given as goal
 

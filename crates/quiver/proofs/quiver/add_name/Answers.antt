@@ -1,4 +1,4 @@
-use Rattle.std.proofs.Common.{rules}
+use Rattle.quiver.proofs.Prelude.{rules}
 use Rattle.quiver.proofs.quiver.add_name.Goals as goal
 
 pub returns-clause-added : goal.returns-clause-added

@@ -1,5 +1,4 @@
-use Rattle.std.proofs.Common.{◌+◌, length, arith}
-use Rattle.std.proofs.lemmas.Iterator.{items_from_collect, YieldsList-from_range}
+use Rattle.refute_command.proofs.Prelude.{◌+◌, length, arith, items_from_collect, YieldsList-from_range}
 use Rattle.refute_command.proofs.refute.claim_numbers.Goals as goal
 
 pub returns : goal.returns

@@ -1,9 +1,4 @@
-use Rattle.std.proofs.Common.{◌≡◌, ◌∙◌, List, [], ap, rules}
-use Rattle.adjoint_rules.specs.declared.problem.Problem.{Problem}
-use Rattle.report_text.specs.declared.verdict.Verdict.{Verdict}
-use Rattle.report_text.specs.Report.{report_of, status_of}
-use Rattle.refute_command.specs.Answers.{AnswersSearch}
-use Rattle.command_shape.proofs.Stops.{memory_ends}
+use Rattle.refute_command.proofs.Prelude.{◌≡◌, ◌∙◌, List, [], ap, rules, Problem, Verdict, report_of, status_of, AnswersSearch, memory_ends}
 use Rattle.refute_command.proofs.refute.report_search.Goals as goal
 
 -- memory is short for the text

@@ -1,9 +1,4 @@
-use Rattle.std.proofs.Common.{◌≡◌, ◌<◌, ◌+◌, ◌∷◌, ◌++◌, [], length, get_or, sym, ap, subst, ◌∙◌, rules, arith}
-use Rattle.std.specs.Vec.Iter.{into_iter_items}
-use Rattle.std.proofs.lemmas.List.{nil_from_length}
-use Rattle.std.proofs.lemmas.List.FromFn.{length-range_with_len, get_or-range_with_len}
-use Rattle.adjoint_rules.specs.Claims.{claim_numbers}
-use Rattle.model_checker.specs.Models.{IsClaimNumber}
+use Rattle.refute_command.proofs.Prelude.{◌≡◌, ◌<◌, ◌+◌, ◌∷◌, ◌++◌, [], length, get_or, sym, ap, subst, ◌∙◌, rules, arith, into_iter_items, nil_from_length, length-range_with_len, get_or-range_with_len, claim_numbers, IsClaimNumber}
 use Rattle.refute_command.proofs.Answered.{searched_over}
 use Rattle.refute_command.proofs.Said.{said_none, said_more, said_all}
 use Rattle.refute_command.proofs.refute.search_all.Goals as goal

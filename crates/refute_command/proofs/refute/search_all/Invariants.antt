@@ -1,6 +1,4 @@
-use Rattle.std.proofs.Common.{◌≡◌, length}
-use Rattle.std.specs.Vec.Iter.{into_iter_items, into_iter_len}
-use Rattle.adjoint_rules.specs.Claims.{claim_numbers}
+use Rattle.refute_command.proofs.Prelude.{◌≡◌, length, into_iter_items, into_iter_len, claim_numbers}
 use Rattle.refute_command.proofs.Said.{SaidSoFar}
 use Rattle.refute_command.proofs.refute.search_all.Given as goal
 

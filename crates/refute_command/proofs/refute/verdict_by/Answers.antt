@@ -1,6 +1,4 @@
-use Rattle.std.proofs.Common.{refl, subst}
-use Rattle.model_search.specs.LeastBreaking.{IsFoundFor}
-use Rattle.refute_command.specs.Answers.{refuted}
+use Rattle.refute_command.proofs.Prelude.{refl, subst, IsFoundFor, refuted}
 use Rattle.refute_command.proofs.refute.verdict_by.Goals as goal
 
 pub returns-in-Some : goal.returns-in-Some

@@ -1,6 +1,5 @@
 use Rattle.report_readback.proofs.Declared.{declared_names_are_names}
-use Rattle.adjoint_rules.specs.Claims.{claim_numbers}
-use Rattle.outcome_laws.proofs.OutcomeLetters.{last_rules_have_letters}
+use Rattle.report_readback.proofs.Prelude.{claim_numbers, last_rules_have_letters}
 use Rattle.report_readback.proofs.ModelReports.{reports_read_back_as_models}
 use Rattle.report_readback.proofs.Outcomes.{verdicts_writable, few_verdicts}
 use Rattle.report_readback.proofs.laws.statement_reports_are_read_back_as_models.Goals as goal

@@ -1,5 +1,4 @@
-use Rattle.std.proofs.Common.{rules, ◌≡◌, ◌++◌, ◌+◌}
-use Rattle.report_text.specs.Bench.{maps_of_step}
+use Rattle.report_text.proofs.Prelude.{rules, ◌≡◌, ◌++◌, ◌+◌, maps_of_step}
 use Rattle.report_text.proofs.Ranges.{text_put}
 use Rattle.report_text.proofs.bench.put_all_maps.Goals as goal
 

@@ -1,6 +1,4 @@
-use Rattle.std.proofs.Common.{◌≡◌, ◌++◌}
-use Rattle.std.specs.List.{flat_map, range_with_len}
-use Rattle.report_text.specs.Bench.{maps_of_step}
+use Rattle.report_text.proofs.Prelude.{◌≡◌, ◌++◌, flat_map, range_with_len, maps_of_step}
 use Rattle.report_text.proofs.bench.put_all_maps.Given as goal
 
 abbrev pub invariant-loop-step : goal.invariant-loop-step

@@ -1,5 +1,4 @@
-use Rattle.std.proofs.Common.{rules, ◌≡◌, ◌++◌, ◌+◌, codes}
-use Rattle.report_text.specs.Bench.{numbered}
+use Rattle.report_text.proofs.Prelude.{rules, ◌≡◌, ◌++◌, ◌+◌, codes, numbered}
 use Rattle.report_text.proofs.Ranges.{text_put}
 use Rattle.report_text.proofs.bench.put_objects.Goals as goal
 

@@ -1,6 +1,4 @@
-use Rattle.std.proofs.Common.{◌≡◌, ◌++◌, codes}
-use Rattle.std.specs.List.{flat_map, range_with_len}
-use Rattle.report_text.specs.Bench.{numbered}
+use Rattle.report_text.proofs.Prelude.{◌≡◌, ◌++◌, codes, flat_map, range_with_len, numbered}
 use Rattle.report_text.proofs.bench.put_objects.Given as goal
 
 abbrev pub invariant-loop-object : goal.invariant-loop-object

@@ -1,4 +1,4 @@
-use Rattle.std.proofs.Common.{◌≡◌, ◌≤◌, ◌+◌, ◌*◌, take, length}
+use Rattle.report_text.proofs.Prelude.{◌≡◌, ◌≤◌, ◌+◌, ◌*◌, take, length}
 use Rattle.report_text.proofs.Counts.{rows_in}
 use Rattle.report_text.proofs.head.lemma_row_count.Given as goal
 

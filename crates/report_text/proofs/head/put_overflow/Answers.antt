@@ -1,6 +1,4 @@
-use Rattle.std.proofs.Common.{rules, ◌≡◌, ◌++◌, OnOk, codes, if◌then◌else◌, ap, ◌∙◌}
-use Rattle.std.specs.Fmt.{signed_decimal}
-use Rattle.block_text.proofs.Puts.{three_put}
+use Rattle.report_text.proofs.Prelude.{rules, ◌≡◌, ◌++◌, OnOk, codes, if◌then◌else◌, ap, ◌∙◌, signed_decimal, three_put}
 use Rattle.report_text.proofs.head.put_overflow.Goals.{then-overflow, else-overflow}
 use Rattle.report_text.proofs.head.put_overflow.Goals as goal
 

@@ -1,5 +1,4 @@
-use Rattle.std.proofs.Common.{rules, ◌≡◌, ◌++◌, ◌+◌, length}
-use Rattle.report_text.specs.Heads.{head_line}
+use Rattle.report_text.proofs.Prelude.{rules, ◌≡◌, ◌++◌, ◌+◌, length, head_line}
 use Rattle.report_text.proofs.Verdicts.{head_put}
 use Rattle.report_text.proofs.lines.heads.Goals as goal
 

@@ -1,5 +1,4 @@
-use Rattle.std.proofs.Common.{◌≡◌, take, length}
-use Rattle.report_text.specs.Report.{heads_from}
+use Rattle.report_text.proofs.Prelude.{◌≡◌, take, length, heads_from}
 use Rattle.report_text.proofs.lines.heads.Given as goal
 
 abbrev pub invariant-loop-place : goal.invariant-loop-place

@@ -1,6 +1,4 @@
-use Rattle.std.proofs.Common.{rules, ◌≡◌, ◌++◌, ◌+◌, length}
-use Rattle.report_text.specs.Heads.{head_line}
-use Rattle.report_text.specs.Report.{block_text}
+use Rattle.report_text.proofs.Prelude.{rules, ◌≡◌, ◌++◌, ◌+◌, length, head_line, block_text}
 use Rattle.report_text.proofs.Verdicts.{entry_put}
 use Rattle.report_text.proofs.lines.report.Goals as goal
 

@@ -1,5 +1,4 @@
-use Rattle.std.proofs.Common.{◌≡◌, take}
-use Rattle.report_text.specs.Report.{report_from}
+use Rattle.report_text.proofs.Prelude.{◌≡◌, take, report_from}
 use Rattle.report_text.proofs.lines.report.Given as goal
 
 abbrev pub invariant-loop-place : goal.invariant-loop-place

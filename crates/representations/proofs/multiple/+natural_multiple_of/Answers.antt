@@ -1,4 +1,4 @@
-use Rattle.std.proofs.Common.{refl, sym}
+use Rattle.representations.proofs.Prelude.{refl, sym}
 use Rattle.representations.proofs.Multiples.{even_multiple, odd_multiple, equal_is_arrow, equal_sum_is_arrow}
 use Rattle.representations.proofs.multiple.+natural_multiple_of.Goals as goal
 

@@ -1,4 +1,4 @@
-use Rattle.std.proofs.Common.{◌-◌, arith}
+use Rattle.representations.proofs.Prelude.{◌-◌, arith}
 use Rattle.representations.proofs.Suffixes.{has_path, path_not_empty}
 use Rattle.representations.proofs.PathValues.{letter_in_list, letter_arrow, suffix_arrow, ends_meet, value_from_next}
 use Rattle.representations.proofs.value.path_value_of.Goals as goal

@@ -1,6 +1,4 @@
-use Rattle.std.proofs.Common.{◌≡◌, ◌<◌, length, drop}
-use Rattle.definitions.specs.Representation.{word_value}
-use Rattle.representations.specs.Listed.{listed}
+use Rattle.representations.proofs.Prelude.{◌≡◌, ◌<◌, length, drop, word_value, listed}
 use Rattle.representations.proofs.value.path_value_of.Given as goal
 
 -- the value of the letters from the place on

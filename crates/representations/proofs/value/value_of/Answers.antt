@@ -1,8 +1,4 @@
-use Rattle.std.proofs.Common.{ap, ap₂, ◌∙◌, ◌≡◌, arith, rules, take}
-use Rattle.std.proofs.lemmas.List.{take_all}
-use Rattle.definitions.specs.Representation.{multiple, value_at}
-use Rattle.quiver.specs.Declarations.{quiver_of}
-use Rattle.representations.specs.Listed.{listed}
+use Rattle.representations.proofs.Prelude.{ap, ap₂, ◌∙◌, ◌≡◌, arith, rules, take, take_all, multiple, value_at, quiver_of, listed}
 use Rattle.representations.proofs.ValueLoop.{object_is_object, term_is_path, path_has_signature, sum_arrow, path_arrow, same_source, same_target, value_with_next}
 use Rattle.representations.proofs.value.value_of.Goals as goal
 

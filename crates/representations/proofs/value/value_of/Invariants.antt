@@ -1,7 +1,4 @@
-use Rattle.std.proofs.Common.{◌≡◌, take}
-use Rattle.definitions.specs.Representation.{value_at}
-use Rattle.quiver.specs.Declarations.{quiver_of}
-use Rattle.representations.specs.Listed.{listed}
+use Rattle.representations.proofs.Prelude.{◌≡◌, take, value_at, quiver_of, listed}
 use Rattle.representations.proofs.value.value_of.Given as goal
 
 -- the value of the terms so far

@@ -1,4 +1,4 @@
-use Rattle.traced_completion.specs.Completions.{IsCompletionOf}
+use Rattle.round_tests.proofs.Prelude.{IsCompletionOf}
 use Rattle.round_tests.proofs.rounds.tell_rounds.Given as goal
 
 -- the completion is the problem's

@@ -1,6 +1,4 @@
-use Rattle.std.proofs.Common.{◌*◌}
-use Rattle.std.proofs.lemmas.Result.{IfOk-weaker}
-use Rattle.std.proofs.lemmas.Slice.Zip.{AllZip-map}
+use Rattle.round_tests.proofs.Prelude.{◌*◌, IfOk-weaker, AllZip-map}
 use Rattle.round_tests.proofs.threads.doubled.Goals as goal
 
 -- answers in the job's relation are its values

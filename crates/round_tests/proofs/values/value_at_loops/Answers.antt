@@ -1,4 +1,4 @@
-use Rattle.std.proofs.Common.{◌≡◌, [], ◌∷◌}
+use Rattle.round_tests.proofs.Prelude.{◌≡◌, [], ◌∷◌}
 use Rattle.round_tests.proofs.Loops.{represents_loops, difference_typed}
 use Rattle.round_tests.proofs.values.value_at_loops.Goals as goal
 

@@ -1,5 +1,4 @@
-use Rattle.std.proofs.Common.{refl}
-use Rattle.rule_index.specs.Automaton.{bucket_of}
+use Rattle.rule_index.proofs.Prelude.{refl, bucket_of}
 use Rattle.rule_index.proofs.chains.bucket.Goals as goal
 
 pub returns-clause-is : goal.returns-clause-is

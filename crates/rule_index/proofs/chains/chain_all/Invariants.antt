@@ -1,5 +1,4 @@
-use Rattle.std.proofs.Common.{◌≤◌, length}
-use Rattle.rule_index.specs.Automaton.{IsChained}
+use Rattle.rule_index.proofs.Prelude.{◌≤◌, length, IsChained}
 use Rattle.rule_index.proofs.chains.chain_all.Given as goal
 
 -- the nodes so far

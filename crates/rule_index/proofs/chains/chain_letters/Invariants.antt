@@ -1,5 +1,4 @@
-use Rattle.std.proofs.Common.{◌≤◌, length}
-use Rattle.rule_index.specs.Automaton.{IsLettered}
+use Rattle.rule_index.proofs.Prelude.{◌≤◌, length, IsLettered}
 use Rattle.rule_index.proofs.chains.chain_letters.Given as goal
 
 -- the nodes so far

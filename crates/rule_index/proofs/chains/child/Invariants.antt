@@ -1,5 +1,4 @@
-use Rattle.std.proofs.Common.{◌≡◌, ℕ, ◌<◌, ◌≤◌, length}
-use Rattle.rule_index.specs.Automaton.{IsChild, bucket_of, bucket_at}
+use Rattle.rule_index.proofs.Prelude.{◌≡◌, ℕ, ◌<◌, ◌≤◌, length, IsChild, bucket_of, bucket_at}
 use Rattle.rule_index.proofs.chains.child.Given as goal
 
 -- no child by the letter comes after the node

@@ -1,4 +1,4 @@
-use Rattle.std.proofs.Common.{◌≡◌, ℕ, ◌<◌, length, get_or}
+use Rattle.rule_index.proofs.Prelude.{◌≡◌, ℕ, ◌<◌, length, get_or}
 use Rattle.rule_index.proofs.chains.clear.Given as goal
 
 -- no node so far

@@ -1,8 +1,4 @@
-use Rattle.std.proofs.Common.{◌≡◌, ◌<◌, length, get_or, take, None, arith, sym, ap, ◌∙◌, subst}
-use Rattle.std.specs.Vec.{with_items}
-use Rattle.std.proofs.lemmas.List.{with_items_is, length-take-le, get_or-take}
-use Rattle.rule_index.specs.Automaton.{IsTree, IsChained, IsLettered, IsSpelled, IsLinked, words_of}
-use Rattle.rule_index.specs.Cuts.{earlier}
+use Rattle.rule_index.proofs.Prelude.{◌≡◌, ◌<◌, length, get_or, take, None, arith, sym, ap, ◌∙◌, subst, with_items, with_items_is, length-take-le, get_or-take, IsTree, IsChained, IsLettered, IsSpelled, IsLinked, words_of, earlier}
 use Rattle.rule_index.proofs.FrontNodes.{words_of-take, spelled-take, linked-take}
 use Rattle.rule_index.proofs.cutting.cut.Goals as goal
 

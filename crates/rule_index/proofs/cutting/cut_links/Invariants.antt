@@ -1,6 +1,4 @@
-use Rattle.std.proofs.Common.{◌≡◌, ℕ, ◌<◌, ◌≤◌, length, get_or}
-use Rattle.rule_index.specs.Automaton.{words_of}
-use Rattle.rule_index.specs.Cuts.{IsKept}
+use Rattle.rule_index.proofs.Prelude.{◌≡◌, ℕ, ◌<◌, ◌≤◌, length, get_or, words_of, IsKept}
 use Rattle.rule_index.proofs.cutting.cut_links.Given as goal
 
 -- the links so far are as they should be, and the others as they were

@@ -1,5 +1,4 @@
-use Rattle.std.proofs.Common.{◌≡◌, ℕ, ◌<◌, ◌≤◌, length, get_or, None}
-use Rattle.rule_index.specs.Cuts.{earlier}
+use Rattle.rule_index.proofs.Prelude.{◌≡◌, ℕ, ◌<◌, ◌≤◌, length, get_or, None, earlier}
 use Rattle.rule_index.proofs.cutting.keep_earlier.Given as goal
 
 -- the places so far are kept where they are earlier, and the others as they were

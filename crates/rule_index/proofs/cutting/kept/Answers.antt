@@ -1,7 +1,4 @@
-use Rattle.std.proofs.Common.{◌≡◌, ◌<◌, length, get_or, take, sym, ap, ◌∙◌, subst, arith}
-use Rattle.std.proofs.lemmas.List.{get_or_read}
-use Rattle.rule_index.specs.Prefixes.{word_at}
-use Rattle.rule_index.specs.Automaton.{longest, words_of}
+use Rattle.rule_index.proofs.Prelude.{◌≡◌, ◌<◌, length, get_or, take, sym, ap, ◌∙◌, subst, arith, get_or_read, word_at, longest, words_of}
 use Rattle.rule_index.proofs.FirstWords.{kept-more, kept-shorter, kept-here}
 use Rattle.rule_index.proofs.cutting.kept.Goals as goal
 

@@ -1,6 +1,4 @@
-use Rattle.std.proofs.Common.{◌≡◌, ◌<◌, length, take}
-use Rattle.rule_index.specs.Prefixes.{word_at}
-use Rattle.rule_index.specs.Automaton.{longest, words_of}
+use Rattle.rule_index.proofs.Prelude.{◌≡◌, ◌<◌, length, take, word_at, longest, words_of}
 use Rattle.rule_index.proofs.cutting.kept.Given as goal
 
 -- the longest suffix among the first words is that from here

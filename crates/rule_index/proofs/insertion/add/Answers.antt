@@ -1,7 +1,4 @@
-use Rattle.std.proofs.Common.{◌≡◌, ◌∙◌, ◌+◌, ◌++◌, ◌∷◌, [], ℕ, length, subst, sym, ap, arith}
-use Rattle.std.proofs.lemmas.List.{get_or_read}
-use Rattle.rule_index.specs.declared.tree.Node.{Node}
-use Rattle.rule_index.specs.Automaton.{IsChained, IsLettered, added_node, node_at, root}
+use Rattle.rule_index.proofs.Prelude.{◌≡◌, ◌∙◌, ◌+◌, ◌++◌, ◌∷◌, [], ℕ, length, subst, sym, ap, arith, get_or_read, Node, IsChained, IsLettered, added_node, node_at, root}
 use Rattle.rule_index.proofs.Chained.{chained-longer, lettered-longer}
 use Rattle.rule_index.proofs.insertion.add.Goals as goal
 

@@ -1,6 +1,4 @@
-use Rattle.std.proofs.Common.{◌≡◌, Vec, Global, ◌<◌, ◌+◌, ℕ, length, get_or, set, arith, subst, sym, ap}
-use Rattle.std.proofs.lemmas.List.{get_or_read}
-use Rattle.rule_index.specs.Automaton.{IsAdvanced, IsChild, words_of}
+use Rattle.rule_index.proofs.Prelude.{◌≡◌, Vec, Global, ◌<◌, ◌+◌, ℕ, length, get_or, set, arith, subst, sym, ap, get_or_read, IsAdvanced, IsChild, words_of}
 use Rattle.rule_index.proofs.Spelled.{child-single}
 use Rattle.rule_index.proofs.Advancing.{IsAdvancing, advance-skip, advance-keep, advance-done}
 use Rattle.rule_index.proofs.insertion.advance.Goals as goal

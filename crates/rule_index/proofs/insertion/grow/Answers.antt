@@ -1,5 +1,4 @@
-use Rattle.std.proofs.Common.{subst}
-use Rattle.rule_index.specs.Automaton.{IsChild}
+use Rattle.rule_index.proofs.Prelude.{subst, IsChild}
 use Rattle.rule_index.proofs.Growing.{grown-same}
 use Rattle.rule_index.proofs.insertion.grow.Goals as goal
 

@@ -1,6 +1,4 @@
-use Rattle.std.proofs.Common.{◌≡◌, ◌++◌, ◌∷◌, [], length, get_or, take, arith, subst, sym, ap}
-use Rattle.rule_index.specs.Prefixes.{word_at}
-use Rattle.rule_index.specs.Automaton.{IsAdvanced, IsEnds, IsGrown, IsGrowing, words_of}
+use Rattle.rule_index.proofs.Prelude.{◌≡◌, ◌++◌, ◌∷◌, [], length, get_or, take, arith, subst, sym, ap, word_at, IsAdvanced, IsEnds, IsGrown, IsGrowing, words_of}
 use Rattle.rule_index.proofs.Ending.{ends-advanced}
 use Rattle.rule_index.proofs.Inserting.{growing-more, growing-none}
 use Rattle.rule_index.proofs.Starting.{starts-end, others}

@@ -1,4 +1,4 @@
-use Rattle.rule_index.specs.Automaton.{IsGrowing}
+use Rattle.rule_index.proofs.Prelude.{IsGrowing}
 use Rattle.rule_index.proofs.insertion.grow_all.Given as goal
 
 abbrev pub invariant-loop-index : goal.invariant-loop-index

@@ -1,9 +1,4 @@
-use Rattle.std.proofs.Common.{◌≡◌, ◌<◌, ◌+◌, ◌++◌, ◌∷◌, [], length, get_or, arith, subst, sym, ap, ◌∙◌}
-use Rattle.std.specs.Vec.{with_items}
-use Rattle.std.proofs.lemmas.List.{length_push, with_items_is}
-use Rattle.rule_index.specs.declared.tree.Tree.{Tree}
-use Rattle.rule_index.specs.Prefixes.{word_at}
-use Rattle.rule_index.specs.Automaton.{IsRelinked, IsGrown, added_node, words_of}
+use Rattle.rule_index.proofs.Prelude.{◌≡◌, ◌<◌, ◌+◌, ◌++◌, ◌∷◌, [], length, get_or, arith, subst, sym, ap, ◌∙◌, with_items, length_push, with_items_is, Tree, word_at, IsRelinked, IsGrown, added_node, words_of}
 use Rattle.rule_index.proofs.Pushing.{push-below}
 use Rattle.rule_index.proofs.Growing.{grown-new}
 use Rattle.rule_index.proofs.insertion.grow_new.Goals as goal

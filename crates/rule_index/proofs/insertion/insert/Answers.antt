@@ -1,8 +1,4 @@
-use Rattle.std.proofs.Common.{◌≡◌, ◌<◌, ◌∙◌, None, length, get_or, set, refl, arith, subst, sym, ap}
-use Rattle.std.specs.Vec.{with_items}
-use Rattle.std.proofs.lemmas.List.{with_items_is}
-use Rattle.rule_index.specs.declared.tree.Tree.{Tree}
-use Rattle.rule_index.specs.Automaton.{Lists, IsMarkedAt, marked}
+use Rattle.rule_index.proofs.Prelude.{◌≡◌, ◌<◌, ◌∙◌, None, length, get_or, set, refl, arith, subst, sym, ap, with_items, with_items_is, Tree, Lists, IsMarkedAt, marked}
 use Rattle.rule_index.proofs.Inserting.{inserted}
 use Rattle.rule_index.proofs.insertion.insert.Goals as goal
 

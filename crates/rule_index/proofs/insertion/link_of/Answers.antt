@@ -1,7 +1,4 @@
-use Rattle.std.proofs.Common.{◌≡◌, ◌++◌, ◌∷◌, [], get_or, arith, subst}
-use Rattle.std.proofs.lemmas.List.{get_or_read}
-use Rattle.rule_index.specs.Prefixes.{word_at}
-use Rattle.rule_index.specs.Automaton.{IsLongest, words_of}
+use Rattle.rule_index.proofs.Prelude.{◌≡◌, ◌++◌, ◌∷◌, [], get_or, arith, subst, get_or_read, word_at, IsLongest, words_of}
 use Rattle.rule_index.proofs.Reading.{link-step}
 use Rattle.rule_index.proofs.insertion.link_of.Goals as goal
 

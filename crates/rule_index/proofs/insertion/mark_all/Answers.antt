@@ -1,6 +1,4 @@
-use Rattle.std.proofs.Common.{◌<◌, ◌+◌, ℕ, List, length, get_or, Option, None, arith, refl, subst, sym}
-use Rattle.std.proofs.lemmas.List.{length-set}
-use Rattle.rule_index.specs.Automaton.{IsMarkedAt}
+use Rattle.rule_index.proofs.Prelude.{◌<◌, ◌+◌, ℕ, List, length, get_or, Option, None, arith, refl, subst, sym, length-set, IsMarkedAt}
 use Rattle.rule_index.proofs.Ending.{mark-more}
 use Rattle.rule_index.proofs.insertion.mark_all.Goals as goal
 

@@ -1,5 +1,4 @@
-use Rattle.std.proofs.Common.{ℕ, ◌<◌, length, get_or, None}
-use Rattle.rule_index.specs.Automaton.{IsMarkedAt}
+use Rattle.rule_index.proofs.Prelude.{ℕ, ◌<◌, length, get_or, None, IsMarkedAt}
 use Rattle.rule_index.proofs.insertion.mark_all.Given as goal
 
 abbrev pub invariant-loop-end : goal.invariant-loop-end

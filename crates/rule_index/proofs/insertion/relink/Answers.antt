@@ -1,6 +1,4 @@
-use Rattle.std.proofs.Common.{◌<◌, ◌+◌, ℕ, List, length, get_or, arith, refl, subst, sym}
-use Rattle.std.proofs.lemmas.List.{length-set}
-use Rattle.rule_index.specs.Automaton.{IsRelinked}
+use Rattle.rule_index.proofs.Prelude.{◌<◌, ◌+◌, ℕ, List, length, get_or, arith, refl, subst, sym, length-set, IsRelinked}
 use Rattle.rule_index.proofs.Relinking.{relink-more, relink-inside}
 use Rattle.rule_index.proofs.insertion.relink.Goals as goal
 

@@ -1,5 +1,4 @@
-use Rattle.std.proofs.Common.{ℕ, ◌<◌, length, get_or}
-use Rattle.rule_index.specs.Automaton.{IsRelinked}
+use Rattle.rule_index.proofs.Prelude.{ℕ, ◌<◌, length, get_or, IsRelinked}
 use Rattle.rule_index.proofs.insertion.relink.Given as goal
 
 abbrev pub invariant-loop-end : goal.invariant-loop-end

@@ -1,7 +1,4 @@
-use Rattle.std.proofs.Common.{◌≡◌, ◌<◌, ◌++◌, ◌∷◌, [], ◌∙◌, ℕ, true, false, Vec, Global, length, get_or, refl, subst, sym, ap, arith}
-use Rattle.std.proofs.lemmas.List.{get_or_read}
-use Rattle.rule_index.specs.declared.tree.Node.{Node}
-use Rattle.rule_index.specs.Automaton.{letter_bucket_of, node_at, root}
+use Rattle.rule_index.proofs.Prelude.{◌≡◌, ◌<◌, ◌++◌, ◌∷◌, [], ◌∙◌, ℕ, true, false, Vec, Global, length, get_or, refl, subst, sym, ap, arith, get_or_read, Node, letter_bucket_of, node_at, root}
 use Rattle.rule_index.proofs.Starting.{IsStartsAbove, starts-push, starts-skip}
 use Rattle.rule_index.proofs.insertion.starts.Goals as goal
 use Rattle.rule_index.proofs.insertion.starts.Goals.{then-is_start+in_ok-push, else-is_start}

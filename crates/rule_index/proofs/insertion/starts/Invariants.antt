@@ -1,5 +1,4 @@
-use Rattle.std.proofs.Common.{◌≡◌, ◌<◌, length}
-use Rattle.rule_index.specs.Automaton.{letter_bucket_of, node_at}
+use Rattle.rule_index.proofs.Prelude.{◌≡◌, ◌<◌, length, letter_bucket_of, node_at}
 use Rattle.rule_index.proofs.Starting.{IsStartsAbove}
 use Rattle.rule_index.proofs.insertion.starts.Given as goal
 

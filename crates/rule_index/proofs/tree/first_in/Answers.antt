@@ -1,7 +1,4 @@
-use Rattle.std.proofs.Common.{◌≡◌, [], ◌∷◌, ◌++◌, ◌+◌, take, subst, sym, ap, ◌∙◌, arith}
-use Rattle.std.proofs.lemmas.List.{take_more}
-use Rattle.rule_index.specs.Prefixes.{word_at}
-use Rattle.rule_index.specs.Automaton.{IsLongest, words_of, first_of, occurs}
+use Rattle.rule_index.proofs.Prelude.{◌≡◌, [], ◌∷◌, ◌++◌, ◌+◌, take, subst, sym, ap, ◌∙◌, arith, take_more, word_at, IsLongest, words_of, first_of, occurs}
 use Rattle.rule_index.proofs.Reading.{longest-read, first-read}
 use Rattle.rule_index.proofs.tree.first_in.Goals as goal
 

@@ -1,5 +1,4 @@
-use Rattle.std.proofs.Common.{◌≡◌, ℕ, List, take}
-use Rattle.rule_index.specs.Automaton.{IsLongest, IsMarked, words_of, first_of, occurs}
+use Rattle.rule_index.proofs.Prelude.{◌≡◌, ℕ, List, take, IsLongest, IsMarked, words_of, first_of, occurs}
 use Rattle.rule_index.proofs.tree.first_in.Given as goal
 
 -- the node of the longest suffix so far, and the first word so far

@@ -1,5 +1,4 @@
-use Rattle.std.proofs.Common.{◌≡◌, [], ◌∷◌, length, ap, arith, rules}
-use Rattle.rule_index.specs.Automaton.{root}
+use Rattle.rule_index.proofs.Prelude.{◌≡◌, [], ◌∷◌, length, ap, arith, rules, root}
 use Rattle.rule_index.proofs.Chained.{lettered-none}
 use Rattle.rule_index.proofs.tree.new_tree.Goals as goal
 

@@ -1,5 +1,4 @@
-use Rattle.std.proofs.Common.{sym, ◌∙◌, arith}
-use Rattle.rule_index.specs.Automaton.{words_of}
+use Rattle.rule_index.proofs.Prelude.{sym, ◌∙◌, arith, words_of}
 use Rattle.rule_index.proofs.Spelled.{step-up, step-end, step-child, link-shorter}
 use Rattle.rule_index.proofs.tree.step.Goals as goal
 

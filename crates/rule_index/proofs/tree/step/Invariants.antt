@@ -1,6 +1,4 @@
-use Rattle.std.proofs.Common.{◌≡◌, ◌<◌, [], ◌∷◌, ◌++◌, length}
-use Rattle.rule_index.specs.Prefixes.{word_at}
-use Rattle.rule_index.specs.Automaton.{longest, words_of}
+use Rattle.rule_index.proofs.Prelude.{◌≡◌, ◌<◌, [], ◌∷◌, ◌++◌, length, word_at, longest, words_of}
 use Rattle.rule_index.proofs.tree.step.Given as goal
 
 -- the longest suffix is that from here

@@ -1,12 +1,4 @@
-use Rattle.std.proofs.Common.{rules, ◌≡◌, ◌<ℤ◌, pos, neg_ℤ, true, false, to_z, of_z, Err, refl, sym, ◌∙◌, subst, if◌then◌else◌}
-use Rattle.std.specs.Int.{w128}
-use Rattle.std.specs.Int.RustNames.{unsigned_abs}
-use Rattle.nc_polynomial.specs.Content.{IsContent, DividesEach}
-use Rattle.std.specs.List.{All}
-use Rattle.coef_int.specs.Range.{IsCoefficient}
-use Rattle.traced_rows.specs.declared.Row.{Row}
-use Rattle.definitions.specs.Poly.{poly_multiple}
-use Rattle.rule_making.specs.Making.{leads_negative, negated_rows}
+use Rattle.rule_making.proofs.Prelude.{rules, ◌≡◌, ◌<ℤ◌, pos, neg_ℤ, true, false, to_z, of_z, Err, refl, sym, ◌∙◌, subst, if◌then◌else◌, w128, unsigned_abs, IsContent, DividesEach, All, IsCoefficient, Row, poly_multiple, leads_negative, negated_rows}
 use Rattle.rule_making.proofs.Records.{AreNamed, negated_named}
 use Rattle.rule_making.proofs.Quotients.{signed_nonzero, content_positive, negative_divides}
 use Rattle.rule_making.proofs.making.divide_rest.Goals as goal

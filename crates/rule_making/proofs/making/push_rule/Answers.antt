@@ -1,11 +1,5 @@
-use Rattle.std.proofs.Common.{rules, ◌≡◌, ◌<◌, ◌<ℤ◌, ◌++◌, pos, [], ◌∷◌, length, Err, if◌then◌else◌, option_to_list, ap, ◌∙◌}
-use Rattle.definitions.specs.Poly.{poly_multiple}
-use Rattle.word_core.specs.Letters.{IsOver}
-use Rattle.nc_polynomial.specs.Content.{IsContent}
-use Rattle.rule_reduce.specs.RuleLists.{rule_from}
-use Rattle.rule_making.specs.Making.{leads_negative, negated_rows}
+use Rattle.rule_making.proofs.Prelude.{rules, ◌≡◌, ◌<◌, ◌<ℤ◌, ◌++◌, pos, [], ◌∷◌, length, Err, if◌then◌else◌, option_to_list, ap, ◌∙◌, poly_multiple, IsOver, IsContent, rule_from, leads_negative, negated_rows, IsRecord}
 use Rattle.rule_making.proofs.Quotients.{signed, quotient_words, quotient_primitive, leading_positive}
-use Rattle.cofactor_trace.specs.Needed.{IsRecord}
 use Rattle.rule_making.proofs.Extended.{extended, pushed_rule}
 use Rattle.rule_making.proofs.Records.{records_push}
 use Rattle.rule_making.proofs.making.push_rule.Goals as goal

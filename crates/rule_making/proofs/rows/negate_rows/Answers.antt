@@ -1,10 +1,4 @@
-use Rattle.std.proofs.Common.{rules, ◌≡◌, ◌<◌, get_or, length, sym, subst}
-use Rattle.std.specs.List.{All}
-use Rattle.std.proofs.lemmas.List.Elements.{All-set}
-use Rattle.coef_int.specs.Range.{IsCoefficient}
-use Rattle.traced_rows.specs.declared.Row.{Row}
-use Rattle.rule_making.specs.Making.{negated_row}
-use Rattle.rule_reduce.proofs.RowLists.{written_more}
+use Rattle.rule_making.proofs.Prelude.{rules, ◌≡◌, ◌<◌, get_or, length, sym, subst, All, All-set, IsCoefficient, Row, negated_row, written_more}
 use Rattle.rule_making.proofs.rows.negate_rows.Goals as goal
 
 pub loop-row-preserved : goal.loop-row-preserved

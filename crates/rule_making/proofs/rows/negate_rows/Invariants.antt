@@ -1,7 +1,4 @@
-use Rattle.std.proofs.Common.{◌≡◌, ◌++◌, map, take, drop}
-use Rattle.std.specs.List.{All}
-use Rattle.coef_int.specs.Range.{IsCoefficient}
-use Rattle.rule_making.specs.Making.{negated_row}
+use Rattle.rule_making.proofs.Prelude.{◌≡◌, ◌++◌, map, take, drop, All, IsCoefficient, negated_row}
 use Rattle.rule_making.proofs.rows.negate_rows.Given as goal
 
 abbrev pub invariant-loop-row : goal.invariant-loop-row

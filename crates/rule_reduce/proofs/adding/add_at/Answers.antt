@@ -1,9 +1,5 @@
-use Rattle.std.proofs.Common.{rules, ◌≡◌, ◌≢◌, ◌+◌, ◌++◌, ◌∷◌, pos, [], suc, take, drop, set, length, add-one, sym, ap, ap₂, ◌∙◌, ◌+ℤ◌, to_z, of_z, arith}
+use Rattle.rule_reduce.proofs.Prelude.{rules, ◌≡◌, ◌≢◌, ◌+◌, ◌++◌, ◌∷◌, pos, [], suc, take, drop, set, length, add-one, sym, ap, ap₂, ◌∙◌, ◌+ℤ◌, to_z, of_z, arith, set_split, length-take-le, get_or_read, remove, Term, term_at}
 use mir.Syntax.{w128}
-use Rattle.std.proofs.lemmas.List.{set_split, length-take-le, get_or_read}
-use Rattle.std.specs.List.{remove}
-use Rattle.definitions.specs.Poly.{Term}
-use Rattle.rule_reduce.specs.Adding.{term_at}
 use Rattle.rule_reduce.proofs.InPlace.{put_zero, put_nonzero}
 use Rattle.rule_reduce.proofs.adding.add_at.Goals as goal
 use Rattle.rule_reduce.proofs.adding.add_at.Goals.{In_ok-total}

@@ -1,11 +1,5 @@
-use Rattle.std.proofs.Common.{rules, ◌≡◌, ℤ, ◌∷◌, Err, sym, ap, ap₂, ◌∙◌, subst, to_z, of_z}
+use Rattle.rule_reduce.proofs.Prelude.{rules, ◌≡◌, ℤ, ◌∷◌, Err, sym, ap, ap₂, ◌∙◌, subst, to_z, of_z, All, All-tail, IsCoefficient, Term, Explains, sum_from}
 use mir.Syntax.{w128}
-use Rattle.std.specs.List.{All}
-use Rattle.std.proofs.lemmas.List.Elements.{All-tail}
-use Rattle.coef_int.specs.Range.{IsCoefficient}
-use Rattle.definitions.specs.Poly.{Term}
-use Rattle.nc_polynomial.specs.Faults.{Explains}
-use Rattle.rule_reduce.specs.Adding.{sum_from}
 use Rattle.rule_reduce.proofs.adding.add_in_place.Goals as goal
 use Rattle.rule_reduce.proofs.adding.add_in_place.Goals.{In-Some}
 

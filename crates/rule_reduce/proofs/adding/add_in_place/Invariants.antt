@@ -1,8 +1,4 @@
-use Rattle.std.proofs.Common.{◌≡◌, ◌<◌, ◌≤◌, length, drop}
-use Rattle.std.specs.List.{All}
-use Rattle.coef_int.specs.Range.{IsCoefficient}
-use Rattle.nc_polynomial.specs.Shape.{IsShaped}
-use Rattle.rule_reduce.specs.Adding.{sum_from}
+use Rattle.rule_reduce.proofs.Prelude.{◌≡◌, ◌<◌, ◌≤◌, length, drop, All, IsCoefficient, IsShaped, sum_from}
 use Rattle.rule_reduce.proofs.adding.add_in_place.Given as goal
 
 -- what is left to be added is added to the terms from the place on

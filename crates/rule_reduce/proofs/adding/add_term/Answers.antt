@@ -1,15 +1,5 @@
-use Rattle.std.proofs.Common.{rules, ◌≡◌, ◌+◌, ◌-◌, ◌<◌, ◌≤◌, ◌+ℤ◌, ℕ, List, length, take, drop, Err, sym, ap, ◌∙◌, subst, arith}
-use Rattle.std.specs.List.{HoldsAt}
-use Rattle.std.specs.List.Sorted.{IsBinarySearchResult}
-use Rattle.std.specs.declared.cmp.Ordering.TheVariants.{Equal}
-use Rattle.std.proofs.lemmas.List.{take_rest, drop-drop, length-drop}
-use Rattle.coef_int.specs.Range.{IsCoefficient}
-use Rattle.coef_int.specs.Operations.{sum_of}
-use Rattle.definitions.specs.Poly.{Term}
-use Rattle.word_core.specs.Canonical.{word_cmp}
+use Rattle.rule_reduce.proofs.Prelude.{rules, ◌≡◌, ◌+◌, ◌-◌, ◌<◌, ◌≤◌, ◌+ℤ◌, ℕ, List, length, take, drop, Err, sym, ap, ◌∙◌, subst, arith, HoldsAt, IsBinarySearchResult, Equal, take_rest, drop-drop, length-drop, IsCoefficient, sum_of, Term, word_cmp, IsShaped, term_at, IsPut}
 use Rattle.nc_polynomial.specs.declared.fault.PolyFault.TheVariants as fault
-use Rattle.nc_polynomial.specs.Shape.{IsShaped}
-use Rattle.rule_reduce.specs.Adding.{term_at, IsPut}
 use Rattle.rule_reduce.proofs.InPlace.{put_behind, shaped-drop, added_found, found_fails, added_absent}
 use Rattle.rule_reduce.proofs.adding.add_term.Goals as goal
 use Rattle.rule_reduce.proofs.adding.add_term.Goals.{In-Ok, In-Err}

@@ -1,6 +1,4 @@
-use Rattle.std.proofs.Common.{rules, ◌≡◌, [], Ok, sym, ap, ap₂, ◌∙◌}
-use Rattle.std.proofs.lemmas.List.{nil_from_length}
-use Rattle.rule_reduce.specs.Adding.{sum_from}
+use Rattle.rule_reduce.proofs.Prelude.{rules, ◌≡◌, [], Ok, sym, ap, ap₂, ◌∙◌, nil_from_length, sum_from}
 use Rattle.rule_reduce.proofs.InPlace.{all_added}
 use Rattle.rule_reduce.proofs.adding.add_terms.Goals as goal
 

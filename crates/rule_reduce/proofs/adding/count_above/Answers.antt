@@ -1,9 +1,4 @@
-use Rattle.std.proofs.Common.{rules, ◌≡◌, true, false}
-use Rattle.std.specs.List.Sorted.{IsPartitionPoint}
-use Rattle.std.specs.Ordering.{is_gt}
-use Rattle.std.proofs.lemmas.List.Sorted.{IsPartitionPoint-from_clause}
-use Rattle.definitions.specs.Poly.{Term}
-use Rattle.word_core.specs.Canonical.{word_cmp}
+use Rattle.rule_reduce.proofs.Prelude.{rules, ◌≡◌, true, false, IsPartitionPoint, is_gt, IsPartitionPoint-from_clause, Term, word_cmp}
 use Rattle.rule_reduce.proofs.InPlace.{all_above, parted_by}
 use Rattle.rule_reduce.proofs.adding.count_above.Goals as goal
 

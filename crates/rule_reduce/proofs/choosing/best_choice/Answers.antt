@@ -1,25 +1,4 @@
-use Rattle.std.proofs.Common.{rules, ◌≡◌, ℕ, ◌+◌, ◌<◌, ◌≤◌, List, ◌∷◌, length, take, drop, get_or, nat_lt, Bool, Option, Some, None, IsTrue, IfSome, IsSomeAnd, true, sym, ap, subst, ◌∙◌, arith}
-use Rattle.std.specs.List.{All}
-use Rattle.std.specs.declared.cmp.Ordering.TheVariants.{Greater}
-use Rattle.std.proofs.lemmas.List.{get_or-take, length-take}
-use Rattle.std.proofs.lemmas.List.Elements.{All-drop, All-tail}
-use Rattle.std.proofs.lemmas.Option.{IfSome_then}
-use Rattle.coef_int.specs.Range.{IsCoefficient}
-use Rattle.definitions.specs.Poly.{Term}
-use Rattle.word_core.specs.Canonical.{word_cmp}
-use Rattle.word_core.specs.Letters.{IsOver}
-use Rattle.nc_polynomial.specs.Limits.{word_limit}
-use Rattle.nc_polynomial.specs.Shape.{IsCanonical}
-use Rattle.nc_polynomial.proofs.Steps.{drop_next}
-use Rattle.nc_polynomial.proofs.Shapes.{Descends, recursion_from_IsDescending}
-use Rattle.word_orders.specs.Admissible.{Compare}
-use Rattle.word_orders.specs.Measured.{measured_cmp}
-use Rattle.rule_index.specs.Matches.{match_of}
-use Rattle.std.specs.Option.{option_map}
-use Rattle.word_orders.specs.Limits.{measured_letters}
-use Rattle.rule_reduce.specs.declared.state.Choice.{Choice}
-use Rattle.rule_reduce.specs.Choices.{better_choice, choice_from, choice_of, IsSettled}
-use Rattle.rule_reduce.specs.Passing.{Passes}
+use Rattle.rule_reduce.proofs.Prelude.{rules, ◌≡◌, ℕ, ◌+◌, ◌<◌, ◌≤◌, List, ◌∷◌, length, take, drop, get_or, nat_lt, Bool, Option, Some, None, IsTrue, IfSome, IsSomeAnd, true, sym, ap, subst, ◌∙◌, arith, All, Greater, get_or-take, length-take, All-drop, All-tail, IfSome_then, IsCoefficient, Term, word_cmp, IsOver, word_limit, IsCanonical, drop_next, Descends, recursion_from_IsDescending, Compare, measured_cmp, match_of, option_map, measured_letters, Choice, better_choice, choice_from, choice_of, IsSettled, Passes}
 use Rattle.rule_reduce.proofs.BetterChoices.{holds-better}
 use Rattle.rule_reduce.proofs.Measures.{ends_search, passes_greater}
 use Rattle.rule_reduce.proofs.FirstChoices.{plain_order, settled_front, holds-choice}

@@ -1,12 +1,4 @@
-use Rattle.std.proofs.Common.{◌≡◌, ◌≤◌, length, drop, IfSome}
-use Rattle.std.specs.List.{All}
-use Rattle.std.specs.declared.cmp.Ordering.TheVariants.{Greater}
-use Rattle.coef_int.specs.Range.{IsCoefficient}
-use Rattle.word_core.specs.Canonical.{word_cmp}
-use Rattle.word_core.specs.Letters.{IsOver}
-use Rattle.word_orders.specs.Limits.{measured_letters}
-use Rattle.nc_polynomial.proofs.Shapes.{Descends}
-use Rattle.rule_reduce.specs.Choices.{choice_of, choice_from}
+use Rattle.rule_reduce.proofs.Prelude.{◌≡◌, ◌≤◌, length, drop, IfSome, All, Greater, IsCoefficient, word_cmp, IsOver, measured_letters, Descends, choice_of, choice_from}
 use Rattle.rule_reduce.proofs.choosing.best_choice.Given as goal
 
 -- the terms that are left give the choice, and are canonically below the best one so far

@@ -1,13 +1,4 @@
-use Rattle.std.proofs.Common.{rules, ◌≡◌, ◌+◌, ◌<◌, ◌∷◌, length, drop, Some, None, sym, ap, subst, ◌∙◌, arith}
-use Rattle.std.specs.List.{All}
-use Rattle.std.specs.declared.cmp.Ordering.TheVariants.{Greater}
-use Rattle.definitions.specs.Poly.{Term}
-use Rattle.word_core.specs.Canonical.{word_cmp}
-use Rattle.nc_polynomial.proofs.Steps.{drop_next}
-use Rattle.nc_polynomial.proofs.Shapes.{Descends, recursion_from_IsDescending}
-use Rattle.rule_index.specs.Matches.{match_of}
-use Rattle.rule_reduce.specs.declared.state.Choice.{Choice}
-use Rattle.rule_reduce.specs.Choices.{choice_or, choice_from}
+use Rattle.rule_reduce.proofs.Prelude.{rules, ◌≡◌, ◌+◌, ◌<◌, ◌∷◌, length, drop, Some, None, sym, ap, subst, ◌∙◌, arith, All, Greater, Term, word_cmp, drop_next, Descends, recursion_from_IsDescending, match_of, Choice, choice_or, choice_from}
 use Rattle.rule_reduce.proofs.FirstChoices.{passed_by, first_stays}
 use Rattle.rule_reduce.proofs.InPlace.{shaped-drop}
 use Rattle.rule_reduce.proofs.choosing.first_choice.Goals as goal

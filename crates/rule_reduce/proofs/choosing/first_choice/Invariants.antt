@@ -1,7 +1,4 @@
-use Rattle.std.proofs.Common.{◌≡◌, ◌≤◌, length, drop, None}
-use Rattle.word_orders.specs.Admissible.{Compare}
-use Rattle.nc_polynomial.proofs.Shapes.{Descends}
-use Rattle.rule_reduce.specs.Choices.{choice_from, choice_of, IsPlain}
+use Rattle.rule_reduce.proofs.Prelude.{◌≡◌, ◌≤◌, length, drop, None, Compare, Descends, choice_from, choice_of, IsPlain}
 use Rattle.rule_reduce.proofs.choosing.first_choice.Given as goal
 
 -- the terms that are left give the choice

@@ -1,12 +1,4 @@
-use Rattle.std.proofs.Common.{rules, ◌≡◌, ◌≤◌, IsSome, ℕ, List, Option, Some, None, sym, refl, ap, ◌∙◌}
-use Rattle.std.specs.declared.cmp.Ordering.{Ordering}
-use Rattle.std.specs.declared.cmp.Ordering.TheVariants.{Less, Equal, Greater}
-use Rattle.definitions.specs.Poly.{Term}
-use Rattle.nc_polynomial.specs.Terms.{by_order}
-use Rattle.rule_index.specs.Matches.{match_of}
-use Rattle.word_orders.specs.Admissible.{Compare}
-use Rattle.rule_reduce.specs.declared.state.Choice.{Choice}
-use Rattle.rule_reduce.specs.Choices.{better_choice, choice_or}
+use Rattle.rule_reduce.proofs.Prelude.{rules, ◌≡◌, ◌≤◌, IsSome, ℕ, List, Option, Some, None, sym, refl, ap, ◌∙◌, Ordering, Less, Equal, Greater, Term, by_order, match_of, Compare, Choice, better_choice, choice_or}
 use Rattle.rule_reduce.proofs.Measures.{keeps_choice}
 use Rattle.rule_reduce.proofs.choosing.improve.Goals as goal
 

@@ -1,7 +1,5 @@
-use Rattle.std.proofs.Common.{◌≡◌, pos, ap, subst, arith, of_z, eqb-true, eq-eqb}
-use Rattle.std.proofs.lemmas.Int.{ints}
+use Rattle.rule_reduce.proofs.Prelude.{◌≡◌, pos, ap, subst, arith, of_z, eqb-true, eq-eqb, ints, IsContent}
 use mir.Syntax.{w128}
-use Rattle.nc_polynomial.specs.Content.{IsContent}
 use Rattle.rule_reduce.proofs.MadeRules.{one_content}
 use Rattle.rule_reduce.proofs.making.is_primitive.Goals as goal
 

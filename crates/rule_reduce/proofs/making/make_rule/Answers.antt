@@ -1,5 +1,4 @@
-use Rattle.std.proofs.Common.{rules, ◌≡◌, ◌<◌, ◌<ℤ◌, pos, length, slice_get, Some}
-use Rattle.rule_reduce.specs.Leading.{leading_term}
+use Rattle.rule_reduce.proofs.Prelude.{rules, ◌≡◌, ◌<◌, ◌<ℤ◌, pos, length, slice_get, Some, leading_term}
 use Rattle.rule_reduce.proofs.MadeRules.{has_terms, rule_is}
 use Rattle.rule_reduce.proofs.Numbers.{all_at}
 use Rattle.rule_reduce.proofs.making.make_rule.Goals as goal

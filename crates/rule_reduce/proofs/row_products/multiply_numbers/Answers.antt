@@ -1,9 +1,4 @@
-use Rattle.std.proofs.Common.{rules, ◌≡◌, ◌<◌, ◌≤◌, ◌++◌, ◌*ℤ◌, ℤ, List, pos, map, take, drop, get_or, length, Some, ap, ◌∙◌, arith}
-use Rattle.std.proofs.lemmas.List.{drop_all, get_or_default}
-use Rattle.std.proofs.lemmas.List.Elements.{All-set}
-use Rattle.coef_int.specs.Range.{IsCoefficient}
-use Rattle.coef_int.specs.Operations.{first_overflow, product_of}
-use Rattle.rule_reduce.specs.Stores.{products_by}
+use Rattle.rule_reduce.proofs.Prelude.{rules, ◌≡◌, ◌<◌, ◌≤◌, ◌++◌, ◌*ℤ◌, ℤ, List, pos, map, take, drop, get_or, length, Some, ap, ◌∙◌, arith, drop_all, get_or_default, All-set, IsCoefficient, first_overflow, product_of, products_by}
 use Rattle.rule_reduce.proofs.RowLists.{written_more, all_written, still_there, none_before, overflow_at}
 use Rattle.rule_reduce.proofs.row_products.multiply_numbers.Goals as goal
 

@@ -1,8 +1,4 @@
-use Rattle.std.proofs.Common.{◌≡◌, ◌*ℤ◌, ◌++◌, map, take, drop}
-use Rattle.std.specs.List.{All}
-use Rattle.coef_int.specs.Range.{IsCoefficient}
-use Rattle.coef_int.specs.Operations.{first_overflow}
-use Rattle.rule_reduce.specs.Stores.{products_by}
+use Rattle.rule_reduce.proofs.Prelude.{◌≡◌, ◌*ℤ◌, ◌++◌, map, take, drop, All, IsCoefficient, first_overflow, products_by}
 use Rattle.rule_reduce.proofs.row_products.multiply_numbers.Given as goal
 
 abbrev pub invariant-loop-number : goal.invariant-loop-number

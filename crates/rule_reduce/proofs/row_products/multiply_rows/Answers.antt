@@ -1,10 +1,4 @@
-use Rattle.std.proofs.Common.{rules, ◌≡◌, ◌<◌, ◌≤◌, ◌++◌, ◌*ℤ◌, List, map, take, drop, get_or, length, Some, ap, ◌∙◌, arith}
-use Rattle.std.proofs.lemmas.List.{drop_all}
-use Rattle.std.proofs.lemmas.List.Elements.{All-set}
-use Rattle.coef_int.specs.Range.{IsCoefficient}
-use Rattle.coef_int.specs.Operations.{first_overflow, product_of}
-use Rattle.traced_rows.specs.declared.Row.{Row}
-use Rattle.rule_reduce.specs.Steps.{multiplied_row, row_operations}
+use Rattle.rule_reduce.proofs.Prelude.{rules, ◌≡◌, ◌<◌, ◌≤◌, ◌++◌, ◌*ℤ◌, List, map, take, drop, get_or, length, Some, ap, ◌∙◌, arith, drop_all, All-set, IsCoefficient, first_overflow, product_of, Row, multiplied_row, row_operations}
 use Rattle.rule_reduce.proofs.RowLists.{written_more, all_written, still_there, none_before, overflow_at}
 use Rattle.rule_reduce.proofs.row_products.multiply_rows.Goals as goal
 

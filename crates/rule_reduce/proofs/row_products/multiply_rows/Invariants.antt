@@ -1,8 +1,4 @@
-use Rattle.std.proofs.Common.{◌≡◌, ◌++◌, map, take, drop}
-use Rattle.std.specs.List.{All}
-use Rattle.coef_int.specs.Range.{IsCoefficient}
-use Rattle.coef_int.specs.Operations.{first_overflow}
-use Rattle.rule_reduce.specs.Steps.{multiplied_row, row_operations}
+use Rattle.rule_reduce.proofs.Prelude.{◌≡◌, ◌++◌, map, take, drop, All, IsCoefficient, first_overflow, multiplied_row, row_operations}
 use Rattle.rule_reduce.proofs.row_products.multiply_rows.Given as goal
 
 abbrev pub invariant-loop-row : goal.invariant-loop-row

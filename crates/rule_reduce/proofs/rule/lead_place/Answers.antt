@@ -1,5 +1,4 @@
-use Rattle.std.proofs.Common.{rules, ◌≡◌, true}
-use Rattle.nc_polynomial.proofs.Shapes.{recursion_from_IsDescending}
+use Rattle.rule_reduce.proofs.Prelude.{rules, ◌≡◌, true, recursion_from_IsDescending}
 use Rattle.rule_reduce.proofs.FirstChoices.{plain_order}
 use Rattle.rule_reduce.proofs.LeadingPlaces.{first_leads}
 use Rattle.rule_reduce.proofs.rule.lead_place.Goals as goal

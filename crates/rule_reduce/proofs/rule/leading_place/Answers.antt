@@ -1,4 +1,4 @@
-use Rattle.std.proofs.Common.{◌≡◌, length, arith, subst}
+use Rattle.rule_reduce.proofs.Prelude.{◌≡◌, length, arith, subst}
 use Rattle.rule_reduce.proofs.LeadingPlaces.{IsBest, leading_at}
 use Rattle.rule_reduce.proofs.rule.leading_place.Goals as goal
 

@@ -1,4 +1,4 @@
-use Rattle.std.proofs.Common.{◌<◌, ◌≤◌, length}
+use Rattle.rule_reduce.proofs.Prelude.{◌<◌, ◌≤◌, length}
 use Rattle.rule_reduce.proofs.LeadingPlaces.{IsBest}
 use Rattle.rule_reduce.proofs.rule.leading_place.Given as goal
 

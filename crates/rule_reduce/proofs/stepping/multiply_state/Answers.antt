@@ -1,12 +1,5 @@
-use Rattle.std.proofs.Common.{rules, ◌≡◌, ◌*ℤ◌, pos, map, Ok, Err, Some, None, sym, ap, ◌∙◌, subst}
-use Rattle.coef_int.specs.Range.{IsCoefficient}
-use Rattle.coef_int.specs.Operations.{first_overflow}
-use Rattle.nc_polynomial.specs.Terms.{multiplied, multiplications}
+use Rattle.rule_reduce.proofs.Prelude.{rules, ◌≡◌, ◌*ℤ◌, pos, map, Ok, Err, Some, None, sym, ap, ◌∙◌, subst, IsCoefficient, first_overflow, multiplied, multiplications, checked, unless_overflow, Explains, multiplied_row, row_operations, multiplied_state, state_operations, products_by, with_rows, IsBounded, Shows}
 use Rattle.nc_polynomial.specs.declared.fault.PolyFault.TheVariants as fault
-use Rattle.nc_polynomial.specs.Faults.{checked, unless_overflow, Explains}
-use Rattle.rule_reduce.specs.Steps.{multiplied_row, row_operations, multiplied_state, state_operations}
-use Rattle.rule_reduce.specs.Stores.{products_by}
-use Rattle.rule_reduce.specs.Stores.{with_rows, IsBounded, Shows}
 use Rattle.rule_reduce.proofs.Exits.{one_checked, state-times-one, exit_rest, exit_rows, all_multiplied, canonical_multiply}
 use Rattle.rule_reduce.proofs.ShownStates.{shown_in_range, overflow_is}
 use Rattle.rule_reduce.proofs.stepping.multiply_state.Goals as goal

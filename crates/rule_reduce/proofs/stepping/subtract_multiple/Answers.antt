@@ -1,8 +1,4 @@
-use Rattle.std.proofs.Common.{rules, ◌≡◌, Ok, Err, MatchResult}
-use Rattle.std.specs.List.{All}
-use Rattle.coef_int.specs.Range.{IsCoefficient}
-use Rattle.nc_polynomial.specs.Terms.{negated, shifted, products, added, sums}
-use Rattle.nc_polynomial.specs.Faults.{checked, sized, Explains}
+use Rattle.rule_reduce.proofs.Prelude.{rules, ◌≡◌, Ok, Err, MatchResult, All, IsCoefficient, negated, shifted, products, added, sums, checked, sized, Explains}
 use Rattle.rule_reduce.proofs.Exits.{all-negated, exit_shifted, exit_merged, all_subtracted, shaped_less}
 use Rattle.rule_reduce.proofs.stepping.subtract_multiple.Goals as goal
 use Rattle.rule_reduce.proofs.stepping.subtract_multiple.Goals.{In_ok-taken, In_ok-taken-2, In_ok-add_terms}

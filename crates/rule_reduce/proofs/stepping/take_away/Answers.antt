@@ -1,10 +1,4 @@
-use Rattle.std.proofs.Common.{rules, ◌≡◌, ◌+◌, ◌++◌, [], ◌∷◌, Ok, Err, sym, ap, ◌∙◌, subst}
-use Rattle.coef_int.specs.Range.{IsCoefficient}
-use Rattle.traced_rows.specs.declared.Row.{Row}
-use Rattle.traced_rows.proofs.Lists.{all_push}
-use Rattle.nc_polynomial.specs.Faults.{checked, Explains}
-use Rattle.rule_reduce.specs.Steps.{move_row, move_of, move_result, multiplied_state, state_operations}
-use Rattle.rule_reduce.specs.Stores.{with_rows, Shows, IsBounded}
+use Rattle.rule_reduce.proofs.Prelude.{rules, ◌≡◌, ◌+◌, ◌++◌, [], ◌∷◌, Ok, Err, sym, ap, ◌∙◌, subst, IsCoefficient, Row, all_push, checked, Explains, move_row, move_of, move_result, multiplied_state, state_operations, with_rows, Shows, IsBounded}
 use Rattle.rule_reduce.proofs.Exits.{less, exit_multiplied, exit_subtracted, step_ends, memory-explains}
 use Rattle.rule_reduce.proofs.stepping.take_away.Goals as goal
 

@@ -1,6 +1,4 @@
-use Rattle.std.proofs.Common.{arith}
-use Rattle.abbreviations.specs.Written.{equations_of, claims_in}
-use Rattle.signature_typing.specs.Typing.{made_of, wrong_in}
+use Rattle.signature_typing.proofs.Prelude.{arith, equations_of, claims_in, made_of, wrong_in}
 use Rattle.signature_typing.proofs.Progress.{one_more_statement}
 use Rattle.signature_typing.proofs.stage.all_stated.Goals as goal
 

@@ -1,6 +1,4 @@
-use Rattle.std.proofs.Common.{map}
-use Rattle.abbreviations.specs.Written.{equations_of, claims_in}
-use Rattle.signature_typing.specs.Typing.{made_of, wrong_in}
+use Rattle.signature_typing.proofs.Prelude.{map, equations_of, claims_in, made_of, wrong_in}
 use Rattle.signature_typing.proofs.Progress.{AreSoFar}
 use Rattle.signature_typing.proofs.stage.all_stated.Given as goal
 

@@ -1,4 +1,4 @@
-use Rattle.std.proofs.Common.{map, arith}
+use Rattle.signature_typing.proofs.Prelude.{map, arith}
 use Rattle.signature_typing.proofs.Progress.{one_more, said_more}
 use Rattle.signature_typing.proofs.stage.push_equations.Goals as goal
 

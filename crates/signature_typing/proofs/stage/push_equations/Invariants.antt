@@ -1,4 +1,4 @@
-use Rattle.std.proofs.Common.{map}
+use Rattle.signature_typing.proofs.Prelude.{map}
 use Rattle.signature_typing.proofs.Progress.{IsSoFar}
 use Rattle.signature_typing.proofs.stage.push_equations.Given as goal
 

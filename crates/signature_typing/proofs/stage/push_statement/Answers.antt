@@ -1,7 +1,4 @@
-use Rattle.std.proofs.Common.{map, ap, sym, subst, ◌∙◌, ◌++◌, append-nil, refl}
-use Rattle.std.specs.List.{All}
-use Rattle.statement_names.specs.Ready.{HasNames}
-use Rattle.signature_typing.specs.Typing.{made_of}
+use Rattle.signature_typing.proofs.Prelude.{map, ap, sym, subst, ◌∙◌, ◌++◌, append-nil, refl, All, HasNames, made_of}
 use Rattle.signature_typing.proofs.Posed.{named_equation, other_equations, other_named}
 use Rattle.signature_typing.proofs.Progress.{said_more}
 use Rattle.signature_typing.proofs.stage.push_statement.Goals as goal

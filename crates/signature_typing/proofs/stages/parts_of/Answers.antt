@@ -1,6 +1,4 @@
-use Rattle.std.proofs.Common.{rules}
-use Rattle.expressions.proofs.Typed.{equations_are_typed}
-use Rattle.expressions.proofs.Written.{letters_are_written}
+use Rattle.signature_typing.proofs.Prelude.{rules, equations_are_typed, letters_are_written}
 use Rattle.signature_typing.proofs.Posed.{named, posed}
 use Rattle.signature_typing.proofs.stages.parts_of.Goals as goal
 

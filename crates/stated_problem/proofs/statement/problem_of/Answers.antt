@@ -1,9 +1,5 @@
-use Rattle.std.proofs.Common.{◌≡◌, Some, refl, rules}
+use Rattle.stated_problem.proofs.Prelude.{◌≡◌, Some, refl, rules, fault_of, refused_statement, statement_fault, no_problem, faulty}
 use Rattle.signature_typing.specs.declared.fault.TypeFault.TheVariants as typing
-use Rattle.signature_typing.specs.Typing.{fault_of}
-use Rattle.command_shape.specs.Ending.{refused_statement}
-use Rattle.command_shape.specs.Texts.{statement_fault}
-use Rattle.stated_problem.specs.Statement.{no_problem, faulty}
 use Rattle.stated_problem.proofs.statement.problem_of.Goals as goal
 
 -- the tree has a fault

@@ -1,9 +1,5 @@
-use Rattle.std.proofs.Common.{◌≡◌, ◌∙◌, ap, None, refl, rules}
+use Rattle.stated_problem.proofs.Prelude.{◌≡◌, ◌∙◌, ap, None, refl, rules, TellsFirstFault, refused_statement, statement_fault, no_tree, faulty}
 use Rattle.statement_syntax.specs.declared.fault.SyntaxFault.TheVariants as syntax
-use Rattle.statement_syntax.specs.Fault.{TellsFirstFault}
-use Rattle.command_shape.specs.Ending.{refused_statement}
-use Rattle.command_shape.specs.Texts.{statement_fault}
-use Rattle.stated_problem.specs.Statement.{no_tree, faulty}
 use Rattle.stated_problem.proofs.statement.tree_of.Goals as goal
 
 -- the bytes have a fault

@@ -1,9 +1,4 @@
-use Rattle.std.proofs.Common.{◌≡◌, List, ◌++◌, ◌∷◌, ℕ, ◌+◌, ◌<◌, Bool, map, drop, None, arith, ap, ap₂, sym, subst, ◌∙◌}
-use Rattle.quiver.specs.Declarations.{Declaration, arrow, object_count}
-use Rattle.quiver.specs.Refusals.{map_fault}
-use Rattle.quiver.proofs.Counts.{object_count-append}
-use Rattle.statement_names.specs.Types.{Name}
-use Rattle.statement_names.specs.Numbered.{maps_in, AreFirst}
+use Rattle.statement_names.proofs.Prelude.{◌≡◌, List, ◌++◌, ◌∷◌, ℕ, ◌+◌, ◌<◌, Bool, map, drop, None, arith, ap, ap₂, sym, subst, ◌∙◌, Declaration, arrow, object_count, map_fault, object_count-append, Name, maps_in, AreFirst}
 use Rattle.statement_names.proofs.Items.{map_split}
 use Rattle.statement_names.proofs.Fresh.{no_map_fault}
 use Rattle.statement_names.proofs.declarations.add_maps.Goals as goal

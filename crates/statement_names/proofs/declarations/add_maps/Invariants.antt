@@ -1,5 +1,4 @@
-use Rattle.std.proofs.Common.{◌≡◌, ◌++◌, map, take}
-use Rattle.quiver.specs.Declarations.{arrow}
+use Rattle.statement_names.proofs.Prelude.{◌≡◌, ◌++◌, map, take, arrow}
 use Rattle.statement_names.proofs.declarations.add_maps.Given as goal
 
 abbrev pub invariant-loop-name : goal.invariant-loop-name

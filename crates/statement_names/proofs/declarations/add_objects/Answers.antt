@@ -1,8 +1,4 @@
-use Rattle.std.proofs.Common.{◌≡◌, ◌++◌, ◌∷◌, map, drop, None, ap, sym, subst, ◌∙◌, ◌+◌}
-use Rattle.quiver.specs.Declarations.{Declaration, object}
-use Rattle.quiver.specs.Refusals.{object_fault}
-use Rattle.statement_names.specs.Types.{Name}
-use Rattle.statement_names.specs.Numbered.{objects_in, AreFirst}
+use Rattle.statement_names.proofs.Prelude.{◌≡◌, ◌++◌, ◌∷◌, map, drop, None, ap, sym, subst, ◌∙◌, ◌+◌, Declaration, object, object_fault, Name, objects_in, AreFirst}
 use Rattle.statement_names.proofs.Items.{rest_is}
 use Rattle.statement_names.proofs.Fresh.{no_object_fault}
 use Rattle.statement_names.proofs.declarations.add_objects.Goals as goal

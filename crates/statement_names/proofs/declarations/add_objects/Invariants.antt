@@ -1,5 +1,4 @@
-use Rattle.std.proofs.Common.{◌≡◌, ◌++◌, map, drop}
-use Rattle.quiver.specs.Declarations.{object}
+use Rattle.statement_names.proofs.Prelude.{◌≡◌, ◌++◌, map, drop, object}
 use Rattle.statement_names.proofs.declarations.add_objects.Given as goal
 
 abbrev pub invariant-loop-name : goal.invariant-loop-name

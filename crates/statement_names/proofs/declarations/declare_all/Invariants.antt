@@ -1,5 +1,4 @@
-use Rattle.std.proofs.Common.{◌≡◌, take}
-use Rattle.statement_names.specs.Numbered.{declared_objects}
+use Rattle.statement_names.proofs.Prelude.{◌≡◌, take, declared_objects}
 use Rattle.statement_names.proofs.FileDeclared.{quiver_before}
 use Rattle.statement_names.proofs.declarations.declare_all.Given as goal
 

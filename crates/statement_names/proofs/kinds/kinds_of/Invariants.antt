@@ -1,6 +1,4 @@
-use Rattle.std.proofs.Common.{◌≡◌, [], drop}
-use Rattle.std.specs.List.{flat_map}
-use Rattle.statement_names.specs.Survey.{kinds_by, with_kinds}
+use Rattle.statement_names.proofs.Prelude.{◌≡◌, [], drop, flat_map, kinds_by, with_kinds}
 use Rattle.statement_names.proofs.kinds.kinds_of.Given as goal
 
 abbrev pub invariant-loop-statement : goal.invariant-loop-statement

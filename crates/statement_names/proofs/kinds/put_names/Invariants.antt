@@ -1,5 +1,4 @@
-use Rattle.std.proofs.Common.{◌≡◌, drop}
-use Rattle.statement_names.specs.Survey.{kinded, with_kinds}
+use Rattle.statement_names.proofs.Prelude.{◌≡◌, drop, kinded, with_kinds}
 use Rattle.statement_names.proofs.kinds.put_names.Given as goal
 
 abbrev pub invariant-loop-name : goal.invariant-loop-name

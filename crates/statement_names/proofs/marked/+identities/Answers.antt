@@ -1,6 +1,4 @@
-use Rattle.std.proofs.Common.{arith}
-use Rattle.std.proofs.lemmas.Grind.{common_steps}
-use Rattle.abbreviations.proofs.Trees.{identity-sum, identity-term}
+use Rattle.statement_names.proofs.Prelude.{arith, common_steps, identity-sum, identity-term}
 use Rattle.statement_names.proofs.marked.+identities.Goals as goal
 
 pub mark_sum-returns : goal.mark_sum-returns

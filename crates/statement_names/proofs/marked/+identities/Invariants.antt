@@ -1,8 +1,4 @@
-use Rattle.std.proofs.Common.{take}
-use Rattle.std.specs.List.{list_any}
-use Rattle.abbreviations.specs.Occurrences.{has_identity_in_term}
-use Rattle.abbreviations.proofs.Trees.{has_identity_in_factor}
-use Rattle.statement_names.specs.Marks.{Marks}
+use Rattle.statement_names.proofs.Prelude.{take, list_any, has_identity_in_term, has_identity_in_factor, Marks}
 use Rattle.statement_names.proofs.marked.+identities.Given as goal
 
 abbrev pub invariant-mark_sum-loop-term : goal.invariant-mark_sum-loop-term

@@ -1,7 +1,4 @@
-use Rattle.std.proofs.Common.{take}
-use Rattle.std.specs.List.{list_any}
-use Rattle.statement_names.specs.Marked.{writes_identity, all_equations}
-use Rattle.statement_names.specs.Marks.{Marks}
+use Rattle.statement_names.proofs.Prelude.{take, list_any, writes_identity, all_equations, Marks}
 use Rattle.statement_names.proofs.marked.mark_statements.Given as goal
 
 abbrev pub invariant-loop-statement : goal.invariant-loop-statement

@@ -1,6 +1,4 @@
-use Rattle.std.proofs.Common.{◌≡◌, false, map, get_or}
-use Rattle.statement_names.specs.Marked.{an_object}
-use Rattle.statement_names.specs.Solved.{numbers_that}
+use Rattle.statement_names.proofs.Prelude.{◌≡◌, false, map, get_or, an_object, numbers_that}
 use Rattle.statement_names.proofs.marked.marked_objects.Given as goal
 
 abbrev pub invariant-loop-number : goal.invariant-loop-number

@@ -1,9 +1,4 @@
-use Rattle.std.proofs.Common.{◌≡◌, ◌∙◌, false, IfOk, ◌++◌, length, map, take, drop, replicate, get_or, ap, subst, sym, rules}
-use Rattle.std.proofs.Math.Seq.{take-append_seam}
-use Rattle.quiver.specs.Declarations.{object_count}
-use Rattle.statement_names.specs.Marked.{an_object, is_marked}
-use Rattle.statement_names.specs.Marks.{Marks}
-use Rattle.statement_names.specs.Solved.{numbers_that}
+use Rattle.statement_names.proofs.Prelude.{◌≡◌, ◌∙◌, false, IfOk, ◌++◌, length, map, take, drop, replicate, get_or, ap, subst, sym, rules, take-append_seam, object_count, an_object, is_marked, Marks, numbers_that}
 use Rattle.statement_names.proofs.MarkLemmas.{marked_numbers}
 use Rattle.statement_names.proofs.marked.read_marked.Goals as goal
 

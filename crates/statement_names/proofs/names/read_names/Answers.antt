@@ -1,7 +1,4 @@
-use Rattle.std.proofs.Common.{◌≡◌, None, rules, sym, subst}
-use Rattle.statement_names.specs.Faults.{name_fault_of}
-use Rattle.statement_names.specs.Numbered.{declarations_of}
-use Rattle.statement_names.specs.Ready.{IsReady}
+use Rattle.statement_names.proofs.Prelude.{◌≡◌, None, rules, sym, subst, name_fault_of, declarations_of, IsReady}
 use Rattle.statement_names.proofs.FileReady.{file_ready}
 use Rattle.statement_names.proofs.names.read_names.Goals as goal
 

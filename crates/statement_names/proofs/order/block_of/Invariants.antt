@@ -1,6 +1,4 @@
-use Rattle.std.proofs.Common.{◌≡◌, take}
-use Rattle.std.specs.List.{flat_map}
-use Rattle.statement_names.specs.Ordered.{letters_for}
+use Rattle.statement_names.proofs.Prelude.{◌≡◌, take, flat_map, letters_for}
 use Rattle.statement_names.proofs.order.block_of.Given as goal
 
 abbrev pub invariant-loop-name : goal.invariant-loop-name

@@ -1,6 +1,4 @@
-use Rattle.std.proofs.Common.{All, sym, subst}
-use Rattle.word_orders.specs.Limits.{weight_limit}
-use Rattle.statement_names.specs.Types.{statement}
+use Rattle.statement_names.proofs.Prelude.{All, sym, subst, weight_limit, statement}
 use Rattle.statement_names.proofs.Each.{Each-at}
 use Rattle.statement_names.proofs.Stated.{IsMapIn, AreListed, AreBetween, named_by, pairs_named, pairs_small, stated_at}
 use Rattle.statement_names.proofs.order.read_order.Goals as goal

@@ -1,5 +1,4 @@
-use Rattle.std.proofs.Common.{◌≡◌, drop}
-use Rattle.statement_names.specs.Ordered.{order_of}
+use Rattle.statement_names.proofs.Prelude.{◌≡◌, drop, order_of}
 use Rattle.statement_names.proofs.order.read_order.Given as goal
 
 abbrev pub invariant-loop-statement : goal.invariant-loop-statement

@@ -1,7 +1,4 @@
-use Rattle.std.proofs.Common.{◌≤◌, arith, sym, subst}
-use Rattle.adjoint_rules.specs.Limits.{shape_side_limit}
-use Rattle.statement_names.specs.Types.{statement}
-use Rattle.statement_names.specs.Faults.{value_of}
+use Rattle.statement_names.proofs.Prelude.{◌≤◌, arith, sym, subst, shape_side_limit, statement, value_of}
 use Rattle.statement_names.proofs.Stated.{IsObjectIn, AreListed, AreBetween, named_by, pairs_named, pairs_small, pairs_once, modulus_small, stated_at}
 use Rattle.statement_names.proofs.shapes.read_shapes.Goals as goal
 

@@ -1,6 +1,4 @@
-use Rattle.std.proofs.Common.{◌≡◌, take}
-use Rattle.std.specs.List.{flat_map}
-use Rattle.statement_names.specs.Shapes.{shapes_in}
+use Rattle.statement_names.proofs.Prelude.{◌≡◌, take, flat_map, shapes_in}
 use Rattle.statement_names.proofs.shapes.read_shapes.Given as goal
 
 abbrev pub invariant-loop-statement : goal.invariant-loop-statement

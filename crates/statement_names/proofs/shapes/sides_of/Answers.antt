@@ -1,8 +1,4 @@
-use Rattle.std.proofs.Common.{◌≡◌, ◌∙◌, IsTrue, get_or, set, ap₂, sym, subst, rules}
-use Rattle.std.proofs.Math.ListN.{length-set}
-use Rattle.quiver.specs.Declarations.{named_in}
-use Rattle.abbreviations.specs.Names.{is_object, object_of}
-use Rattle.statement_names.specs.Faults.{value_of}
+use Rattle.statement_names.proofs.Prelude.{◌≡◌, ◌∙◌, IsTrue, get_or, set, ap₂, sym, subst, rules, length-set, named_in, is_object, object_of, value_of}
 use Rattle.statement_names.proofs.Sides.{side_put, sides_from}
 use Rattle.statement_names.proofs.shapes.sides_of.Goals as goal
 

@@ -1,6 +1,4 @@
-use Rattle.std.proofs.Common.{◌≡◌, ℕ, ◌<◌, length, get_or, take}
-use Rattle.quiver.specs.Declarations.{object_count, object_name}
-use Rattle.statement_names.specs.Shapes.{side_in}
+use Rattle.statement_names.proofs.Prelude.{◌≡◌, ℕ, ◌<◌, length, get_or, take, object_count, object_name, side_in}
 use Rattle.statement_names.proofs.shapes.sides_of.Given as goal
 
 abbrev pub invariant-loop-pair : goal.invariant-loop-pair

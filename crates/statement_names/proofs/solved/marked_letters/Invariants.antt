@@ -1,6 +1,4 @@
-use Rattle.std.proofs.Common.{◌≡◌, false, map, get_or}
-use Rattle.statement_names.specs.Ordered.{letter}
-use Rattle.statement_names.specs.Solved.{numbers_that}
+use Rattle.statement_names.proofs.Prelude.{◌≡◌, false, map, get_or, letter, numbers_that}
 use Rattle.statement_names.proofs.solved.marked_letters.Given as goal
 
 abbrev pub invariant-loop-number : goal.invariant-loop-number

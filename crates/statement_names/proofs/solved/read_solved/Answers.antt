@@ -1,10 +1,4 @@
-use Rattle.std.proofs.Common.{◌≡◌, ◌∙◌, false, IfOk, length, map, replicate, get_or, ap, subst, sym}
-use Rattle.std.specs.List.{list_any}
-use Rattle.std.proofs.lemmas.List.{take_all}
-use Rattle.quiver.specs.Declarations.{letter_count}
-use Rattle.statement_names.specs.Marks.{Marks}
-use Rattle.statement_names.specs.Ordered.{letter}
-use Rattle.statement_names.specs.Solved.{names_letter, solved_names, is_solved, numbers_that}
+use Rattle.statement_names.proofs.Prelude.{◌≡◌, ◌∙◌, false, IfOk, length, map, replicate, get_or, ap, subst, sym, list_any, take_all, letter_count, Marks, letter, names_letter, solved_names, is_solved, numbers_that}
 use Rattle.statement_names.proofs.MarkLemmas.{marked_numbers}
 use Rattle.statement_names.proofs.solved.read_solved.Goals as goal
 

@@ -1,8 +1,4 @@
-use Rattle.std.proofs.Common.{◌≡◌, false, length, replicate, take}
-use Rattle.std.specs.List.{list_any}
-use Rattle.quiver.specs.Declarations.{letter_count}
-use Rattle.statement_names.specs.Marks.{Marks}
-use Rattle.statement_names.specs.Solved.{names_letter, solved_names}
+use Rattle.statement_names.proofs.Prelude.{◌≡◌, false, length, replicate, take, list_any, letter_count, Marks, names_letter, solved_names}
 use Rattle.statement_names.proofs.solved.read_solved.Given as goal
 
 abbrev pub invariant-loop-statement : goal.invariant-loop-statement

@@ -1,7 +1,4 @@
-use Rattle.std.proofs.Common.{take}
-use Rattle.std.specs.List.{list_any}
-use Rattle.statement_names.specs.Marks.{Marks}
-use Rattle.statement_names.specs.Solved.{names_letter}
+use Rattle.statement_names.proofs.Prelude.{take, list_any, Marks, names_letter}
 use Rattle.statement_names.proofs.solved.solve_all.Given as goal
 
 abbrev pub invariant-loop-name : goal.invariant-loop-name

@@ -1,11 +1,4 @@
-use Rattle.std.proofs.Common.{◌≡◌, ◌∙◌, [], Some, Ok, Err, rules, arith, ap, sym, subst}
-use Rattle.std.specs.Result.{result_err}
-use Rattle.std.proofs.lemmas.Grind.{common_steps}
-use Rattle.statement_names.specs.Limits.{map_limit_of}
-use Rattle.statement_names.specs.Occurrences.{statement_occurrences, occurrences_of}
-use Rattle.lists.specs.Stop.{Explains, Gives}
-use Rattle.statement_names.specs.Faults.{kind_in, declared_in, name_fault_of}
-use Rattle.statement_names.specs.Survey.{run}
+use Rattle.statement_names.proofs.Prelude.{◌≡◌, ◌∙◌, [], Some, Ok, Err, rules, arith, ap, sym, subst, result_err, common_steps, map_limit_of, statement_occurrences, occurrences_of, Explains, Gives, kind_in, declared_in, name_fault_of, run}
 use Rattle.statement_names.proofs.Bridge.{begun, begun_agrees, first_same}
 use Rattle.statement_names.proofs.Runs.{items_end}
 use Rattle.statement_names.proofs.survey.check_names.Goals as goal

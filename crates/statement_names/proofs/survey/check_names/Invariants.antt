@@ -1,7 +1,4 @@
-use Rattle.std.proofs.Common.{◌≡◌, drop}
-use Rattle.std.specs.List.{flat_map}
-use Rattle.statement_names.specs.Occurrences.{statement_occurrences}
-use Rattle.statement_names.specs.Survey.{run}
+use Rattle.statement_names.proofs.Prelude.{◌≡◌, drop, flat_map, statement_occurrences, run}
 use Rattle.statement_names.proofs.survey.check_names.Given as goal
 
 abbrev pub invariant-loop-statement : goal.invariant-loop-statement

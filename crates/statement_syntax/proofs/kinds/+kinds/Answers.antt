@@ -1,5 +1,4 @@
-use Rattle.std.proofs.Common.{arith}
-use Rattle.std.proofs.lemmas.Grind.{common_steps}
+use Rattle.statement_syntax.proofs.Prelude.{arith, common_steps}
 use Rattle.statement_syntax.proofs.TreeKinds.{sum-flat, term-flat}
 use Rattle.statement_syntax.proofs.kinds.+kinds.Goals as goal
 

@@ -1,6 +1,4 @@
-use Rattle.std.proofs.Common.{◌≡◌, ◌++◌, true, drop, take}
-use Rattle.std.specs.List.{flat_map}
-use Rattle.statement_syntax.specs.Written.{factor_kinds, mark_kinds}
+use Rattle.statement_syntax.proofs.Prelude.{◌≡◌, ◌++◌, true, drop, take, flat_map, factor_kinds, mark_kinds}
 use Rattle.statement_syntax.proofs.TreeKinds.{terms_of}
 use Rattle.statement_syntax.proofs.kinds.+kinds.Given as goal
 

@@ -1,6 +1,4 @@
-use Rattle.std.proofs.Common.{◌≡◌, ◌++◌, take}
-use Rattle.std.specs.List.{flat_map}
-use Rattle.statement_syntax.specs.Written.{name_kinds}
+use Rattle.statement_syntax.proofs.Prelude.{◌≡◌, ◌++◌, take, flat_map, name_kinds}
 use Rattle.statement_syntax.proofs.kinds.put_list.Given as goal
 
 abbrev pub invariant-loop-name : goal.invariant-loop-name

@@ -1,6 +1,4 @@
-use Rattle.std.proofs.Common.{rules, refl}
-use Rattle.statement_tokens.specs.declared.fault.Fault.TheVariants.{NotUtf8}
-use Rattle.statement_syntax.specs.Fault.{not_utf8}
+use Rattle.statement_syntax.proofs.Prelude.{rules, refl, NotUtf8, not_utf8}
 use Rattle.statement_syntax.proofs.read.characters_of.Goals as goal
 
 pub returns-in-Err : goal.returns-in-Err

@@ -1,9 +1,4 @@
-use Rattle.std.proofs.Common.{◌≡◌, ◌∷◌, [], length, sym, ap, ap₂, subst, ◌∙◌, rules, arith, append_assoc, Ok}
-use Rattle.std.specs.Vec.Iter.{into_iter_items, into_iter_len}
-use Rattle.statement_tokens.specs.Language.{language_of}
-use Rattle.statement_syntax.specs.Steps.{run}
-use Rattle.statement_syntax.specs.Lines.{file_step}
-use Rattle.statement_syntax.specs.Stages.{first_statements, behind_first}
+use Rattle.statement_syntax.proofs.Prelude.{◌≡◌, ◌∷◌, [], length, sym, ap, ap₂, subst, ◌∙◌, rules, arith, append_assoc, Ok, into_iter_items, into_iter_len, language_of, run, file_step, first_statements, behind_first}
 use Rattle.statement_syntax.proofs.Stopping.{goes_on}
 use Rattle.statement_syntax.proofs.read.opened.Goals as goal
 

@@ -1,6 +1,4 @@
-use Rattle.std.proofs.Common.{◌≡◌, ◌++◌, length}
-use Rattle.std.specs.Vec.Iter.{into_iter_items, into_iter_len}
-use Rattle.statement_syntax.specs.Stages.{left}
+use Rattle.statement_syntax.proofs.Prelude.{◌≡◌, ◌++◌, length, into_iter_items, into_iter_len, left}
 use Rattle.statement_syntax.proofs.Stopping.{Runs}
 use Rattle.statement_syntax.proofs.read.opened.Given as goal
 

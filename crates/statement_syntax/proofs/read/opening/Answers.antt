@@ -1,7 +1,4 @@
-use Rattle.std.proofs.Common.{◌≡◌, ◌∷◌, ◌++◌, [], Ok, subst, rules, arith, inl}
-use Rattle.statement_tokens.specs.Scanned.{Hands}
-use Rattle.statement_syntax.specs.Fault.{TellsScan, IsWantOfMemory}
-use Rattle.statement_syntax.specs.Stages.{LeavesFault}
+use Rattle.statement_syntax.proofs.Prelude.{◌≡◌, ◌∷◌, ◌++◌, [], Ok, subst, rules, arith, inl, Hands, TellsScan, IsWantOfMemory, LeavesFault}
 use Rattle.statement_syntax.proofs.Streamed.{none_read, front_left, opening_more, opening_all, opening_fault, memory_left, if_err}
 use Rattle.statement_syntax.proofs.read.opening.Goals as goal
 

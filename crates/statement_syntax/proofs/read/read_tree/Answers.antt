@@ -1,6 +1,4 @@
-use Rattle.std.proofs.Common.{rules, ◌∙◌, ap, length, arith}
-use Rattle.statement_syntax.specs.Fault.{TellsFirstFault, IsWantOfMemory}
-use Rattle.statement_tokens.proofs.Values.{chars_short}
+use Rattle.statement_syntax.proofs.Prelude.{rules, ◌∙◌, ap, length, arith, TellsFirstFault, IsWantOfMemory, chars_short}
 use Rattle.statement_syntax.proofs.Stopping.{want_alone}
 use Rattle.statement_syntax.proofs.Streamed.{text_found, text_only, text_first}
 use Rattle.statement_syntax.proofs.read.read_tree.Goals as goal

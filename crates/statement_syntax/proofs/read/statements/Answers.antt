@@ -1,6 +1,4 @@
-use Rattle.std.proofs.Common.{Ok, subst, sym, ap, ◌∙◌}
-use Rattle.statement_tokens.specs.Language.{language_of}
-use Rattle.statement_tokens.specs.Scanned.{Hands}
+use Rattle.statement_syntax.proofs.Prelude.{Ok, subst, sym, ap, ◌∙◌, language_of, Hands}
 use Rattle.statement_syntax.proofs.Streamed.{FrontRead, begins, goes_further, ends, faulted}
 use Rattle.statement_syntax.proofs.read.statements.Goals as goal
 

@@ -1,4 +1,4 @@
-use Rattle.statement_tokens.specs.Scanned.{most_tokens}
+use Rattle.statement_syntax.proofs.Prelude.{most_tokens}
 use Rattle.statement_syntax.proofs.Streamed.{FrontRead}
 use Rattle.statement_syntax.proofs.read.statements.Given as goal
 

@@ -1,5 +1,4 @@
-use Rattle.std.proofs.Common.{◌≡◌, ◌++◌, true, drop}
-use Rattle.statement_syntax.specs.Written.{text_from}
+use Rattle.statement_syntax.proofs.Prelude.{◌≡◌, ◌++◌, true, drop, text_from}
 use Rattle.statement_syntax.proofs.write.put_line.Given as goal
 
 abbrev pub invariant-loop-kind : goal.invariant-loop-kind

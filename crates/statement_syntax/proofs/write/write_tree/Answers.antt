@@ -1,8 +1,4 @@
-use Rattle.std.proofs.Common.{◌≡◌, arith, sym, subst}
-use Rattle.std.proofs.lemmas.Grind.{common_steps}
-use Rattle.std.proofs.Math.Logic.{∥∥₁_map}
-use Rattle.statement_syntax.specs.Places.{ReadsBackAs}
-use Rattle.statement_syntax.specs.Written.{tree_text}
+use Rattle.statement_syntax.proofs.Prelude.{◌≡◌, arith, sym, subst, common_steps, ∥∥₁_map, ReadsBackAs, tree_text}
 use Rattle.statement_syntax.proofs.FileBack.{reads_back}
 use Rattle.statement_syntax.proofs.write.write_tree.Goals as goal
 

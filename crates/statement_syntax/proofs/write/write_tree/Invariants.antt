@@ -1,5 +1,4 @@
-use Rattle.std.proofs.Common.{◌≡◌, take}
-use Rattle.statement_syntax.specs.Written.{tree_text}
+use Rattle.statement_syntax.proofs.Prelude.{◌≡◌, take, tree_text}
 use Rattle.statement_syntax.proofs.write.write_tree.Given as goal
 
 abbrev pub invariant-loop-statement : goal.invariant-loop-statement

@@ -1,6 +1,4 @@
-use Rattle.std.proofs.Common.{◌≡◌, ◌+◌, ◌-◌, ◌≤◌, length, drop}
-use Rattle.std.specs.List.{prefix_len}
-use Rattle.statement_tokens.specs.Items.{is_in}
+use Rattle.statement_tokens.proofs.Prelude.{◌≡◌, ◌+◌, ◌-◌, ◌≤◌, length, drop, prefix_len, is_in}
 use Rattle.statement_tokens.proofs.scan.run_len.Given as goal
 
 abbrev pub invariant-loop-count : goal.invariant-loop-count

@@ -1,5 +1,4 @@
-use Rattle.std.proofs.Common.{◌≡◌, ◌++◌, ◌∷◌, drop}
-use Rattle.std.specs.Str.{encode_utf8_all}
+use Rattle.statement_tokens.proofs.Prelude.{◌≡◌, ◌++◌, ◌∷◌, drop, encode_utf8_all}
 use Rattle.statement_tokens.proofs.scan.spelled.Given as goal
 
 abbrev pub invariant-loop-ch : goal.invariant-loop-ch

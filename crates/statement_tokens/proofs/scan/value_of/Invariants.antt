@@ -1,5 +1,4 @@
-use Rattle.std.proofs.Common.{◌≡◌, ◌∷◌, ◌<◌, ◌^◌, drop}
-use Rattle.statement_tokens.specs.Tokens.{value_from}
+use Rattle.statement_tokens.proofs.Prelude.{◌≡◌, ◌∷◌, ◌<◌, ◌^◌, drop, value_from}
 use Rattle.statement_tokens.proofs.scan.value_of.Given as goal
 
 abbrev pub invariant-loop-ch : goal.invariant-loop-ch

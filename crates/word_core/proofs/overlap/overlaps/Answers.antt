@@ -1,9 +1,4 @@
-use Rattle.std.proofs.Common.{◌≡◌, ◌+◌, ◌-◌, ◌∷◌, ◌++◌, [], ℕ, filter, cond, sym, ap, ◌∙◌, arith, rules, true, false, Bool, refl}
-use Rattle.std.specs.List.{range_with_len}
-use Rattle.std.proofs.lemmas.List.{map-id, append-nil}
-use Rattle.std.proofs.lemmas.List.FromFn.{map-range_with_len_more}
-use Rattle.std.proofs.lemmas.List.Elements.{filter-append}
-use Rattle.word_core.specs.Overlap.{overlaps_at}
+use Rattle.word_core.proofs.Prelude.{◌≡◌, ◌+◌, ◌-◌, ◌∷◌, ◌++◌, [], ℕ, filter, cond, sym, ap, ◌∙◌, arith, rules, true, false, Bool, refl, range_with_len, map-id, append-nil, map-range_with_len_more, filter-append, overlaps_at}
 use Rattle.word_core.proofs.overlap.overlaps.Goals as goal
 use Rattle.word_core.proofs.overlap.overlaps.Goals.{then-overlaps_at+in_ok-push, else-overlaps_at}
 

@@ -1,6 +1,4 @@
-use Rattle.std.proofs.Common.{◌≡◌, ◌≤◌, ◌+◌, ◌-◌, length, filter}
-use Rattle.std.specs.List.{range_with_len}
-use Rattle.word_core.specs.Overlap.{overlaps_at}
+use Rattle.word_core.proofs.Prelude.{◌≡◌, ◌≤◌, ◌+◌, ◌-◌, length, filter, range_with_len, overlaps_at}
 use Rattle.word_core.proofs.overlap.overlaps.Given as goal
 
 abbrev pub invariant-loop-place : goal.invariant-loop-place

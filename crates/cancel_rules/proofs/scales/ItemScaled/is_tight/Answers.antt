@@ -1,4 +1,4 @@
-use Rattle.std.proofs.Common.{rules, ◌≡◌, to_z, of_z}
+use Rattle.cancel_rules.proofs.Prelude.{rules, ◌≡◌, to_z, of_z}
 use mir.Syntax.{w128}
 use Rattle.cancel_rules.proofs.scales.ItemScaled.is_tight.Goals as goal
 

@@ -1,4 +1,4 @@
-use Rattle.std.proofs.Common.{rules, ◌≡◌, to_z, of_z}
+use Rattle.cofactor_checker.proofs.Prelude.{rules, ◌≡◌, to_z, of_z}
 use mir.Syntax.{w128}
 use Rattle.cofactor_checker.proofs.scales.LemmaScaled.is_tight.Goals as goal
 

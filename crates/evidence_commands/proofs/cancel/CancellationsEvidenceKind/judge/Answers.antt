@@ -1,4 +1,4 @@
-use Rattle.std.proofs.Common.{◌≡◌, Err, rules}
+use Rattle.evidence_commands.proofs.Prelude.{◌≡◌, Err, rules}
 use Rattle.evidence_commands.specs.Cancel.{HasRefusalLetters}
 use Rattle.evidence_commands.proofs.Letters.{handed_on}
 use Rattle.evidence_commands.proofs.Cancellations.{refusal_letters}

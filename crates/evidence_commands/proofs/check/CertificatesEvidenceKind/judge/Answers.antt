@@ -1,6 +1,5 @@
-use Rattle.std.proofs.Common.{◌≡◌, Err, rules}
+use Rattle.evidence_commands.proofs.Prelude.{◌≡◌, Err, rules, HasLetters}
 use Rattle.evidence_commands.proofs.Certificates.{readable}
-use Rattle.evidence_commands.specs.Causes.{HasLetters}
 use Rattle.evidence_commands.proofs.Letters.{handed_on, refused_letters}
 use Rattle.evidence_commands.proofs.check.CertificatesEvidenceKind.judge.Goals as goal
 

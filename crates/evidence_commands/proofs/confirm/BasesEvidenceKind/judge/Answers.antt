@@ -1,5 +1,4 @@
-use Rattle.std.proofs.Common.{◌≡◌, Err, rules}
-use Rattle.evidence_commands.specs.Confirm.{HasRefusalLetters}
+use Rattle.evidence_commands.proofs.Prelude.{◌≡◌, Err, rules, HasRefusalLetters}
 use Rattle.evidence_commands.proofs.Letters.{handed_on}
 use Rattle.evidence_commands.proofs.BasisLetters.{refusal_letters}
 use Rattle.evidence_commands.proofs.confirm.BasesEvidenceKind.judge.Goals as goal

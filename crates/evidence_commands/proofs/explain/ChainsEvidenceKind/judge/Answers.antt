@@ -1,5 +1,4 @@
-use Rattle.std.proofs.Common.{subst}
-use Rattle.certificate_text.specs.Evidence.{IsCheckableEvidence}
+use Rattle.evidence_commands.proofs.Prelude.{subst, IsCheckableEvidence}
 use Rattle.evidence_commands.proofs.Chains.{fault_letters}
 use Rattle.evidence_commands.proofs.explain.ChainsEvidenceKind.judge.Goals as goal
 

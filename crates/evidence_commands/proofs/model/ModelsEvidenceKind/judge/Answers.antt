@@ -1,5 +1,4 @@
-use Rattle.std.proofs.Common.{◌≡◌, Err, rules}
-use Rattle.evidence_commands.specs.Model.{HasModelLetter}
+use Rattle.evidence_commands.proofs.Prelude.{◌≡◌, Err, rules, HasModelLetter}
 use Rattle.evidence_commands.proofs.Letters.{handed_on}
 use Rattle.evidence_commands.proofs.Models.{readable, refused_letter}
 use Rattle.evidence_commands.proofs.model.ModelsEvidenceKind.judge.Goals as goal

@@ -1,7 +1,4 @@
-use Rattle.std.proofs.Common.{rules, ◌≡◌, inl, inr, ◌∙◌}
-use Rattle.std.proofs.lemmas.List.{with_items_is}
-use Rattle.flow_io.specs.Files.{place_of}
-use Rattle.flow_io.specs.MemoryShelf.{LoadFails}
+use Rattle.flow_io.proofs.Prelude.{rules, ◌≡◌, inl, inr, ◌∙◌, with_items_is, place_of, LoadFails}
 use Rattle.flow_io.proofs.FileLemmas.{is_with_fault}
 use Rattle.flow_io.proofs.memory_shelf.MemoryShelfShelf.load.Goals as goal
 use Rattle.flow_io.proofs.memory_shelf.MemoryShelfShelf.load.Goals.{then-place-len-via-then-place-len, then-place-len-via-else-place-len+then-contains}

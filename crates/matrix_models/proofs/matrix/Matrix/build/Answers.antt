@@ -1,4 +1,4 @@
-use Rattle.std.proofs.Common.{◌≡◌, arith}
+use Rattle.matrix_models.proofs.Prelude.{◌≡◌, arith}
 use Rattle.matrix_models.proofs.Building.{none_built, row_begun, row_ended, entry_built, matrix_built}
 use Rattle.matrix_models.proofs.matrix.Matrix.build.Goals as goal
 

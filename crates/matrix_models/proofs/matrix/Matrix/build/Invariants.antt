@@ -1,4 +1,4 @@
-use Rattle.std.proofs.Common.{◌+◌, ◌*◌}
+use Rattle.matrix_models.proofs.Prelude.{◌+◌, ◌*◌}
 use Rattle.matrix_models.proofs.Building.{AreBuilt}
 use Rattle.matrix_models.proofs.matrix.Matrix.build.Given as goal
 

@@ -1,7 +1,4 @@
-use Rattle.std.proofs.Common.{◌≡◌, ◌+◌, ◌<◌, ◌^◌, ◌++◌, ◌∷◌, [], All, length, drop, take, refl, sym, ap, subst, ◌∙◌}
-use Rattle.std.proofs.lemmas.List.{take_at}
-use Rattle.matrix_models.specs.Elimination.{ArePivots, AreSmall, AreFirsts, IsAdded, IsAgainst, equation_of}
-use Rattle.matrix_models.specs.Pivots.{Pivots, StandFor, with_equations}
+use Rattle.matrix_models.proofs.Prelude.{◌≡◌, ◌+◌, ◌<◌, ◌^◌, ◌++◌, ◌∷◌, [], All, length, drop, take, refl, sym, ap, subst, ◌∙◌, take_at, ArePivots, AreSmall, AreFirsts, IsAdded, IsAgainst, equation_of, Pivots, StandFor, with_equations}
 use Rattle.matrix_models.proofs.Reduction.{row_is_equation, row_of-equation_of, stand_for-more, no_solution}
 use Rattle.matrix_models.proofs.pivots.Pivots.add.Goals as goal
 

@@ -1,5 +1,4 @@
-use Rattle.std.proofs.Common.{◌≡◌, ◌+◌, length, sym, subst, arith}
-use Rattle.matrix_models.specs.Pivots.{AreRows, StandFor, no_equations}
+use Rattle.matrix_models.proofs.Prelude.{◌≡◌, ◌+◌, length, sym, subst, arith, AreRows, StandFor, no_equations}
 use Rattle.matrix_models.proofs.Reduction.{stand_for-none, are_rows-none}
 use Rattle.matrix_models.proofs.pivots.Pivots.new.Goals as goal
 

@@ -1,8 +1,4 @@
-use Rattle.std.proofs.Common.{◌≡◌, ◌+◌, ◌-◌, ◌*◌, ◌%◌, ◌<◌, ◌≤◌, [], ◌∷◌, ◌++◌, ℕ, List, length, get_or, Some, None, sym, ap, subst, ◌∙◌, arith}
-use Rattle.std.proofs.lemmas.List.{get_or_read}
-use Rattle.std.proofs.lemmas.List.Elements.{All-get_or}
-use Rattle.matrix_models.specs.Matrices.{total}
-use Rattle.matrix_models.specs.Greedy.{IsGreedy}
+use Rattle.matrix_models.proofs.Prelude.{◌≡◌, ◌+◌, ◌-◌, ◌*◌, ◌%◌, ◌<◌, ◌≤◌, [], ◌∷◌, ◌++◌, ℕ, List, length, get_or, Some, None, sym, ap, subst, ◌∙◌, arith, get_or_read, All-get_or, total, IsGreedy}
 use Rattle.matrix_models.proofs.Stretches.{first_within}
 use Rattle.matrix_models.proofs.BackSolving.{IsSolvedTo, solved_free, solved_fixed}
 use Rattle.matrix_models.proofs.GreedySolutions.{greedy-left}

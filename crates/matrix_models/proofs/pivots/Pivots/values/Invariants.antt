@@ -1,4 +1,4 @@
-use Rattle.std.proofs.Common.{length}
+use Rattle.matrix_models.proofs.Prelude.{length}
 use Rattle.matrix_models.proofs.BackSolving.{IsSolvedTo}
 use Rattle.matrix_models.proofs.pivots.Pivots.values.Given as goal
 

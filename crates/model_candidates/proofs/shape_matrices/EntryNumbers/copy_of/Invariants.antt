@@ -1,4 +1,4 @@
-use Rattle.std.proofs.Common.{◌≡◌, take}
+use Rattle.model_candidates.proofs.Prelude.{◌≡◌, take}
 use Rattle.model_candidates.proofs.shape_matrices.EntryNumbers.copy_of.Given as goal
 
 -- the numbers that were passed

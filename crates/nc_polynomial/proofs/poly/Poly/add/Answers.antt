@@ -1,4 +1,4 @@
-use Rattle.std.proofs.Common.{sym, ◌∙◌}
+use Rattle.nc_polynomial.proofs.Prelude.{sym, ◌∙◌}
 use Rattle.nc_polynomial.proofs.Results.{ok_part}
 use Rattle.nc_polynomial.proofs.Units.{sum_is, sum_value}
 use Rattle.nc_polynomial.proofs.poly.Poly.add.Goals as goal

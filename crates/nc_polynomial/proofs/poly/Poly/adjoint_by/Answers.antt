@@ -1,13 +1,4 @@
-use Rattle.std.proofs.Common.{rules, ◌≡◌, ◌<◌, ◌≤◌, ◌+◌, ℕ, pos, ◌+ℤ◌, List, [], ◌∷◌, ◌++◌, length, take, drop, get_or, sym, ap, subst, ◌∙◌, arith}
-use Rattle.std.proofs.lemmas.Int.{ints}
-use Rattle.std.proofs.lemmas.List.{take_all, take-append-drop}
-use Rattle.std.proofs.lemmas.Grind.{common_steps}
-use Rattle.std.specs.BTreeMap.{btree_map_len}
-use Rattle.definitions.specs.Poly.{Term, coefficient_of}
-use Rattle.nc_polynomial.specs.Adjoint.{numbers_of, reversed_star}
-use Rattle.nc_polynomial.specs.Ascending.{reversed}
-use Rattle.nc_polynomial.specs.Collected.{coefficient_in}
-use Rattle.nc_polynomial.specs.Shape.{IsCanonical}
+use Rattle.nc_polynomial.proofs.Prelude.{rules, ◌≡◌, ◌<◌, ◌≤◌, ◌+◌, ℕ, pos, ◌+ℤ◌, List, [], ◌∷◌, ◌++◌, length, take, drop, get_or, sym, ap, subst, ◌∙◌, arith, ints, take_all, take-append-drop, common_steps, btree_map_len, Term, coefficient_of, numbers_of, reversed_star, reversed, coefficient_in, IsCanonical}
 use Rattle.nc_polynomial.proofs.Adjoints.{adjoint_terms, adjoint_terms-next, new_word, canonical_table, adjoint_in}
 use Rattle.nc_polynomial.proofs.Distinct.{apart-before}
 use Rattle.nc_polynomial.proofs.Shapes.{Descends, recursion_from_IsDescending}

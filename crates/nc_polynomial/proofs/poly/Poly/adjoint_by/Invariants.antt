@@ -1,9 +1,4 @@
-use Rattle.std.proofs.Common.{◌≡◌, ◌≤◌, ℕ, List, take}
-use Rattle.std.specs.BTreeMap.{IsOrdered, btree_map_len}
-use Rattle.definitions.specs.Poly.{coefficient_of}
-use Rattle.word_core.specs.Canonical.{word_cmp}
-use Rattle.nc_polynomial.specs.Adjoint.{numbers_of}
-use Rattle.nc_polynomial.specs.Collected.{coefficient_in}
+use Rattle.nc_polynomial.proofs.Prelude.{◌≡◌, ◌≤◌, ℕ, List, take, IsOrdered, btree_map_len, coefficient_of, word_cmp, numbers_of, coefficient_in}
 use Rattle.nc_polynomial.proofs.Adjoints.{adjoint_terms}
 use Rattle.nc_polynomial.proofs.poly.Poly.adjoint_by.Given as goal
 

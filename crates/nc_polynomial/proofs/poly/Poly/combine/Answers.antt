@@ -1,10 +1,4 @@
-use Rattle.std.proofs.Common.{rules, FitsSigned, ◌≡◌, ℤ, List, ◌++◌, Ok, Err, sym, ◌∙◌, subst, to_z, of_z}
-use Rattle.std.proofs.lemmas.Int.{to_z-of_z}
-use Rattle.std.specs.Int.{w128}
-use Rattle.definitions.specs.Poly.{Term, poly_multiple}
-use Rattle.nc_polynomial.specs.Terms.{scaled, products, added, sums}
-use Rattle.nc_polynomial.specs.Faults.{sized, checked, Explains}
-use Rattle.nc_polynomial.specs.Arithmetic.{combined}
+use Rattle.nc_polynomial.proofs.Prelude.{rules, FitsSigned, ◌≡◌, ℤ, List, ◌++◌, Ok, Err, sym, ◌∙◌, subst, to_z, of_z, to_z-of_z, w128, Term, poly_multiple, scaled, products, added, sums, sized, checked, Explains, combined}
 use Rattle.nc_polynomial.proofs.Chains.{passes, passed_sum, explains-first, explains-last, explains-itself, ends, shaped_scale, shaped_add}
 use Rattle.nc_polynomial.proofs.Results.{ok_part}
 use Rattle.nc_polynomial.proofs.Values.{combination_value, merged_value}

@@ -1,10 +1,5 @@
-use Rattle.std.proofs.Common.{rules, ◌≡◌, pos, ◌+◌, ◌++◌, [], ◌∷◌, length, take, get_or, to_z, of_z, sym, ap, subst, ◌∙◌, arith}
-use Rattle.std.proofs.lemmas.List.{take_all}
-use Rattle.std.specs.Int.{IsGcd}
-use Rattle.std.specs.Int.RustNames.{unsigned_abs}
+use Rattle.nc_polynomial.proofs.Prelude.{rules, ◌≡◌, pos, ◌+◌, ◌++◌, [], ◌∷◌, length, take, get_or, to_z, of_z, sym, ap, subst, ◌∙◌, arith, take_all, IsGcd, unsigned_abs, Term, IsContent}
 use mir.Syntax.{w128}
-use Rattle.definitions.specs.Poly.{Term}
-use Rattle.nc_polynomial.specs.Content.{IsContent}
 use Rattle.nc_polynomial.proofs.Divisors.{content-more, content-one, content-zero}
 use Rattle.nc_polynomial.proofs.Steps.{take_next}
 use Rattle.nc_polynomial.proofs.poly.Poly.content.Goals as goal

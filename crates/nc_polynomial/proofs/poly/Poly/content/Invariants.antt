@@ -1,6 +1,4 @@
-use Rattle.std.proofs.Common.{take}
-use Rattle.coef_int.specs.Range.{IsCoefficient}
-use Rattle.nc_polynomial.specs.Content.{IsContent}
+use Rattle.nc_polynomial.proofs.Prelude.{take, IsCoefficient, IsContent}
 use Rattle.nc_polynomial.proofs.poly.Poly.content.Given as goal
 
 -- the divisor is that of the terms that were passed

@@ -1,10 +1,4 @@
-use Rattle.std.proofs.Common.{rules, FitsSigned, ◌≡◌, ◌+◌, ◌++◌, [], ◌∷◌, ◌<◌, length, get_or, take, sym, ap, ap₂, subst, ◌∙◌, arith, to_z, of_z}
-use Rattle.std.proofs.lemmas.Int.{fits_signed_from_abs, to_z-of_z}
-use Rattle.std.proofs.lemmas.List.{take_all}
-use Rattle.std.specs.Int.{◌∣◌, w128}
-use Rattle.std.specs.Int.RustNames.{unsigned_abs, int_div}
-use Rattle.coef_int.specs.Range.{IsCoefficient}
-use Rattle.definitions.specs.Poly.{Term, poly_multiple}
+use Rattle.nc_polynomial.proofs.Prelude.{rules, FitsSigned, ◌≡◌, ◌+◌, ◌++◌, [], ◌∷◌, ◌<◌, length, get_or, take, sym, ap, ap₂, subst, ◌∙◌, arith, to_z, of_z, fits_signed_from_abs, to_z-of_z, take_all, ◌∣◌, w128, unsigned_abs, int_div, IsCoefficient, Term, poly_multiple}
 use Rattle.nc_polynomial.proofs.Divisors.{quotient_in, quotient_times, canonical_back, multiple-append}
 use Rattle.nc_polynomial.proofs.Steps.{take_next}
 use Rattle.nc_polynomial.proofs.poly.Poly.divide.Goals as goal

@@ -1,5 +1,4 @@
-use Rattle.std.proofs.Common.{◌≡◌, take}
-use Rattle.definitions.specs.Poly.{poly_multiple}
+use Rattle.nc_polynomial.proofs.Prelude.{◌≡◌, take, poly_multiple}
 use Rattle.nc_polynomial.proofs.poly.Poly.divide.Given as goal
 
 abbrev pub invariant-loop-term : goal.invariant-loop-term

@@ -1,12 +1,5 @@
-use Rattle.std.proofs.Common.{rules, ◌≡◌, ℕ, ◌+◌, ◌+ℤ◌, List, [], ◌∷◌, take, drop, None, Err, sym, ap, subst, ◌∙◌, arith}
-use Rattle.std.proofs.lemmas.List.{drop_all, take_all}
+use Rattle.nc_polynomial.proofs.Prelude.{rules, ◌≡◌, ℕ, ◌+◌, ◌+ℤ◌, List, [], ◌∷◌, take, drop, None, Err, sym, ap, subst, ◌∙◌, arith, drop_all, take_all, IsCoefficient, sum_of, first_overflow, Term, coefficient_of, Explains, checked, sized, unless_overflow, additions, collected, collection_result, coefficient_in, reversed}
 use Rattle.nc_polynomial.proofs.Steps.{take_next, drop_next}
-use Rattle.coef_int.specs.Range.{IsCoefficient}
-use Rattle.coef_int.specs.Operations.{sum_of, first_overflow}
-use Rattle.definitions.specs.Poly.{Term, coefficient_of}
-use Rattle.nc_polynomial.specs.Faults.{Explains, checked, sized, unless_overflow}
-use Rattle.nc_polynomial.specs.Collected.{additions, collected, collection_result, coefficient_in}
-use Rattle.nc_polynomial.specs.Ascending.{reversed}
 use Rattle.nc_polynomial.proofs.Chains.{explains-first, first-fits, sized-value}
 use Rattle.nc_polynomial.proofs.Results.{ok_part}
 use Rattle.nc_polynomial.proofs.CollectedTerms.{additions-next, coefficients-next, in_range-written, collected-end}

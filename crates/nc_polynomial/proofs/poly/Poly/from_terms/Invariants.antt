@@ -1,10 +1,4 @@
-use Rattle.std.proofs.Common.{◌≡◌, ℕ, List, [], take, drop}
-use Rattle.std.specs.BTreeMap.{IsOrdered}
-use Rattle.coef_int.specs.Range.{IsCoefficient}
-use Rattle.coef_int.specs.Operations.{first_overflow}
-use Rattle.definitions.specs.Poly.{coefficient_of}
-use Rattle.word_core.specs.Canonical.{word_cmp}
-use Rattle.nc_polynomial.specs.Collected.{additions, coefficient_in}
+use Rattle.nc_polynomial.proofs.Prelude.{◌≡◌, ℕ, List, [], take, drop, IsOrdered, IsCoefficient, first_overflow, coefficient_of, word_cmp, additions, coefficient_in}
 use Rattle.nc_polynomial.proofs.poly.Poly.from_terms.Given as goal
 
 -- the table has the sums of the terms that were passed, and none of them overflowed

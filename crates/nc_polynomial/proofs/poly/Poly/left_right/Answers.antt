@@ -1,7 +1,4 @@
-use Rattle.std.proofs.Common.{rules, ◌≡◌, Ok, sym, subst}
-use Rattle.definitions.specs.Poly.{poly_between}
-use Rattle.nc_polynomial.specs.Shape.{IsCanonical}
-use Rattle.nc_polynomial.specs.Faults.{sized}
+use Rattle.nc_polynomial.proofs.Prelude.{rules, ◌≡◌, Ok, sym, subst, poly_between, IsCanonical, sized}
 use Rattle.nc_polynomial.proofs.Around.{shaped-between}
 use Rattle.nc_polynomial.proofs.Products.{canonical_sized}
 use Rattle.nc_polynomial.proofs.poly.Poly.left_right.Goals as goal

@@ -1,7 +1,4 @@
-use Rattle.std.proofs.Common.{rules, subst}
-use Rattle.std.proofs.lemmas.Slice.Eq.{slice_eq-Decides}
-use Rattle.definitions.specs.Poly.{SamePolynomial}
-use Rattle.definitions.proofs.Coefficients.{Same_refl}
+use Rattle.nc_polynomial.proofs.Prelude.{rules, subst, slice_eq-Decides, SamePolynomial, Same_refl}
 use Rattle.nc_polynomial.proofs.Unique.{canonical_unique}
 use Rattle.nc_polynomial.proofs.Words.{term_eq-Decides}
 use Rattle.nc_polynomial.proofs.poly.Poly.same.Goals as goal

@@ -1,6 +1,4 @@
-use Rattle.std.proofs.Common.{rules, ◌≡◌, Ok}
-use Rattle.nc_polynomial.specs.Terms.{scaled, products}
-use Rattle.nc_polynomial.specs.Faults.{checked}
+use Rattle.nc_polynomial.proofs.Prelude.{rules, ◌≡◌, Ok, scaled, products, checked}
 use Rattle.nc_polynomial.proofs.Chains.{shaped_scale}
 use Rattle.nc_polynomial.proofs.Results.{ok_part}
 use Rattle.nc_polynomial.proofs.Values.{scaled_value}

@@ -1,4 +1,4 @@
-use Rattle.std.proofs.Common.{sym, ◌∙◌}
+use Rattle.nc_polynomial.proofs.Prelude.{sym, ◌∙◌}
 use Rattle.nc_polynomial.proofs.Results.{ok_part}
 use Rattle.nc_polynomial.proofs.Units.{difference_is, difference_value}
 use Rattle.nc_polynomial.proofs.poly.Poly.subtract.Goals as goal

@@ -1,4 +1,4 @@
-use Rattle.nc_polynomial.specs.Running.{terms_in}
+use Rattle.nc_polynomial.proofs.Prelude.{terms_in}
 use Rattle.nc_polynomial.proofs.Products.{canonical_sum}
 use Rattle.nc_polynomial.proofs.Results.{ok_part}
 use Rattle.nc_polynomial.proofs.Tables.{shaped-running}

@@ -1,8 +1,4 @@
-use Rattle.std.proofs.Common.{rules, ◌≡◌, Err}
-use Rattle.nc_polynomial.specs.Faults.{Explains}
-use Rattle.nc_polynomial.specs.Product.{product_step}
-use Rattle.nc_polynomial.specs.Running.{terms_in}
-use Rattle.nc_polynomial.specs.Shape.{IsShaped}
+use Rattle.nc_polynomial.proofs.Prelude.{rules, ◌≡◌, Err, Explains, product_step, terms_in, IsShaped}
 use Rattle.nc_polynomial.proofs.Products.{canonical_sum}
 use Rattle.nc_polynomial.proofs.Results.{ok_part}
 use Rattle.nc_polynomial.proofs.Tables.{shaped-running}

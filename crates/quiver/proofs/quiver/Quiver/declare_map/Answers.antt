@@ -1,9 +1,5 @@
-use Rattle.std.proofs.Common.{rules, arith, ◌≡◌, ◌∷◌, ◌++◌, ◌+◌, [], Bool, length, None, sym, refl, ap, ◌∙◌}
-use Rattle.std.proofs.lemmas.List.{append_assoc}
+use Rattle.quiver.proofs.Prelude.{rules, arith, ◌≡◌, ◌∷◌, ◌++◌, ◌+◌, [], Bool, length, None, sym, refl, ap, ◌∙◌, append_assoc, Map, Declaration, arrow, letters_made, map_fault}
 use Rattle.quiver.specs.declared.quiver.LetterEntry.{LetterEntry}
-use Rattle.quiver.specs.declared.named.Named.TheVariants.{Map}
-use Rattle.quiver.specs.Declarations.{Declaration, arrow, letters_made}
-use Rattle.quiver.specs.Refusals.{map_fault}
 use Rattle.quiver.proofs.Growth.{next_turn}
 use Rattle.quiver.proofs.Declared.{declared_map, fresh_map}
 use Rattle.quiver.proofs.Fields.{are_declared, names_len}

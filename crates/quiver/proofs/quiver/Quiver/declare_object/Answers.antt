@@ -1,7 +1,4 @@
-use Rattle.std.proofs.Common.{rules, arith, ◌≡◌, ◌∷◌, [], length, None, refl, ap}
-use Rattle.quiver.specs.declared.named.Named.TheVariants.{Object}
-use Rattle.quiver.specs.Declarations.{object}
-use Rattle.quiver.specs.Refusals.{object_fault}
+use Rattle.quiver.proofs.Prelude.{rules, arith, ◌≡◌, ◌∷◌, [], length, None, refl, ap, Object, object, object_fault}
 use Rattle.quiver.proofs.Declared.{declared_object, fresh_object}
 use Rattle.quiver.proofs.Fields.{are_declared, names_len}
 use Rattle.quiver.proofs.Added.{Adds, declarations_added, kept_added, kept_of_same}

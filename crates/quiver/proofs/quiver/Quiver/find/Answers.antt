@@ -1,6 +1,4 @@
-use Rattle.std.proofs.Common.{◌≡◌, ◌∙◌, sym, refl, Option, Some, None, IfSome}
-use Rattle.quiver.specs.declared.named.Named.{Named}
-use Rattle.quiver.specs.Declarations.{IsNamed}
+use Rattle.quiver.proofs.Prelude.{◌≡◌, ◌∙◌, sym, refl, Option, Some, None, IfSome, Named, IsNamed}
 use Rattle.quiver.proofs.Fields.{named_in-names}
 use Rattle.quiver.proofs.Found.{is_named}
 use Rattle.quiver.proofs.quiver.Quiver.find.Goals as goal

@@ -1,6 +1,4 @@
-use Rattle.std.proofs.Common.{sym, ◌∙◌}
-use Rattle.definitions.proofs.Typed.{signature_from_path, path_from_signature}
-use Rattle.quiver.specs.Declarations.{quiver_of}
+use Rattle.quiver.proofs.Prelude.{sym, ◌∙◌, signature_from_path, path_from_signature, quiver_of}
 use Rattle.quiver.proofs.SameSignature.{ends_from_equal, equal_from_ends}
 use Rattle.quiver.proofs.quiver.Quiver.has_signature.Goals as goal
 

@@ -1,5 +1,4 @@
-use Rattle.std.proofs.Common.{sym, ap, subst, ◌<◌, ◌∙◌}
-use Rattle.quiver.specs.Declarations.{letter_count}
+use Rattle.quiver.proofs.Prelude.{sym, ap, subst, ◌<◌, ◌∙◌, letter_count}
 use Rattle.quiver.proofs.Identities.{identity_in_range, identity_is}
 use Rattle.quiver.proofs.quiver.Quiver.identity_of.Goals as goal
 

@@ -1,4 +1,4 @@
-use Rattle.std.proofs.Common.{arith}
+use Rattle.quiver.proofs.Prelude.{arith}
 use Rattle.quiver.proofs.Fields.{letters_len, letter_at-field}
 use Rattle.quiver.proofs.quiver.Quiver.letter_at.Goals as goal
 

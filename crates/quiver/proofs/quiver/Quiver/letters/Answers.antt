@@ -1,6 +1,4 @@
-use Rattle.std.proofs.Common.{arith, ◌≡◌, ◌≤◌}
-use Rattle.quiver.specs.Declarations.{letter_count}
-use Rattle.quiver.specs.Limits.{letter_limit}
+use Rattle.quiver.proofs.Prelude.{arith, ◌≡◌, ◌≤◌, letter_count, letter_limit}
 use Rattle.quiver.proofs.Counts.{few_letters}
 use Rattle.quiver.proofs.Fields.{are_declared, letters_len}
 use Rattle.quiver.proofs.quiver.Quiver.letters.Goals as goal

@@ -1,5 +1,4 @@
-use Rattle.std.proofs.Common.{arith, ◌≡◌, length}
-use Rattle.quiver.specs.Declarations.{object_count}
+use Rattle.quiver.proofs.Prelude.{arith, ◌≡◌, length, object_count}
 use Rattle.quiver.proofs.Counts.{objects_and_maps}
 use Rattle.quiver.proofs.Fields.{are_declared, objects_len, names_len}
 use Rattle.quiver.proofs.quiver.Quiver.maps.Goals as goal

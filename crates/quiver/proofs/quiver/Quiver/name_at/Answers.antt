@@ -1,4 +1,4 @@
-use Rattle.std.proofs.Common.{rules, ◌≡◌, ◌∙◌, sym, slice_get, Some}
+use Rattle.quiver.proofs.Prelude.{rules, ◌≡◌, ◌∙◌, sym, slice_get, Some}
 use Rattle.quiver.proofs.Fields.{name_at-entry}
 use Rattle.quiver.proofs.quiver.Quiver.name_at.Goals as goal
 

@@ -1,4 +1,4 @@
-use Rattle.std.proofs.Common.{arith}
+use Rattle.quiver.proofs.Prelude.{arith}
 use Rattle.quiver.proofs.Fields.{objects_len, object_at-field}
 use Rattle.quiver.proofs.quiver.Quiver.object_at.Goals as goal
 

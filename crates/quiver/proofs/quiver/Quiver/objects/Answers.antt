@@ -1,4 +1,4 @@
-use Rattle.std.proofs.Common.{arith}
+use Rattle.quiver.proofs.Prelude.{arith}
 use Rattle.quiver.proofs.Fields.{are_declared, objects_len}
 use Rattle.quiver.proofs.Identities.{is_quiver}
 use Rattle.quiver.proofs.quiver.Quiver.objects.Goals as goal

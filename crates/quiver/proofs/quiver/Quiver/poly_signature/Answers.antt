@@ -1,9 +1,4 @@
-use Rattle.std.proofs.Common.{rules, arith, ◌<◌, ◌≤◌, ◌+◌, ℕ, ℤ, List, length, get_or, sym, subst, ⊎_elim}
-use Rattle.std.proofs.Math.Nat.{eq-or-lt_of_le}
-use Rattle.std.proofs.lemmas.Option.{get_or_from_slice_get}
-use Rattle.definitions.specs.Quiver.{IsPath}
-use Rattle.word_core.specs.Letters.{IsOver}
-use Rattle.quiver.specs.Declarations.{quiver_of, letter_count}
+use Rattle.quiver.proofs.Prelude.{rules, arith, ◌<◌, ◌≤◌, ◌+◌, ℕ, ℤ, List, length, get_or, sym, subst, ⊎_elim, eq-or-lt_of_le, get_or_from_slice_get, IsPath, IsOver, quiver_of, letter_count}
 use Rattle.quiver.proofs.TypedTerms.{if_none, typed_from_paths, paths_from_typed, all_have_the_signature}
 use Rattle.quiver.proofs.quiver.Quiver.poly_signature.Goals as goal
 

@@ -1,6 +1,4 @@
-use Rattle.std.proofs.Common.{ℕ, ◌<◌, ◌≤◌, ℤ, List, length, get_or}
-use Rattle.definitions.specs.Quiver.{IsPath}
-use Rattle.quiver.specs.Declarations.{quiver_of}
+use Rattle.quiver.proofs.Prelude.{ℕ, ◌<◌, ◌≤◌, ℤ, List, length, get_or, IsPath, quiver_of}
 use Rattle.quiver.proofs.quiver.Quiver.poly_signature.Given as goal
 
 -- the words that were read are paths of the signature

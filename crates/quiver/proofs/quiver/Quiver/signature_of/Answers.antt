@@ -1,5 +1,4 @@
-use Rattle.std.proofs.Common.{sym, ap, subst, ◌<◌}
-use Rattle.quiver.specs.Declarations.{object_count}
+use Rattle.quiver.proofs.Prelude.{sym, ap, subst, ◌<◌, object_count}
 use Rattle.quiver.proofs.Letters.{letter_is}
 use Rattle.quiver.proofs.quiver.Quiver.signature_of.Goals as goal
 

@@ -1,5 +1,4 @@
-use Rattle.std.proofs.Common.{sym, ap, subst, ◌<◌, ◌∙◌}
-use Rattle.quiver.specs.Declarations.{letter_count}
+use Rattle.quiver.proofs.Prelude.{sym, ap, subst, ◌<◌, ◌∙◌, letter_count}
 use Rattle.quiver.proofs.Letters.{star-quiver_of, letter_is, in_range_from_table}
 use Rattle.quiver.proofs.quiver.Quiver.star_of.Goals as goal
 

@@ -1,8 +1,4 @@
-use Rattle.std.proofs.Common.{rules, arith, ◌≡◌, ◌≢◌, ◌<◌, ◌≤◌, ℕ, length, get_or, Some, None, sym, ap, subst, ◌∙◌}
-use Rattle.definitions.specs.Quiver.{source, target, signature_of}
-use Rattle.definitions.proofs.Typed.{signature_from_path, path_from_signature}
-use Rattle.quiver.specs.Declarations.{quiver_of}
-use Rattle.quiver.specs.Signatures.{ends_of}
+use Rattle.quiver.proofs.Prelude.{rules, arith, ◌≡◌, ◌≢◌, ◌<◌, ◌≤◌, ℕ, length, get_or, Some, None, sym, ap, subst, ◌∙◌, source, target, signature_of, signature_from_path, path_from_signature, quiver_of, ends_of}
 use Rattle.quiver.proofs.Continued.{signature_of-begun, continued-next, continued-stops, continued-ends}
 use Rattle.quiver.proofs.Counts.{letters-quiver_of}
 use Rattle.quiver.proofs.quiver.Quiver.word_signature.Goals as goal

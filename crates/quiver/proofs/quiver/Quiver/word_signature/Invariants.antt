@@ -1,7 +1,4 @@
-use Rattle.std.proofs.Common.{◌≡◌, ◌≤◌, length, drop}
-use Rattle.definitions.specs.Quiver.{signature_of}
-use Rattle.quiver.specs.Declarations.{quiver_of}
-use Rattle.quiver.specs.Signatures.{ends_of}
+use Rattle.quiver.proofs.Prelude.{◌≡◌, ◌≤◌, length, drop, signature_of, quiver_of, ends_of}
 use Rattle.quiver.proofs.Continued.{continued}
 use Rattle.quiver.proofs.quiver.Quiver.word_signature.Given as goal
 

@@ -1,10 +1,4 @@
-use Rattle.std.proofs.Common.{◌≡◌, ◌⊎◌, ◌<◌, true, ◌++◌, ◌∷◌, [], ◌∙◌, ℕ, List, length, take, subst, sym, ap, arith}
-use Rattle.std.proofs.lemmas.List.Quantifiers.{all_pairs_push}
-use Rattle.rule_index.specs.declared.tree.Tree.{Tree}
-use Rattle.rule_index.specs.Matches.{IsAscending, begins_with}
-use Rattle.rule_index.specs.Prefixes.{has}
-use Rattle.rule_index.specs.Automaton.{IsStarts, IsMarked, IsWithin, IsLettered, IsSame, HasLetters, words_of}
-use Rattle.rule_index.specs.Cuts.{IsCounted}
+use Rattle.rule_index.proofs.Prelude.{◌≡◌, ◌⊎◌, ◌<◌, true, ◌++◌, ◌∷◌, [], ◌∙◌, ℕ, List, length, take, subst, sym, ap, arith, all_pairs_push, Tree, IsAscending, begins_with, has, IsStarts, IsMarked, IsWithin, IsLettered, IsSame, HasLetters, words_of, IsCounted}
 use Rattle.rule_index.proofs.Counting.{within-push}
 use Rattle.rule_index.proofs.Counted.{counted-within, counted-push}
 use Rattle.rule_index.proofs.FrontNodes.{words_of-take}

@@ -1,6 +1,4 @@
-use Rattle.std.proofs.Common.{◌≡◌, length, subst, sym, arith}
-use Rattle.rule_index.specs.Prefixes.{IsPrefixCount}
-use Rattle.rule_index.specs.Automaton.{words_of}
+use Rattle.rule_index.proofs.Prelude.{◌≡◌, length, subst, sym, arith, IsPrefixCount, words_of}
 use Rattle.rule_index.proofs.Counting.{nodes-count}
 use Rattle.rule_index.proofs.Counted.{counted-within}
 use Rattle.rule_index.proofs.index.Index.nodes.Goals as goal

@@ -1,8 +1,4 @@
-use Rattle.std.proofs.Common.{◌≡◌, ◌<◌, ◌≤◌, ◌+◌, ◌∙◌, length, get_or, take, subst, sym, ap, arith}
-use Rattle.std.proofs.lemmas.List.{get_or_read}
-use Rattle.rule_index.specs.Matches.{IsAscending}
-use Rattle.rule_index.specs.Automaton.{IsMarked, words_of}
-use Rattle.rule_index.specs.Cuts.{IsCounted, IsCut}
+use Rattle.rule_index.proofs.Prelude.{◌≡◌, ◌<◌, ◌≤◌, ◌+◌, ◌∙◌, length, get_or, take, subst, sym, ap, arith, get_or_read, IsAscending, IsMarked, words_of, IsCounted, IsCut}
 use Rattle.rule_index.proofs.Fronts.{ascending-take}
 use Rattle.rule_index.proofs.FrontNodes.{words_of-take}
 use Rattle.rule_index.proofs.Counted.{marked-cut, counted-cut}

@@ -1,6 +1,4 @@
-use Rattle.std.proofs.Common.{rules, ◌≡◌, ◌<◌, length, IsTrue, sym, subst}
-use Rattle.std.specs.List.{All}
-use Rattle.definitions.specs.Poly.{Term}
+use Rattle.rule_reduce.proofs.Prelude.{rules, ◌≡◌, ◌<◌, length, IsTrue, sym, subst, All, Term}
 use Rattle.rule_reduce.proofs.rules.Rules.may_push.Goals as goal
 use Rattle.rule_reduce.proofs.rules.Rules.may_push.Goals.{then-is_primitive, else-is_primitive, then-is_led_by_positive, else-is_led_by_positive}
 

@@ -1,6 +1,5 @@
-use Rattle.std.proofs.Common.{rules}
+use Rattle.rule_reduce.proofs.Prelude.{rules, normal_form_of}
 use Rattle.rule_reduce.proofs.ShownStates.{shown_whole, all-coefficients}
-use Rattle.rule_reduce.specs.NormalForms.{normal_form_of}
 use Rattle.rule_reduce.proofs.rules.Rules.normal_form.Goals as goal
 
 pub returns-clause-rows_in : goal.returns-clause-rows_in

@@ -1,10 +1,4 @@
-use Rattle.std.proofs.Common.{rules, ◌≡◌, ◌<◌, ◌+◌, ◌++◌, ℕ, [], ◌∷◌, List, length, take, arith, sym, ap, ap₂, ◌∙◌, subst}
-use Rattle.std.specs.List.{All}
-use Rattle.std.proofs.Math.Seq.{take-append_seam}
-use Rattle.std.proofs.lemmas.List.{length-append}
-use Rattle.std.proofs.lemmas.List.Elements.{All-push}
-use Rattle.rule_reduce.specs.declared.rule.Rule.{Rule}
-use Rattle.rule_reduce.specs.RuleLists.{IsRule, entries_of}
+use Rattle.rule_reduce.proofs.Prelude.{rules, ◌≡◌, ◌<◌, ◌+◌, ◌++◌, ℕ, [], ◌∷◌, List, length, take, arith, sym, ap, ap₂, ◌∙◌, subst, All, take-append_seam, length-append, All-push, Rule, IsRule, entries_of}
 use Rattle.rule_reduce.proofs.Numbers.{entries_of-below, entries_from-push}
 use Rattle.rule_reduce.proofs.rules.Rules.push.Goals as goal
 

@@ -1,23 +1,5 @@
-use Rattle.std.proofs.Common.{rules, ◌≡◌, ℕ, Option, pos, ◌<◌, ◌≤◌, ◌+◌, ◌-◌, suc, length, zero, List, [], Some, None, Err, Result, IfSome, arith, sym, ap, ◌∙◌, subst}
-use Rattle.std.specs.List.{All}
-use Rattle.coef_int.specs.Range.{IsCoefficient}
-use Rattle.definitions.specs.Poly.{Term}
-use Rattle.word_core.specs.Letters.{IsOver}
-use Rattle.word_orders.specs.Admissible.{Compare}
-use Rattle.word_orders.specs.Limits.{measured_letters}
-use Rattle.nc_polynomial.specs.Faults.{Explains}
-use Rattle.rule_reduce.specs.declared.rule.Rule.{Rule}
-use Rattle.rule_reduce.specs.declared.state.Choice.{Choice}
-use Rattle.rule_reduce.specs.declared.state.State.{State}
-use Rattle.rule_reduce.specs.declared.state.Progress.{Progress}
-use Rattle.traced_rows.specs.declared.Row.{Row}
-use Rattle.rule_reduce.specs.declared.fault.ReduceFault.{ReduceFault}
+use Rattle.rule_reduce.proofs.Prelude.{rules, ◌≡◌, ℕ, Option, pos, ◌<◌, ◌≤◌, ◌+◌, ◌-◌, suc, length, zero, List, [], Some, None, Err, Result, IfSome, arith, sym, ap, ◌∙◌, subst, All, IsCoefficient, Term, IsOver, Compare, measured_letters, Explains, Rule, Choice, State, Progress, Row, ReduceFault, entries_of, choice_of, IsSettled, step_result, halt_of, reduction, normal_form_of, ExplainsHalt, with_rows, Shows, IsBounded}
 use Rattle.rule_reduce.specs.declared.fault.ReduceFault.TheVariants as halt
-use Rattle.rule_reduce.specs.RuleLists.{entries_of}
-use Rattle.rule_reduce.specs.Choices.{choice_of, IsSettled}
-use Rattle.rule_reduce.specs.Steps.{step_result}
-use Rattle.rule_reduce.specs.NormalForms.{halt_of, reduction, normal_form_of, ExplainsHalt}
-use Rattle.rule_reduce.specs.Stores.{with_rows, Shows, IsBounded}
 use Rattle.rule_reduce.proofs.Settled.{if_borrowed, step_settles}
 use Rattle.rule_reduce.proofs.Rounds.{stops, goes_on, explains_fault, runs_out}
 use Rattle.rule_reduce.proofs.Chosen.{found}

@@ -1,10 +1,4 @@
-use Rattle.std.proofs.Common.{◌≤◌, ◌-◌, length, IfSome}
-use Rattle.std.specs.List.{All}
-use Rattle.word_core.specs.Letters.{IsOver}
-use Rattle.word_orders.specs.Limits.{measured_letters}
-use Rattle.rule_reduce.specs.Choices.{IsSettled}
-use Rattle.rule_reduce.specs.Stores.{IsBounded}
-use Rattle.rule_reduce.specs.NormalForms.{reduction, normal_form_of}
+use Rattle.rule_reduce.proofs.Prelude.{◌≤◌, ◌-◌, length, IfSome, All, IsOver, measured_letters, IsSettled, IsBounded, reduction, normal_form_of}
 use Rattle.rule_reduce.proofs.ShownStates.{LeadsTo}
 use Rattle.rule_reduce.proofs.rules.Rules.reduce.Given as goal
 

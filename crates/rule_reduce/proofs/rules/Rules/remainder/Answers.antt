@@ -1,6 +1,4 @@
-use Rattle.std.proofs.Common.{rules}
-use Rattle.rule_reduce.specs.Stores.{coefficients}
-use Rattle.rule_reduce.specs.NormalForms.{normal_form_of}
+use Rattle.rule_reduce.proofs.Prelude.{rules, coefficients, normal_form_of}
 use Rattle.rule_reduce.proofs.ShownStates.{shown_without}
 use Rattle.rule_reduce.proofs.rules.Rules.remainder.Goals as goal
 

@@ -1,8 +1,4 @@
-use Rattle.std.proofs.Common.{rules, ◌≡◌, ◌<◌, ◌≤◌, List, length, take, arith, sym, ap, ◌∙◌, subst}
-use Rattle.std.specs.List.{All}
-use Rattle.std.proofs.lemmas.List.Elements.{All-take}
-use Rattle.rule_reduce.specs.declared.rule.Rule.{Rule}
-use Rattle.rule_reduce.specs.RuleLists.{IsRule, entries_of}
+use Rattle.rule_reduce.proofs.Prelude.{rules, ◌≡◌, ◌<◌, ◌≤◌, List, length, take, arith, sym, ap, ◌∙◌, subst, All, All-take, Rule, IsRule, entries_of}
 use Rattle.rule_reduce.proofs.Numbers.{entries_of-take, no_longer}
 use Rattle.rule_reduce.proofs.rules.Rules.truncate.Goals as goal
 

@@ -1,4 +1,4 @@
-use Rattle.std.proofs.Common.{rules}
+use Rattle.rule_reduce.proofs.Prelude.{rules}
 use Rattle.rule_reduce.proofs.ShownStates.{stored_numbers}
 use Rattle.rule_reduce.proofs.store.ListingI128RowStore.times.Goals as goal
 

@@ -1,4 +1,4 @@
-use Rattle.std.proofs.Common.{rules}
+use Rattle.rule_reduce.proofs.Prelude.{rules}
 use Rattle.rule_reduce.proofs.ShownStates.{all-coefficients, stored_in_range, stored_overflow}
 use Rattle.rule_reduce.proofs.store.ListingRowRowStore.times.Goals as goal
 

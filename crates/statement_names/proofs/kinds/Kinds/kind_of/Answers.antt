@@ -1,6 +1,4 @@
-use Rattle.std.proofs.Common.{◌∙◌, ap}
-use Rattle.std.specs.Map.{lookup}
-use Rattle.std.specs.Str.{bytes_eq}
+use Rattle.statement_names.proofs.Prelude.{◌∙◌, ap, lookup, bytes_eq}
 use Rattle.statement_names.proofs.Keys.{lookup-bytes}
 use Rattle.statement_names.proofs.kinds.Kinds.kind_of.Goals as goal
 

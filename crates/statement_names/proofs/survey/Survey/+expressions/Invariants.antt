@@ -1,7 +1,4 @@
-use Rattle.std.proofs.Common.{◌≡◌, drop}
-use Rattle.std.specs.List.{flat_map}
-use Rattle.statement_names.specs.Occurrences.{term_occurrences, factor_occurrences}
-use Rattle.statement_names.specs.Survey.{run}
+use Rattle.statement_names.proofs.Prelude.{◌≡◌, drop, flat_map, term_occurrences, factor_occurrences, run}
 use Rattle.statement_names.proofs.survey.Survey.+expressions.Given as goal
 
 abbrev pub invariant-sum-loop-term : goal.invariant-sum-loop-term

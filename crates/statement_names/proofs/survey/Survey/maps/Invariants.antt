@@ -1,6 +1,4 @@
-use Rattle.std.proofs.Common.{◌≡◌, map, drop}
-use Rattle.statement_names.specs.Occurrences.{declares_map}
-use Rattle.statement_names.specs.Survey.{run}
+use Rattle.statement_names.proofs.Prelude.{◌≡◌, map, drop, declares_map, run}
 use Rattle.statement_names.proofs.survey.Survey.maps.Given as goal
 
 abbrev pub invariant-loop-name : goal.invariant-loop-name

@@ -1,7 +1,4 @@
-use Rattle.std.proofs.Common.{◌≡◌, [], drop}
-use Rattle.statement_names.specs.Occurrences.{names_behind}
-use Rattle.statement_names.specs.Survey.{run, names_in}
-use Rattle.statement_names.specs.Types.{Map}
+use Rattle.statement_names.proofs.Prelude.{◌≡◌, [], drop, names_behind, run, names_in, Map}
 use Rattle.statement_names.proofs.survey.Survey.names.Given as goal
 
 abbrev pub invariant-loop-name : goal.invariant-loop-name

@@ -1,6 +1,4 @@
-use Rattle.std.proofs.Common.{◌≡◌, map, drop}
-use Rattle.statement_names.specs.Occurrences.{declares_object}
-use Rattle.statement_names.specs.Survey.{run}
+use Rattle.statement_names.proofs.Prelude.{◌≡◌, map, drop, declares_object, run}
 use Rattle.statement_names.proofs.survey.Survey.objects.Given as goal
 
 abbrev pub invariant-loop-name : goal.invariant-loop-name

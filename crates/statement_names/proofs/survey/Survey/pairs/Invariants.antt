@@ -1,6 +1,4 @@
-use Rattle.std.proofs.Common.{◌≡◌, [], drop}
-use Rattle.statement_names.specs.Occurrences.{pairs_behind}
-use Rattle.statement_names.specs.Survey.{run, names_in}
+use Rattle.statement_names.proofs.Prelude.{◌≡◌, [], drop, pairs_behind, run, names_in}
 use Rattle.statement_names.proofs.survey.Survey.pairs.Given as goal
 
 abbrev pub invariant-loop-pair : goal.invariant-loop-pair

@@ -1,7 +1,4 @@
-use Rattle.std.proofs.Common.{◌∷◌, [], Ok, Err, ap, subst, ◌∙◌, append-nil, refl, arith, length, ◌≤◌}
-use Rattle.std.proofs.lemmas.List.{nil_from_length}
-use Rattle.statement_tokens.specs.Items.{more_of}
-use Rattle.statement_tokens.specs.Tokens.{below}
+use Rattle.statement_tokens.proofs.Prelude.{◌∷◌, [], Ok, Err, ap, subst, ◌∙◌, append-nil, refl, arith, length, ◌≤◌, nil_from_length, more_of, below}
 use Rattle.statement_tokens.proofs.Reading.{tokens_from}
 use Rattle.statement_tokens.proofs.TokenLaws.{hands, token_hands, leaves}
 use Rattle.statement_tokens.proofs.Pieces.{front_none}

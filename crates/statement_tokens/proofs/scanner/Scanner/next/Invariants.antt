@@ -1,7 +1,5 @@
-use Rattle.std.proofs.Common.{◌≡◌, ◌≤◌, List, length}
+use Rattle.statement_tokens.proofs.Prelude.{◌≡◌, ◌≤◌, List, length, language_of, most_tokens}
 use Rattle.statement_tokens.specs.declared.token.Token as code_token
-use Rattle.statement_tokens.specs.Language.{language_of}
-use Rattle.statement_tokens.specs.Scanned.{most_tokens}
 use Rattle.statement_tokens.proofs.Reading.{unread}
 use Rattle.statement_tokens.proofs.scanner.Scanner.next.Given as goal
 

@@ -1,5 +1,4 @@
-use Rattle.std.proofs.Common.{ℕ, ◌<◌}
-use Rattle.word_core.specs.Occurrence.{OccursAt}
+use Rattle.word_core.proofs.Prelude.{ℕ, ◌<◌, OccursAt}
 use Rattle.word_core.proofs.word.Word.first_place.Given as goal
 
 -- it occurs at no place so far

@@ -1,4 +1,4 @@
-use Rattle.std.proofs.Common.{◌∙◌}
+use Rattle.word_core.proofs.Prelude.{◌∙◌}
 use Rattle.word_core.proofs.Places.{starts_with_tells}
 use Rattle.word_core.proofs.word.Word.occurs_at.Goals as goal
 

@@ -1,7 +1,6 @@
-use Rattle.std.proofs.Common.{◌≡◌, ◌↔◌, ℕ, List, IfOk, Contains, rules, subst, sym}
-use Rattle.std.proofs.lemmas.Result.{IfOk-weaker}
+use Rattle.word_core.proofs.Prelude.{◌≡◌, ◌↔◌, ℕ, List, IfOk, rules, subst, sym, IfOk-weaker, overlap_places, OverlapsAt}
+use Rattle.std.proofs.Common.{Contains}
 use Rattle.word_core.proofs.Overlaps.{overlap_places-tells}
-use Rattle.word_core.specs.Overlap.{overlap_places, OverlapsAt}
 use Rattle.word_core.proofs.word.Word.overlaps.Goals as goal
 
 pub returns-clause-each : goal.returns-clause-each

@@ -1,8 +1,4 @@
-use Rattle.std.proofs.Common.{◌≡◌, ap, ◌∙◌, rules}
-use Rattle.word_orders.specs.Lists.{is_listed, weight_of}
-use Rattle.word_orders.specs.Measured.{weight_cmp, block_cmp}
-use Rattle.word_orders.specs.Specified.{asked_cmp}
-use Rattle.word_orders.specs.Tables.{is_in, weight_in}
+use Rattle.word_orders.proofs.Prelude.{◌≡◌, ap, ◌∙◌, rules, is_listed, weight_of, weight_cmp, block_cmp, asked_cmp, is_in, weight_in}
 use Rattle.word_orders.proofs.any.AnyOrder.new.Goals as goal
 
 -- the letters weigh the same

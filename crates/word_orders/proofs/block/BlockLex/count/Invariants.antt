@@ -1,5 +1,4 @@
-use Rattle.std.proofs.Common.{◌≡◌, ◌≤◌, take, count_by}
-use Rattle.word_orders.specs.Tables.{is_in}
+use Rattle.word_orders.proofs.Prelude.{◌≡◌, ◌≤◌, take, count_by, is_in}
 use Rattle.word_orders.proofs.block.BlockLex.count.Given as goal
 
 abbrev pub invariant-loop-place : goal.invariant-loop-place

@@ -1,7 +1,4 @@
-use Rattle.std.proofs.Common.{◌≡◌, suc, [], ◌∷◌, ◌++◌, get_or, take, drop, Err, MatchResult, sym, subst, rules}
-use Rattle.std.proofs.lemmas.List.{take_more}
-use Rattle.word_core.specs.declared.letter.Letter.{Letter}
-use Rattle.word_orders.specs.Faults.{block_fault, HasNoFault, Explains}
+use Rattle.word_orders.proofs.Prelude.{◌≡◌, suc, [], ◌∷◌, ◌++◌, get_or, take, drop, Err, MatchResult, sym, subst, rules, take_more, Letter, block_fault, HasNoFault, Explains}
 use Rattle.word_orders.proofs.FirstFault.{split_at}
 use Rattle.word_orders.proofs.BlockReading.{ReadsBlock, ReadsBlock-empty, ReadsBlock-more, ReadsBlock-fault}
 use Rattle.word_orders.proofs.block.BlockLex.new.Goals as goal

@@ -1,4 +1,4 @@
-use Rattle.std.proofs.Common.{take}
+use Rattle.word_orders.proofs.Prelude.{take}
 use Rattle.word_orders.proofs.BlockReading.{ReadsBlock}
 use Rattle.word_orders.proofs.block.BlockLex.new.Given as goal
 

@@ -1,7 +1,4 @@
-use Rattle.std.proofs.Common.{◌≡◌, ℕ, suc, [], ◌∷◌, ◌++◌, get_or, take, drop, Err, MatchResult, sym, subst, rules}
-use Rattle.std.proofs.lemmas.List.{take_more}
-use Rattle.word_core.specs.declared.letter.Letter.{Letter}
-use Rattle.word_orders.specs.Faults.{entry_fault, HasNoFault, Explains}
+use Rattle.word_orders.proofs.Prelude.{◌≡◌, ℕ, suc, [], ◌∷◌, ◌++◌, get_or, take, drop, Err, MatchResult, sym, subst, rules, take_more, Letter, entry_fault, HasNoFault, Explains}
 use Rattle.word_orders.proofs.FirstFault.{split_at}
 use Rattle.word_orders.proofs.WeightReading.{ReadsWeights, ReadsWeights-empty, ReadsWeights-more, ReadsWeights-fault}
 use Rattle.word_orders.proofs.weight.WeightLex.new.Goals as goal

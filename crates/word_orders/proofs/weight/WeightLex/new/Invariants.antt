@@ -1,4 +1,4 @@
-use Rattle.std.proofs.Common.{take}
+use Rattle.word_orders.proofs.Prelude.{take}
 use Rattle.word_orders.proofs.WeightReading.{ReadsWeights}
 use Rattle.word_orders.proofs.weight.WeightLex.new.Given as goal
 

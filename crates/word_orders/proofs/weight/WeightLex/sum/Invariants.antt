@@ -1,6 +1,4 @@
-use Rattle.std.proofs.Common.{◌≡◌, ◌≤◌, ◌*◌, take, sum_by}
-use Rattle.word_orders.specs.Limits.{weight_limit}
-use Rattle.word_orders.specs.Tables.{weight_in}
+use Rattle.word_orders.proofs.Prelude.{◌≡◌, ◌≤◌, ◌*◌, take, sum_by, weight_limit, weight_in}
 use Rattle.word_orders.proofs.weight.WeightLex.sum.Given as goal
 
 abbrev pub invariant-loop-place : goal.invariant-loop-place
