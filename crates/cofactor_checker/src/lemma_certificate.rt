@@ -27,7 +27,13 @@ pub(crate) fn check_lemmas(
 {
     let items = certificate.lemmas.as_slice();
     let goal = &certificate.goal;
-    let claim = posed_claim(claims, certificate.claim, certificate.denominator, items, goal)?;
+    let claim = posed_claim(
+        claims,
+        certificate.claim,
+        certificate.denominator,
+        items,
+        goal,
+    )?;
     let made = make_lemmas(alloc, generators, items)?;
     let lemmas = made.polynomials.as_slice();
     check_goal(alloc, claim, generators, lemmas, goal, made.rows)?;

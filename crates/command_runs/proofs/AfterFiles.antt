@@ -1,11 +1,5 @@
 -- What follows of how a run ends after its files.
-use Rattle.std.proofs.Common.{◌≡◌, inl, inr, ℕ, List, [], ◌∷◌, ◌++◌, refl, sym, ap, subst, arith, length, ◌<◌, ◌≤◌}
-use Rattle.std.specs.List.{AllByRecursion}
-use Rattle.flow_io.specs.Causes.{Rose}
-use Rattle.flow_io.specs.Told.{Told, Absent, Holds, MayExceed}
-use Rattle.command_shape.specs.declared.files.FileWord.{FileWord}
-use Rattle.command_shape.specs.Ending.{Ending, load_failed, too_long}
-use Rattle.command_runs.specs.Files.{AreLoaded, EndsAtFile, AfterFiles, WereLoaded, AreHeld, IsReached, IsMissing, IsFirstTooLong}
+use Rattle.command_runs.proofs.Prelude.{◌≡◌, inl, inr, ℕ, List, [], ◌∷◌, ◌++◌, refl, sym, ap, subst, arith, length, ◌<◌, ◌≤◌, AllByRecursion, Rose, Told, Absent, Holds, MayExceed, FileWord, Ending, load_failed, too_long, AreLoaded, EndsAtFile, AfterFiles, WereLoaded, AreHeld, IsReached, IsMissing, IsFirstTooLong}
 
 absent_loaded : (told : Told) (limit : ℕ) (bytes : List ℕ) → told ≡ Absent → AreLoaded told limit bytes → ⊥
 absent_loaded told limit bytes is loaded = let P : Told → Type 0 = λ t. AreLoaded t limit bytes in (subst P is loaded).0

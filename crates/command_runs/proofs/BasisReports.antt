@@ -1,39 +1,8 @@
 -- A report is read as the bases of the claims that aren't derivable.
-use Rattle.std.proofs.Common.{◌≡◌, ◌≤◌, ◌+◌, ℕ, suc, true, List, [], ◌∷◌, ◌++◌, arith, refl, sym, ap, ◌∙◌, subst, length, map, IsTrue}
-use Rattle.std.specs.List.{All, list_all}
-use Rattle.std.proofs.lemmas.List.{length-append, length-map, map-append, nil_from_length}
-use Rattle.std.proofs.lemmas.List.Elements.{All-nil, All-cons, All-head, All-tail}
-use Rattle.nc_polynomial.specs.declared.poly.Poly.{Poly}
-use Rattle.quiver.specs.Declarations.{Declaration, IsDeclared}
-use Rattle.traced_rows.specs.declared.evidence.Format.{Format}
+use Rattle.command_runs.proofs.Prelude.{◌≡◌, ◌≤◌, ◌+◌, ℕ, suc, true, List, [], ◌∷◌, ◌++◌, arith, refl, sym, ap, ◌∙◌, subst, length, map, IsTrue, All, list_all, length-append, length-map, map-append, nil_from_length, All-nil, All-cons, All-head, All-tail, Poly, Declaration, IsDeclared, Format, Model, no_block, content, block_limit, tokens_of, is_whole, is_named, comment, other, own_in, is_other_head, HasBlocks, none, no_text, whole_append, text_without_blocks, text_of_block, text_of_other, joined, inside_is_before_end, comment_is_text, other_is_text, zip_length, part_text, certificate_head, Basis, IsWritableBasis, text_of, basis_kind, by_terms, HasBases, IsFirstFault, basis_written, reader, model_text, Verdict, head_line, block_text, report_from, report_of, IsWritableVerdict, told_of, told_is_line, model_head, model_lines, model_is_part, model_is, IsSkipped, lines_go_on, evidence_is_skipped, IsReadAsBases, basis_by, bases_from, ReportsReadBackAsBases}
 use Rattle.traced_rows.specs.declared.evidence.Format.TheVariants as format
-use Rattle.matrix_models.specs.declared.model.Model.{Model}
-use Rattle.block_text.specs.Fault.{no_block}
-use Rattle.block_text.specs.Lines.{content, block_limit}
-use Rattle.block_text.specs.Tokens.{tokens_of}
-use Rattle.block_text.specs.Back.{is_whole, is_named, comment, other}
-use Rattle.block_text.specs.Blocks.{own_in, is_other_head}
-use Rattle.block_text.specs.Texts.{HasBlocks, none}
-use Rattle.block_text.proofs.ContentBack.{no_text, whole_append}
-use Rattle.block_text.proofs.PartsBack.{text_without_blocks, text_of_block, text_of_other, joined, inside_is_before_end, comment_is_text, other_is_text}
-use Rattle.lists.proofs.Zips.{zip_length}
-use Rattle.certificate_text.specs.Back.{part_text}
-use Rattle.certificate_text.specs.Blocks.{head_line as certificate_head}
-use Rattle.adjoint_rules.specs.declared.basis.Basis.{Basis}
-use Rattle.block_lines.specs.Back.{IsWritableBasis, text_of}
-use Rattle.block_lines.specs.Bases.{other_words, basis_kind, by_terms, HasBases, IsFirstFault}
-use Rattle.block_lines.proofs.BasesBack.{basis_written}
-use Rattle.block_lines.proofs.Reader.{reader}
-use Rattle.model_text.specs.Written.{model_text}
-use Rattle.report_text.specs.declared.verdict.Verdict.{Verdict}
+use Rattle.block_lines.specs.Bases.{other_words}
 use Rattle.report_text.specs.declared.verdict.Verdict.TheVariants as verdict
-use Rattle.report_text.specs.Heads.{head_line}
-use Rattle.report_text.specs.Report.{block_text, report_from, report_of}
-use Rattle.report_readback.specs.ReadBack.{IsWritableVerdict}
-use Rattle.report_readback.proofs.Heads.{told_of, told_is_line}
-use Rattle.report_readback.proofs.Models.{model_head, model_lines, model_is_part, model_is}
-use Rattle.report_readback.proofs.SkippedEvidence.{IsSkipped, lines_go_on, evidence_is_skipped}
-use Rattle.command_runs.specs.BasesReadBack.{IsReadAsBases, basis_by, bases_from, ReportsReadBackAsBases}
 
 -- texts with their bases
 

@@ -1,40 +1,6 @@
 -- The bases of the closed claims of a problem can be written, and each is closed, or its check stops.
-use Rattle.std.proofs.Common.{◌≡◌, ◌<◌, ◌≤◌, inl, inr, ℕ, zero, suc, ◌+◌, List, [], ◌∷◌, length, refl, sym, ap, ◌∙◌, subst, arith}
-use Rattle.std.specs.List.{All, range_with_len}
-use Rattle.std.proofs.lemmas.List.Elements.{All-nil, All-cons, All-map, All-weaker}
-use Rattle.definitions.specs.Poly.{Term}
-use Rattle.word_orders.specs.Admissible.{Compare}
-use Rattle.nc_polynomial.specs.declared.poly.Poly.{Poly}
-use Rattle.nc_polynomial.proofs.Distinct.{distinct-descending, words_listed}
-use Rattle.nc_polynomial.proofs.Shapes.{recursion_from_IsDescending}
-use Rattle.quiver.specs.Declarations.{Declaration, letter_count, quiver_of}
-use Rattle.traced_rows.specs.declared.evidence.Format.{Format}
-use Rattle.cofactor_trace.specs.declared.halt.Halt.{Halt}
-use Rattle.rule_reduce.specs.declared.rule.Rule.{Rule}
-use Rattle.rule_reduce.specs.RuleLists.{IsRule}
-use Rattle.confluence.proofs.TypedLaws.{typed_has_no_empty_word}
-use Rattle.adjoint_rules.specs.declared.problem.Problem.{Problem}
-use Rattle.adjoint_rules.specs.Claims.{claim_at, claim_numbers}
-use Rattle.traced_completion.specs.declared.budget.Budget.{Budget}
-use Rattle.traced_completion.specs.PlainRun.{Setting, setting_of}
-use Rattle.ambiguities.proofs.Words.{AreWords, words_from, words_nonempty, normal_words}
-use Rattle.claim_decider.specs.declared.outcome.Outcome.{Outcome}
+use Rattle.command_runs.proofs.Prelude.{◌≡◌, ◌<◌, ◌≤◌, inl, inr, ℕ, zero, suc, ◌+◌, List, [], ◌∷◌, length, refl, sym, ap, ◌∙◌, subst, arith, All, range_with_len, All-nil, All-cons, All-map, All-weaker, Term, Compare, Poly, distinct-descending, words_listed, recursion_from_IsDescending, Declaration, letter_count, quiver_of, Format, Halt, Rule, IsRule, typed_has_no_empty_word, Problem, claim_at, claim_numbers, Budget, Setting, setting_of, AreWords, words_from, words_nonempty, normal_words, Outcome, AreOutcomesOf, AreLastRules, IsOutcomeAt, open_run, outcomes_have_letters, last_rules_have_letters, any_letter, claim_is, state_kept, Verdict, Basis, HasLetters, IsWritableBasis, rule_limit, IsVerdictOfHalt, AreVerdictsOf, IsNumberUpTo, order_of, IsConfirmedWithinLimits, basis_by, bases_from, closed_from, ReportedBasesAreConfirmed}
 use Rattle.claim_decider.specs.declared.outcome.Outcome.TheVariants as outcome
-use Rattle.claim_decider.specs.Decided.{AreOutcomesOf, AreLastRules}
-use Rattle.outcome_laws.specs.Meanings.{IsOutcomeAt}
-use Rattle.claim_decider.proofs.UniqueOutcomes.{open_run}
-use Rattle.outcome_laws.proofs.OutcomeLetters.{outcomes_have_letters, last_rules_have_letters}
-use Rattle.outcome_laws.proofs.ProblemPolynomials.{any_letter, claim_is}
-use Rattle.outcome_laws.proofs.ProblemStates.{state_kept}
-use Rattle.report_text.specs.declared.verdict.Verdict.{Verdict}
-use Rattle.adjoint_rules.specs.declared.basis.Basis.{Basis}
-use Rattle.block_lines.specs.Back.{HasLetters, IsWritableBasis}
-use Rattle.adjoint_rules.specs.Limits.{rule_limit}
-use Rattle.report_readback.specs.ReadBack.{IsVerdictOfHalt, AreVerdictsOf}
-use Rattle.closed_checker.specs.Closed.{IsNumberUpTo}
-use Rattle.closed_checker.specs.Rests.{order_of}
-use Rattle.command_runs.specs.Printed.{IsConfirmedWithinLimits}
-use Rattle.command_runs.specs.BasesReadBack.{basis_by, bases_from, closed_from, ReportedBasesAreConfirmed}
 use Rattle.command_runs.proofs.ClosedRuns.{Closes, closes}
 use Rattle.command_runs.proofs.Printed.{printed_bases_are_confirmed}
 

@@ -1,37 +1,9 @@
 -- The rules with which a claim closes are the last rules.
-use Rattle.std.proofs.Common.{◌≡◌, ◌⊎◌, inl, inr, ◌<◌, ◌≤◌, ℕ, zero, suc, List, [], ◌∷◌, Contains, Result, Ok, Err, sym, ap, ◌∙◌, subst, arith}
-use Rattle.std.proofs.lemmas.List.Elements.{All-contains}
-use Rattle.std.proofs.lemmas.Bool.{cases_lt}
-use Rattle.definitions.specs.Poly.{Term}
-use Rattle.word_orders.specs.Admissible.{IsAdmissible}
-use Rattle.nc_polynomial.specs.declared.poly.Poly.{Poly}
-use Rattle.traced_rows.specs.declared.Made.{Made}
-use Rattle.traced_rows.specs.declared.certificate.Cofactors.{Cofactors}
-use Rattle.traced_rows.specs.declared.evidence.Evidence.{Evidence}
-use Rattle.traced_rows.specs.declared.evidence.Format.{Format}
+use Rattle.command_runs.proofs.Prelude.{◌≡◌, ◌⊎◌, inl, inr, ◌<◌, ◌≤◌, ℕ, zero, suc, List, [], ◌∷◌, Contains, Result, Ok, Err, sym, ap, ◌∙◌, subst, arith, All-contains, cases_lt, Term, IsAdmissible, Poly, Made, Cofactors, Evidence, Format, LemmaCertificate, ExpandFault, GatherFault, Cause, Place, Halt, expansion_of, gathered_of, State, ReduceFault, normal_form_of, Problem, claim_at, Setting, RunState, went, closed, IsCauseOf, IsRound, IsRunState, states_unique, rounds_unique, IsOpen, IsLeft, IsHalted, IsCauseOfExpansion, IsCauseOfGathering, Expands, Gathers, IsDoneWith, IsDoneBy, record_of, GetsOutcome, at_once, after_round, by_closing, by_stop, GetsOutcomeBy, AreLastRules, polynomials_in, gets_once, open_run}
 use Rattle.traced_rows.specs.declared.evidence.Format.TheVariants as format
-use Rattle.traced_rows.specs.declared.evidence.LemmaCertificate.{LemmaCertificate}
-use Rattle.cofactor_trace.specs.declared.fault.ExpandFault.{ExpandFault}
-use Rattle.cofactor_trace.specs.declared.fault.GatherFault.{GatherFault}
-use Rattle.cofactor_trace.specs.declared.halt.Cause.{Cause}
-use Rattle.cofactor_trace.specs.declared.halt.Place.{Place}
 use Rattle.cofactor_trace.specs.declared.halt.Place.TheVariants as place
-use Rattle.cofactor_trace.specs.declared.halt.Halt.{Halt}
-use Rattle.cofactor_trace.specs.Needed.{expansion_of}
-use Rattle.cofactor_trace.specs.Lemmas.{gathered_of}
-use Rattle.rule_reduce.specs.declared.state.State.{State}
-use Rattle.rule_reduce.specs.declared.fault.ReduceFault.{ReduceFault}
-use Rattle.rule_reduce.specs.NormalForms.{normal_form_of}
-use Rattle.adjoint_rules.specs.declared.problem.Problem.{Problem}
-use Rattle.adjoint_rules.specs.Claims.{claim_at}
-use Rattle.traced_completion.specs.PlainRun.{Setting, RunState, went, closed, IsCauseOf, IsRound, IsRunState}
-use Rattle.traced_completion.proofs.UniqueRuns.{states_unique, rounds_unique}
 use Rattle.claim_decider.specs.declared.outcome.Outcome.TheVariants as outcome
-use Rattle.claim_decider.specs.Outcomes.{IsOpen, IsLeft, IsHalted, IsCauseOfExpansion, IsCauseOfGathering, Expands, Gathers, IsProved, IsDoneWith, IsDoneBy}
-use Rattle.claim_decider.specs.Outcomes.{record_of, GetsOutcome, at_once, after_round, by_closing, by_stop}
-use Rattle.claim_decider.specs.Decided.{GetsOutcomeBy, AreLastRules, polynomials_in}
-use Rattle.claim_decider.proofs.UniqueOutcomes.{gets_once}
-use Rattle.claim_decider.proofs.UniqueOutcomes.{open_run}
+use Rattle.claim_decider.specs.Outcomes.{IsProved}
 
 -- a claim that closes
 not_derived : (rest : Poly) (e : Evidence) → outcome.Closed rest ≡ outcome.Derived e → ⊥

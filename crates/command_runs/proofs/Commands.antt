@@ -1,31 +1,6 @@
 -- What all commands owe.
-use Rattle.std.proofs.Common.{◌≡◌, ◌≤◌, ◌<◌, ℕ, zero, suc, List, [], ◌∷◌, Result, length, get_or, refl, sym, subst, arith}
-use Rattle.std.specs.List.{AllZip}
-use Rattle.std.proofs.lemmas.Slice.Zip.{AllZip-long}
-use Rattle.definitions.specs.Category.{Structure, PreadditiveLaws}
-use Rattle.definitions.specs.Soundness.{IsSound}
-use Rattle.representations.specs.Evidence.{IsEvidenceSound}
-use Rattle.cancel_rules.specs.Meaning.{IsCancellationSound}
-use Rattle.report_text.specs.Report.{heads_of}
-use Rattle.command_shape.specs.declared.call.BenchCall.{BenchCall}
-use Rattle.command_shape.specs.declared.call.Call.{Call}
-use Rattle.command_shape.specs.declared.call.Call.TheVariants.{Prove, Refute, Bench, Evidence}
-use Rattle.lists.specs.declared.stop.Stop.{Stop}
-use Rattle.command_shape.specs.declared.files.FileWord.{FileWord}
-use Rattle.command_shape.specs.FileWords.{statement_limit, evidence_limit, statement_file, pair_files}
-use Rattle.command_shape.specs.Ending.{Ending}
-use Rattle.command_shape.specs.Stop.{EndsAs}
-use Rattle.stated_problem.specs.Statement.{OverStatement}
-use Rattle.stated_problem.proofs.Owed.{IsOwn, OwesEnding}
-use Rattle.command_shape.proofs.Stops.{ends_weaker}
-use Rattle.prove_command.specs.Answers.{asked_by, asked_by_bench}
-use Rattle.prove_command.proofs.Answered.{claims_owe, reports_owe}
-use Rattle.refute_command.proofs.Answered.{search_owes}
-use Rattle.evidence_commands.proofs.EachCommand.{evidence_owes}
-use Rattle.command_runs.specs.CallFiles.{files_of, AreContents, written_by, statement_of, evidence_of}
-use Rattle.command_runs.specs.Answers.{AnswersOver, Answers}
-use Rattle.command_runs.specs.Says.{SaysOver, Says}
-use Rattle.command_runs.specs.Laws.{AnswersOnce, EachCallHasAnEnding}
+use Rattle.command_runs.proofs.Prelude.{◌≡◌, ◌≤◌, ◌<◌, ℕ, zero, suc, List, [], ◌∷◌, Result, length, get_or, refl, sym, subst, arith, AllZip, AllZip-long, Structure, PreadditiveLaws, IsSound, IsEvidenceSound, IsCancellationSound, heads_of, BenchCall, Call, Prove, Refute, Bench, Stop, FileWord, statement_limit, evidence_limit, statement_file, pair_files, Ending, EndsAs, OverStatement, IsOwn, OwesEnding, ends_weaker, asked_by, asked_by_bench, claims_owe, reports_owe, search_owes, evidence_owes, files_of, AreContents, written_by, statement_of, evidence_of, AnswersOver, Answers, SaysOver, Says, AnswersOnce, EachCallHasAnEnding}
+use Rattle.command_shape.specs.declared.call.Call.TheVariants.{Evidence}
 
 -- a call
 call_owes : (call : Call) (statement evidence : List ℕ)

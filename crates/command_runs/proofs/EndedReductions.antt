@@ -1,17 +1,6 @@
 -- A reduction that ends gives the same with whatever number of steps it ends.
-use Rattle.std.proofs.Common.{◌≡◌, ℕ, zero, suc, List, Option, Some, None, Result, Ok, Err, sym, ◌∙◌}
-use Rattle.definitions.specs.Poly.{Term}
-use Rattle.nc_polynomial.specs.declared.fault.PolyFault.{PolyFault}
-use Rattle.word_orders.specs.Admissible.{Compare}
-use Rattle.rule_reduce.specs.declared.rule.Rule.{Rule}
-use Rattle.rule_reduce.specs.declared.state.State.{State}
-use Rattle.rule_reduce.specs.declared.state.Choice.{Choice}
-use Rattle.rule_reduce.specs.declared.fault.ReduceFault.{ReduceFault}
+use Rattle.command_runs.proofs.Prelude.{◌≡◌, ℕ, zero, suc, List, Option, Some, None, Result, Ok, Err, sym, ◌∙◌, Term, PolyFault, Compare, Rule, State, Choice, ReduceFault, entries_of, choice_of, step_result, halt_of, then_next, at_limit, one_step, reduction, start_of, normal_form_of}
 use Rattle.rule_reduce.specs.declared.fault.ReduceFault.TheVariants as halt
-use Rattle.rule_reduce.specs.RuleLists.{entries_of}
-use Rattle.rule_reduce.specs.Choices.{choice_of}
-use Rattle.rule_reduce.specs.Steps.{step_result}
-use Rattle.rule_reduce.specs.NormalForms.{halt_of, then_next, at_limit, one_step, reduction, start_of, normal_form_of}
 
 no_state : (e : ReduceFault) (s : State) → ◌≡◌ {A = Result State ReduceFault} (Err e) (Ok s) → ⊥
 no_state e s is = cc

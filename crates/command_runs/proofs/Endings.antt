@@ -1,28 +1,5 @@
 -- What follows of an ending that is allowed, once it is put.
-use Rattle.std.proofs.Common.{take, ◌≡◌, ◌≢◌, ◌⊎◌, inl, inr, ℕ, List, map, string_bytes, refl, sym, ◌∙◌, ap, subst, arith, String, Global}
-use Rattle.definitions.specs.Category.{Structure, PreadditiveLaws}
-use Rattle.definitions.specs.Soundness.{IsSound}
-use Rattle.representations.specs.Evidence.{IsEvidenceSound}
-use Rattle.cancel_rules.specs.Meaning.{IsCancellationSound}
-use Rattle.clap.specs.Words.{subcommand_of}
-use Rattle.command_shape.specs.CommandSet.{command_set}
-use Rattle.command_shape.specs.Usage.{usage_text}
-use Rattle.command_shape.proofs.Unique.{one_call}
-use Rattle.command_shape.specs.declared.files.FileWord.{FileWord}
-use Rattle.command_shape.specs.declared.call.Call.{Call}
-use Rattle.command_runs.specs.CallFiles.{files_of}
-use Rattle.command_runs.specs.Call.{IsCalled, IsTaken}
-use Rattle.command_shape.specs.Ending.{Ending, usage, too_long}
-use Rattle.command_runs.specs.Files.{AfterFiles, AreHeld, IsMissing, IsFirstTooLong}
-use Rattle.command_runs.specs.Answers.{Answers}
-use Rattle.command_runs.specs.Ends.{EndsBy, MayEnd, other_words, called}
-use Rattle.command_runs.specs.Put.{IsPut, whole, in_part}
-use Rattle.command_runs.specs.Run.{SaysLoadFailed, SaysTooLong, SaysAnswer}
-use Rattle.command_runs.specs.Seen.{Run}
-use Rattle.command_runs.specs.Says.{Says}
-use Rattle.command_runs.specs.Headline.{HasMeaning}
-use Rattle.command_runs.specs.Promises.{IsMeant, PutsWhatIsMeant}
-use Rattle.statement_meaning.specs.Meanings.{SaysEquations}
+use Rattle.command_runs.proofs.Prelude.{take, ◌≡◌, ◌≢◌, ◌⊎◌, inl, inr, ℕ, List, map, string_bytes, refl, sym, ◌∙◌, ap, subst, arith, String, Global, Structure, PreadditiveLaws, IsSound, IsEvidenceSound, IsCancellationSound, subcommand_of, command_set, usage_text, one_call, FileWord, Call, files_of, IsCalled, IsTaken, Ending, usage, too_long, AfterFiles, AreHeld, IsMissing, IsFirstTooLong, Answers, EndsBy, MayEnd, other_words, called, IsPut, whole, in_part, SaysLoadFailed, SaysTooLong, SaysAnswer, Run, Says, HasMeaning, IsMeant, PutsWhatIsMeant, SaysEquations}
 use Rattle.command_runs.proofs.AfterFiles.{Failed, Long, All, Kind, failed, long, all, kind, held, missing, first_too_long, after_weaker}
 use Rattle.command_runs.proofs.Commands.{answers_once, answer_status, answers_say}
 use Rattle.command_runs.proofs.PromisedCalls.{call_is_meant}

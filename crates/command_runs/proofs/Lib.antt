@@ -1,3 +1,4 @@
+mod Prelude
 pub mod Commands
 mod OwnReports
 pub mod AfterFiles

@@ -1,35 +1,7 @@
 -- What `check` and `model` answer to a report on the same statement.
-use Rattle.std.proofs.Common.{◌≡◌, ◌⊎◌, inl, inr, ◌+◌, ℕ, List, [], ◌∷◌, ◌++◌, Some, length, refl, sym, ap, subst, ◌∙◌, arith}
-use Rattle.std.specs.List.{All}
-use Rattle.std.proofs.lemmas.List.{append_assoc}
-use Rattle.std.proofs.lemmas.List.Elements.{All-head, All-tail, recursion_from_All}
-use Rattle.traced_rows.specs.declared.evidence.Evidence.{Evidence}
-use Rattle.matrix_models.specs.declared.model.Model.{Model}
-use Rattle.adjoint_rules.specs.declared.problem.Problem.{Problem}
-use Rattle.cofactor_checker.specs.declared.refusal.Refusal.{Refusal}
-use Rattle.cofactor_checker.specs.Acceptance.{IsMemory}
-use Rattle.block_text.specs.Fault.{no_block}
-use Rattle.model_checker.specs.Models.{Refutes}
-use Rattle.report_text.specs.declared.verdict.Verdict.{Verdict}
-use Rattle.report_readback.specs.ReadBack.{IsReadAs, proved_in}
-use Rattle.report_readback.specs.ModelsReadBack.{IsReadAsModels, refuted_in}
-use Rattle.report_readback.specs.Answered.{PassesLimit, IsAnsweredWithinLimits}
-use Rattle.report_readback.specs.OwnEvidence.{IsItsOwnEvidence}
-use Rattle.command_shape.specs.Ending.{Ending, line}
-use Rattle.stated_problem.specs.Stated.{IsStated}
-use Rattle.command_shape.specs.Blocks.{block_text, refused_text, JudgesFrom, accepted, refused, faulty, read}
-use Rattle.stated_problem.proofs.Statements.{stated_leads}
-use Rattle.command_shape.proofs.BlockTexts.{passing_answered, text_answered_once}
-use Rattle.prove_command.proofs.Answered.{claims_are_evidence}
-use Rattle.refute_command.proofs.Answered.{search_is_evidence}
-use Rattle.evidence_commands.specs.Kind.{Accepts, Refuses, accepted_lines, AnswersText}
+use Rattle.command_runs.proofs.Prelude.{◌≡◌, ◌⊎◌, inl, inr, ◌+◌, ℕ, List, [], ◌∷◌, ◌++◌, Some, length, refl, sym, ap, subst, ◌∙◌, arith, All, append_assoc, All-head, All-tail, recursion_from_All, Evidence, Model, Problem, Refusal, IsMemory, no_block, Refutes, Verdict, IsReadAs, proved_in, IsReadAsModels, refuted_in, PassesLimit, IsAnsweredWithinLimits, IsItsOwnEvidence, Ending, line, IsStated, refused_text, JudgesFrom, accepted, refused, faulty, read, stated_leads, passing_answered, text_answered_once, claims_are_evidence, search_is_evidence, Accepts, Refuses, accepted_lines, AnswersText, named_text, certificates, models, told, certificates_are_judged, models_are_judged, IsReportOn, of_prove, of_refute, no_blocks, ChecksReport, ConfirmsReport, ReportsAreChecked, ReportsAreConfirmed}
+use Rattle.command_shape.specs.Blocks.{block_text}
 use Rattle.evidence_commands.specs.Causes.{cause_text}
-use Rattle.evidence_commands.specs.Check.{named_text, certificates}
-use Rattle.evidence_commands.specs.Model.{models}
-use Rattle.evidence_commands.proofs.Causes.{told}
-use Rattle.evidence_commands.proofs.Certificates.{certificates_are_judged}
-use Rattle.evidence_commands.proofs.Models.{models_are_judged}
-use Rattle.command_runs.specs.OwnReports.{IsReportOn, of_prove, of_refute, no_blocks, ChecksReport, ConfirmsReport, ReportsAreChecked, ReportsAreConfirmed}
 
 -- each report is its own evidence
 own : (statement : List ℕ) (problem : Problem) (report : Ending) → IsStated statement problem → IsReportOn problem report → (verdicts : List Verdict) × IsItsOwnEvidence problem report.report verdicts

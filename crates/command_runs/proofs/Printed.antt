@@ -1,65 +1,9 @@
 -- The basis that is printed of a closed claim is closed, or its check stops.
-use Rattle.std.proofs.Common.{◌≡◌, ◌⊎◌, inl, inr, ◌<◌, ◌≤◌, ℕ, zero, suc, ◌+◌, List, [], length, None, Result, Ok, Err, Contains, refl, sym, ap, ◌∙◌}
-use Rattle.std.proofs.Common.{subst, arith}
-use Rattle.std.specs.List.{All, range_with_len}
-use Rattle.std.proofs.lemmas.List.{length-map}
-use Rattle.std.proofs.lemmas.List.FromFn.{length-range_with_len, get_or-range_with_len}
-use Rattle.definitions.specs.Poly.{Term, coefficient_of}
-use Rattle.definitions.specs.Combination.{generator_at, InRationalIdeal}
-use Rattle.word_core.specs.Letters.{IsOver}
-use Rattle.word_orders.specs.Admissible.{Compare, IsAdmissible}
-use Rattle.word_orders.proofs.AskedOrders.{asked_rank}
-use Rattle.nc_polynomial.specs.Shape.{IsShaped}
-use Rattle.nc_polynomial.specs.declared.poly.Poly.{Poly}
-use Rattle.nc_polynomial.specs.declared.fault.PolyFault.{PolyFault}
-use Rattle.quiver.specs.Declarations.{letter_count}
-use Rattle.traced_rows.specs.declared.evidence.Format.{Format}
-use Rattle.cofactor_trace.specs.declared.halt.Halt.{Halt}
-use Rattle.rule_reduce.specs.declared.rule.Rule.{Rule}
-use Rattle.rule_reduce.specs.declared.state.State.{State}
-use Rattle.rule_reduce.specs.declared.fault.ReduceFault.{ReduceFault}
-use Rattle.rule_reduce.specs.RuleLists.{IsRule, polynomials_of}
-use Rattle.rule_reduce.specs.NormalForms.{halt_of, normal_form_of}
-use Rattle.rule_reduce.proofs.WordsKept.{words_with_coefficients}
-use Rattle.rule_making.specs.Making.{Recorded}
-use Rattle.ambiguities.specs.declared.ambiguity.Ambiguity.{Ambiguity}
-use Rattle.ambiguities.specs.Ambiguities.{IsAmbiguity}
-use Rattle.ambiguities.specs.SPolynomials.{s_polynomial_of}
-use Rattle.ambiguities.specs.Resolved.{s_sum, Resolved}
-use Rattle.ambiguities.proofs.Balance.{s_polynomials_balance}
-use Rattle.ambiguities.proofs.Bounds.{over_terms}
-use Rattle.confluence.specs.Reductions.{IsZero, HasLettersBelow}
-use Rattle.confluence.proofs.FreeRows.{Free, in_ideal, ideal_span}
-use Rattle.confluence.proofs.Ideals.{generator_decided}
-use Rattle.confluence.proofs.RestLaws.{rests_of_ideal_are_zero}
-use Rattle.confluence.proofs.Spans.{span_same}
-use Rattle.confluence.proofs.SumRows.{Numbered}
-use Rattle.confluence.proofs.OutsideIdeals.{resolved_where_closed}
-use Rattle.confluence.proofs.ShapeLaws.{s_polynomials_are_shaped}
-use Rattle.adjoint_rules.specs.declared.problem.Problem.{Problem}
-use Rattle.adjoint_rules.specs.Problem.{polynomials}
-use Rattle.adjoint_rules.specs.Claims.{claim_at, claim_numbers}
-use Rattle.traced_completion.specs.declared.budget.Budget.{Budget}
-use Rattle.traced_completion.specs.PlainRun.{Setting, RunState, went, closed, stopped, Ends, IsRound, IsRunState, setting_of}
-use Rattle.claim_decider.specs.Decided.{polynomials_in}
-use Rattle.outcome_laws.specs.KeptRuns.{done_after}
-use Rattle.claim_decider.proofs.UniqueOutcomes.{open_run, open_claim}
-use Rattle.outcome_laws.proofs.ProblemStates.{state_kept, generators_are_reached}
-use Rattle.outcome_laws.proofs.WholeRuns.{closed_is_nothing_pending}
-use Rattle.adjoint_rules.specs.declared.basis.Basis.{Basis}
+use Rattle.command_runs.proofs.Prelude.{◌≡◌, ◌⊎◌, inl, inr, ◌<◌, ◌≤◌, ℕ, zero, suc, ◌+◌, List, [], length, None, Result, Ok, Err, Contains, refl, sym, ap, ◌∙◌, subst, arith, All, range_with_len, length-map, length-range_with_len, get_or-range_with_len, Term, coefficient_of, generator_at, InRationalIdeal, IsOver, Compare, IsAdmissible, asked_rank, IsShaped, Poly, PolyFault, letter_count, Format, Halt, Rule, State, ReduceFault, IsRule, polynomials_of, halt_of, normal_form_of, words_with_coefficients, Recorded, Ambiguity, IsAmbiguity, s_polynomial_of, s_sum, Resolved, s_polynomials_balance, over_terms, IsZero, HasLettersBelow, Free, in_ideal, ideal_span, generator_decided, rests_of_ideal_are_zero, span_same, Numbered, resolved_where_closed, s_polynomials_are_shaped, Problem, polynomials, claim_at, claim_numbers, Budget, Setting, RunState, went, closed, stopped, Ends, IsRound, IsRunState, setting_of, polynomials_in, done_after, open_run, open_claim, state_kept, generators_are_reached, closed_is_nothing_pending, Basis, ClosedRefusal, step_limit, order_of, rules_from, rules_of, rest_in, rest_by, rest_of, MayBeRule, IsNumberUpTo, NamesClaim, IsClosedBasis, no_rest, zero_is_empty, reduction_of, each_basis_is_judged, has_all, canonical_at, generator_over, order_laws, IsPrinted, IsStop, PrintedBasesAreConfirmed, runs_are_primitive}
 use Rattle.closed_checker.specs.declared.part.Part.TheVariants as part
-use Rattle.closed_checker.specs.declared.refusal.ClosedRefusal.{ClosedRefusal}
 use Rattle.closed_checker.specs.declared.refusal.ClosedRefusal.TheVariants as refusal
-use Rattle.closed_checker.specs.Limits.{step_limit}
-use Rattle.closed_checker.specs.Rests.{order_of, rules_from, rules_of, rest_in, rest_by, rest_of, MayBeRule}
-use Rattle.closed_checker.specs.Closed.{IsNumberUpTo, NamesClaim, IsClosedBasis, Refuses, IsMemory}
-use Rattle.closed_checker.proofs.ClosedMeaning.{no_rest, zero_is_empty, reduction_of}
-use Rattle.closed_checker.proofs.Judged.{each_basis_is_judged, has_all}
-use Rattle.closed_checker.proofs.ByNumber.{canonical_at, generator_over}
-use Rattle.closed_checker.proofs.PartOrder.{order_laws}
-use Rattle.command_runs.specs.Printed.{IsPrinted, IsStop, PrintedBasesAreConfirmed}
+use Rattle.closed_checker.specs.Closed.{Refuses, IsMemory}
 use Rattle.command_runs.proofs.EndedReductions.{ended_once}
-use Rattle.outcome_laws.proofs.PrimitiveRules.{runs_are_primitive}
 use Rattle.command_runs.proofs.ClosedRuns.{Closes, closes, closing_rules_are_last}
 use Rattle.command_runs.proofs.RunRules.{rules_of_run, all_may}
 

@@ -1,38 +1,8 @@
 -- Each line that is put means what it says.
-use Rattle.std.proofs.Common.{◌≡◌, ◌+◌, ℕ, true, false, List, [], ◌∷◌, refl, sym, ap, subst, ◌∙◌, length, IsTrue}
-use Rattle.std.specs.List.{AllZip, list_all, range_with_len}
-use Rattle.std.proofs.lemmas.List.FromFn.{length-range_with_len}
-use Rattle.std.proofs.lemmas.Slice.Zip.{AllZip-long}
-use Rattle.definitions.specs.Category.{Structure}
-use Rattle.nc_polynomial.specs.declared.poly.Poly.{Poly}
-use Rattle.adjoint_rules.specs.declared.problem.Problem.{Problem}
-use Rattle.traced_completion.specs.declared.budget.Budget.{Budget}
-use Rattle.adjoint_rules.specs.Claims.{claim_numbers}
-use Rattle.traced_completion.specs.PlainRun.{setting_of}
-use Rattle.matrix_models.specs.declared.model.Model.{Model}
-use Rattle.block_text.specs.Back.{is_named}
-use Rattle.statement_meaning.specs.Meanings.{SaysEquations}
-use Rattle.report_text.specs.declared.verdict.Verdict.{Verdict}
+use Rattle.command_runs.proofs.Prelude.{◌≡◌, ◌+◌, ℕ, true, false, List, [], ◌∷◌, refl, sym, ap, subst, ◌∙◌, length, IsTrue, AllZip, list_all, range_with_len, length-range_with_len, AllZip-long, Structure, Poly, Problem, Budget, claim_numbers, setting_of, Model, is_named, SaysEquations, Verdict, block_text, report_of, heads_of, declared_names_are_names, Ending, IsStated, Outcome, AreOutcomesOf, AreLastRules, IsOutcomeAt, Basis, rules_of, IsPrinted, basis_by, Asked, Print, IsVerdictOn, proved, not_derivable, refuted, undecided, AreVerdictsOn, asked_by_bench, VerdictMeans, PrintsMeant, SearchMeans, PrintsSearched, IsSharp, LinesAreMeant}
 use Rattle.report_text.specs.declared.verdict.Verdict.TheVariants as verdict
-use Rattle.report_text.specs.Report.{block_text, report_of, heads_of}
-use Rattle.report_readback.proofs.Declared.{declared_names_are_names}
-use Rattle.command_shape.specs.Ending.{Ending}
-use Rattle.stated_problem.specs.Stated.{IsStated}
-use Rattle.claim_decider.specs.declared.outcome.Outcome.{Outcome}
 use Rattle.claim_decider.specs.declared.outcome.Outcome.TheVariants as outcome
-use Rattle.claim_decider.specs.Decided.{AreOutcomesOf, AreLastRules}
-use Rattle.outcome_laws.specs.Meanings.{IsOutcomeAt}
-use Rattle.adjoint_rules.specs.declared.basis.Basis.{Basis}
-use Rattle.closed_checker.specs.Rests.{rules_of}
-use Rattle.command_runs.specs.Printed.{IsPrinted}
-use Rattle.command_runs.specs.BasesReadBack.{basis_by}
 use Rattle.command_runs.proofs.SharpRuns.{printed_bases_mean_sharp, printed_bases_mean_star_sharp}
-use Rattle.prove_command.specs.declared.prove.Asked.{Asked}
-use Rattle.prove_command.specs.Answers.{Print, IsVerdictOn, proved, not_derivable, refuted, undecided, AreVerdictsOn, asked_by_bench}
-use Rattle.prove_command.specs.Says.{VerdictMeans, PrintsMeant}
-use Rattle.refute_command.specs.Says.{SearchMeans, PrintsSearched}
-use Rattle.command_runs.specs.Promises.Sharp.{IsSharp}
-use Rattle.command_runs.specs.Promises.{LinesAreMeant}
 use Rattle.command_runs.proofs.ReportLines.{IsOfVerdict, line_of_report, line_of_heads}
 use Rattle.command_runs.proofs.PromisedVerdicts.{verdicts_are_meant}
 

@@ -1,24 +1,5 @@
 -- What the line on a block of evidence says, whatever the command, and that no line is on a claim.
-use Rattle.std.proofs.Common.{◌≡◌, ◌≢◌, ◌⊎◌, inl, inr, ◌+◌, ℕ, zero, suc, Bool, true, false, cond, ◌==◌, List, [], ◌∷◌, ◌++◌, Some, arith, refl, ap, subst, get_or, slice_get, codes}
-use Rattle.std.specs.Prelude.{decimal}
-use Rattle.std.specs.List.{All}
-use Rattle.std.proofs.lemmas.List.Elements.{All-head, All-tail}
-use Rattle.definitions.specs.Category.{Structure, PreadditiveLaws}
-use Rattle.definitions.specs.Soundness.{IsSound}
-use Rattle.representations.specs.Evidence.{IsEvidenceSound}
-use Rattle.adjoint_rules.specs.declared.problem.Problem.{Problem}
-use Rattle.command_shape.specs.Ending.{Ending}
-use Rattle.command_shape.specs.Texts.{limit_text, line_text, evidence_fault}
-use Rattle.command_shape.specs.Blocks.{faulty, read, RefusesBlock}
-use Rattle.cancel_rules.specs.Meaning.{IsCancellationSound}
-use Rattle.stated_problem.specs.Stated.{IsStated}
-use Rattle.evidence_commands.specs.Kind.{Kind, AnswersText}
-use Rattle.evidence_commands.proofs.Owed.{IsJudged}
-use Rattle.evidence_commands.proofs.Parts.{told_is_part}
-use Rattle.evidence_commands.proofs.Said.{Said, said_text, SaidMeans, IsTold}
-use Rattle.command_runs.specs.Promises.Lines.{HasLineBefore, claim_line, block_line}
-use Rattle.evidence_commands.proofs.QuietTexts.{lacks, LineAt, first_or_later, no_line}
-use Rattle.evidence_commands.proofs.QuietBlocks.{lacks-append, number_is_part}
+use Rattle.command_runs.proofs.Prelude.{◌≡◌, ◌≢◌, ◌⊎◌, inl, inr, ◌+◌, ℕ, zero, suc, Bool, true, false, cond, ◌==◌, List, [], ◌∷◌, ◌++◌, Some, arith, refl, ap, subst, get_or, slice_get, codes, decimal, All, All-head, All-tail, Structure, PreadditiveLaws, IsSound, IsEvidenceSound, Problem, Ending, limit_text, line_text, evidence_fault, faulty, read, RefusesBlock, IsCancellationSound, IsStated, Kind, AnswersText, IsJudged, told_is_part, Said, said_text, SaidMeans, IsTold, HasLineBefore, claim_line, block_line, lacks, LineAt, first_or_later, no_line, lacks-append, number_is_part}
 use Rattle.command_runs.proofs.Promised.{known}
 use Rattle.command_runs.proofs.ReportLines.{at_start, block_said, other_head, IsOnBlock, accepts, refuses_one, line_of_blocks}
 

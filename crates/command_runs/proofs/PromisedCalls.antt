@@ -1,26 +1,7 @@
 -- What the answer of each call says, line by line.
-use Rattle.std.proofs.Common.{◌≢◌, ℕ, List, ap}
-use Rattle.definitions.specs.Category.{Structure, PreadditiveLaws}
-use Rattle.definitions.specs.Soundness.{IsSound}
-use Rattle.representations.specs.Evidence.{IsEvidenceSound}
-use Rattle.cancel_rules.specs.Meaning.{IsCancellationSound}
-use Rattle.adjoint_rules.specs.declared.problem.Problem.{Problem}
-use Rattle.traced_completion.specs.declared.budget.Budget.{Budget}
-use Rattle.statement_meaning.specs.Meanings.{SaysEquations}
-use Rattle.command_shape.specs.declared.call.Call.{Call}
-use Rattle.command_shape.specs.declared.call.Call.TheVariants.{Prove, Refute, Bench, Evidence}
-use Rattle.command_shape.specs.declared.evidence.EvidenceCommand.{EvidenceCommand}
-use Rattle.command_shape.specs.Ending.{Ending}
-use Rattle.stated_problem.specs.Statement.{OverStatement, faulty, stated}
-use Rattle.stated_problem.specs.Stated.{IsStated}
-use Rattle.prove_command.specs.Answers.{asked_by}
-use Rattle.evidence_commands.specs.Commands.{judged_by, AnswersEvidence}
-use Rattle.evidence_commands.proofs.EachCommand.{are_judged, answers_judged}
-use Rattle.command_runs.specs.CallFiles.{statement_of, evidence_of}
-use Rattle.command_runs.specs.Answers.{AnswersOver, Answers}
-use Rattle.command_runs.specs.Says.{SaysOver}
-use Rattle.command_runs.specs.Promises.Undecided.{budget_of}
-use Rattle.command_runs.specs.Promises.{LinesAreMeant}
+use Rattle.command_runs.proofs.Prelude.{◌≢◌, ℕ, List, ap, Structure, PreadditiveLaws, IsSound, IsEvidenceSound, IsCancellationSound, Problem, Budget, SaysEquations, Call, Prove, Refute, Bench, EvidenceCommand, Ending, OverStatement, stated, IsStated, asked_by, judged_by, AnswersEvidence, are_judged, answers_judged, statement_of, evidence_of, AnswersOver, Answers, SaysOver, budget_of, LinesAreMeant}
+use Rattle.command_shape.specs.declared.call.Call.TheVariants.{Evidence}
+use Rattle.stated_problem.specs.Statement.{faulty}
 use Rattle.command_runs.proofs.Commands.{answers_say}
 use Rattle.command_runs.proofs.Promised.{prove_is_meant, bench_is_meant, refute_is_meant}
 use Rattle.command_runs.proofs.PromisedEvidence.{text_is_meant}

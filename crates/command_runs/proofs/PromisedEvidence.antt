@@ -1,58 +1,9 @@
 -- What a command of evidence puts means what it says: what is said of blocks is meant, whatever the command.
-use Rattle.std.proofs.Common.{◌≡◌, ◌≢◌, ◌⊎◌, inl, inr, ◌<◌, ◌≤◌, ◌+◌, ◌==◌, ℕ, zero, suc, ℤ, Bool, true, false, not, List, [], ◌∷◌, ◌++◌, Some, arith, refl, sym, ap, subst, ◌∙◌, length, map, drop, get_or, slice_get, codes}
-use Rattle.std.specs.Prelude.{decimal}
-use Rattle.std.specs.Fmt.{signed_decimal}
-use Rattle.std.specs.List.{All, AllByRecursion}
-use Rattle.std.proofs.lemmas.Fmt.{decimal_injective}
-use Rattle.std.proofs.lemmas.Bool.{and_parts}
-use Rattle.std.proofs.lemmas.List.{append_assoc, append-nil, length-map}
-use Rattle.std.proofs.lemmas.List.Elements.{All-head, All-tail}
-use Rattle.definitions.specs.Category.{Structure, PreadditiveLaws}
-use Rattle.definitions.specs.Representation.{Representation, Represents, StarRepresents}
-use Rattle.definitions.specs.Soundness.{IsSound, HasValueZero}
-use Rattle.representations.specs.Evidence.{IsEvidenceSound}
-use Rattle.nc_polynomial.specs.declared.poly.Poly.{Poly}
-use Rattle.quiver.specs.Declarations.{Declaration, quiver_of}
-use Rattle.adjoint_rules.specs.declared.problem.Problem.{Problem}
-use Rattle.traced_completion.specs.declared.budget.Budget.{Budget}
-use Rattle.adjoint_rules.specs.Problem.{polynomials}
-use Rattle.adjoint_rules.specs.Claims.{claim_at}
-use Rattle.matrix_models.specs.declared.model.Model.{Model}
-use Rattle.cancel_rules.specs.Meaning.{IsCancellationSound}
-use Rattle.statement_names.specs.Numbered.{declarations_of}
-use Rattle.abbreviations.specs.Written.{assumptions_of}
-use Rattle.block_text.specs.Lines.{block_limit}
-use Rattle.block_text.specs.Blocks.{own_in, on_block, on_count, Keeps}
-use Rattle.lists.proofs.Zips.{zip_length}
-use Rattle.model_text.specs.Models.{model_kind}
-use Rattle.statement_meaning.specs.Claims.{read_in, AssumptionsHold, IsClaim, ClaimHolds}
-use Rattle.statement_meaning.specs.Laws.{reading, IsRead}
-use Rattle.statement_meaning.specs.Meanings.{SaysEquations}
-use Rattle.statement_meaning.proofs.Claims.{claim_there}
-use Rattle.statement_meaning.proofs.Meanings.{zeros_from_held, claim_is_read}
-use Rattle.command_shape.specs.Ending.{Ending}
-use Rattle.stated_problem.specs.Stated.{IsStated}
-use Rattle.normal_forms.specs.SharpMeans.{SharpMeans, StarSharpMeans}
-use Rattle.evidence_commands.specs.Kind.{Kind, AnswersText}
-use Rattle.evidence_commands.specs.CalledLetters.{letters_text}
-use Rattle.command_runs.specs.Promises.Lines.{HasLineBefore, HasLine, claim_line, block_line, number_limit}
-use Rattle.command_runs.specs.Promises.Proved.{SaysExplained}
-use Rattle.command_runs.specs.Promises.Accepted.{ProvesClaimWith, SaysAccepted}
-use Rattle.command_runs.specs.Promises.Confirmed.{IsBlock, SaysConfirmed}
-use Rattle.command_runs.specs.Promises.NotDerivable.{SaysClosed}
-use Rattle.command_runs.specs.Promises.Sharp.{IsSharp}
-use Rattle.command_runs.specs.Promises.{LinesAreMeant}
+use Rattle.command_runs.proofs.Prelude.{◌≡◌, ◌≢◌, ◌⊎◌, inl, inr, ◌<◌, ◌≤◌, ◌+◌, ◌==◌, ℕ, zero, suc, ℤ, Bool, true, false, not, List, [], ◌∷◌, ◌++◌, Some, arith, refl, sym, ap, subst, ◌∙◌, length, map, drop, get_or, slice_get, codes, decimal, signed_decimal, All, AllByRecursion, decimal_injective, and_parts, append_assoc, append-nil, length-map, All-head, All-tail, Structure, PreadditiveLaws, Representation, Represents, StarRepresents, IsSound, HasValueZero, IsEvidenceSound, Poly, Declaration, quiver_of, Problem, Budget, polynomials, claim_at, Model, IsCancellationSound, declarations_of, assumptions_of, block_limit, own_in, on_count, zip_length, model_kind, read_in, AssumptionsHold, IsClaim, ClaimHolds, reading, IsRead, SaysEquations, claim_there, zeros_from_held, claim_is_read, Ending, IsStated, SharpMeans, StarSharpMeans, Kind, AnswersText, letters_text, HasLineBefore, HasLine, claim_line, block_line, number_limit, SaysExplained, ProvesClaimWith, SaysAccepted, IsBlock, SaysConfirmed, SaysClosed, IsSharp, LinesAreMeant, Letter, Equation, sharp_ending, claim_closed, models, IsJudged, lacks, cut, decimal_lacks, Said, says_accepted, says_explained, says_confirmed, says_closed, says_another, said_text, SaidMeans, AcceptedSaid, ClosedSaid}
+use Rattle.block_text.specs.Blocks.{on_block, Keeps}
 use Rattle.command_runs.proofs.PromisedFiles.{has_no_fault}
 use Rattle.command_runs.proofs.PromisedGenerators.{is_not_derivable}
-use Rattle.word_core.specs.declared.letter.Letter.{Letter}
-use Rattle.abbreviations.specs.declared.written.Equation.{Equation}
 use Rattle.cofactor_checker.specs.Rows.{IsNumberUpTo}
-use Rattle.evidence_commands.specs.Confirm.{sharp_ending, claim_closed}
-use Rattle.evidence_commands.specs.Model.{models}
-use Rattle.evidence_commands.proofs.Owed.{IsJudged}
-use Rattle.evidence_commands.proofs.QuietTexts.{lacks, cut}
-use Rattle.evidence_commands.proofs.QuietBlocks.{decimal_lacks}
-use Rattle.evidence_commands.proofs.Said.{Said, says_accepted, says_explained, says_confirmed, says_closed, says_another, said_text, SaidMeans, AcceptedSaid, ClosedSaid}
 use Rattle.command_runs.proofs.PromisedBlocks.{Found, no_claim, found}
 use Rattle.command_runs.proofs.PromisedVerdicts.{differ, is_refuted}
 

@@ -1,33 +1,7 @@
 -- The generators of a problem have the rational ideal of the polynomials of its file.
-use Rattle.std.proofs.Common.{◌≡◌, ◌≤◌, ℕ, zero, suc, List, [], ◌∷◌, ◌++◌, Option, Some, Result, Ok, Err, arith, refl, sym, ap, subst, ◌∙◌, length, slice_get}
-use Rattle.std.specs.List.{AllZip}
-use Rattle.std.proofs.lemmas.List.{append-nil}
-use Rattle.definitions.specs.Poly.{Poly, coefficient_of, poly_between, SamePolynomial}
-use Rattle.definitions.specs.Combination.{InRationalIdeal, generator_at}
-use Rattle.definitions.specs.Generators.{generators_of}
-use Rattle.quiver.specs.Declarations.{Declaration, quiver_of}
-use Rattle.confluence.proofs.FreeRows.{Free, in_ideal}
-use Rattle.confluence.proofs.Spans.{single}
-use Rattle.confluence.proofs.Ideals.{all_from_numbers, ideals_stay_inside}
-use Rattle.confluence.proofs.SumRows.{Numbered}
-use Rattle.statement_syntax.specs.declared.tree.Statement.{Statement}
-use Rattle.abbreviations.specs.declared.written.Equation.{Equation}
-use Rattle.abbreviations.specs.Written.{equations_of, assumptions_of, claims_in, claims_of}
-use Rattle.nc_polynomial.specs.declared.fault.PolyFault.{PolyFault}
-use Rattle.adjoint_rules.specs.declared.problem.Problem.{Problem}
-use Rattle.adjoint_rules.specs.Problem.{polynomials, numbers, generators_in}
-use Rattle.adjoint_rules.specs.Claims.{claim_at}
-use Rattle.statement_names.specs.Numbered.{declarations_of}
-use Rattle.statement_names.specs.Marked.{marked_of}
-use Rattle.statement_names.specs.Starred.{is_starred}
-use Rattle.signature_typing.specs.Fault.{told_polynomial}
-use Rattle.signature_typing.specs.Typing.{polynomial_in, value_in, polynomials_of}
-use Rattle.signature_typing.proofs.Values.{IsValue, AreValues, all_values}
-use Rattle.statement_meaning.specs.Claims.{quiver_in, IsClaim}
-use Rattle.statement_meaning.proofs.Claims.{claim_there}
-use Rattle.signature_typing.proofs.EachStatement.{none_wrong}
-use Rattle.stated_problem.specs.Stated.{IsStated}
-use Rattle.command_runs.specs.Promises.NotDerivable.{IsPolynomialOf, IsNotDerivable}
+use Rattle.command_runs.proofs.Prelude.{◌≡◌, ◌≤◌, ℕ, zero, suc, List, [], ◌∷◌, ◌++◌, Option, Some, Result, Ok, Err, arith, refl, sym, ap, subst, ◌∙◌, length, slice_get, AllZip, append-nil, coefficient_of, poly_between, SamePolynomial, InRationalIdeal, generator_at, generators_of, Declaration, quiver_of, Free, in_ideal, single, all_from_numbers, ideals_stay_inside, Numbered, Statement, Equation, equations_of, assumptions_of, claims_in, claims_of, PolyFault, Problem, polynomials, numbers, generators_in, claim_at, declarations_of, marked_of, is_starred, told_polynomial, polynomial_in, value_in, IsValue, AreValues, all_values, quiver_in, IsClaim, claim_there, none_wrong, IsStated, IsPolynomialOf, IsNotDerivable}
+use Rattle.definitions.specs.Poly.{Poly}
+use Rattle.signature_typing.specs.Typing.{polynomials_of}
 use Rattle.command_runs.proofs.PromisedFiles.{has_no_fault}
 
 -- polynomials with the same coefficients have one rational ideal

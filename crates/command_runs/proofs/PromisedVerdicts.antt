@@ -1,40 +1,8 @@
 -- What is put of verdicts means what it says.
-use Rattle.std.proofs.Common.{◌≡◌, ◌<◌, ◌≤◌, ◌+◌, ◌≢◌, ℕ, true, List, ◌∷◌, ◌++◌, arith, refl, sym, ap, subst, ◌∙◌, length, drop, get_or, codes, IsTrue}
-use Rattle.std.specs.Prelude.{decimal}
-use Rattle.std.specs.Fmt.{signed_decimal}
-use Rattle.std.specs.List.{list_all}
-use Rattle.std.proofs.lemmas.Fmt.{decimal_injective}
-use Rattle.std.proofs.lemmas.List.{append_assoc}
-use Rattle.definitions.specs.Category.{Structure}
-use Rattle.traced_rows.specs.LemmaRows.{denominator_of}
-use Rattle.traced_rows.specs.declared.evidence.Evidence.{Evidence}
-use Rattle.nc_polynomial.specs.declared.poly.Poly.{Poly}
-use Rattle.quiver.specs.Declarations.{Declaration}
-use Rattle.adjoint_rules.specs.declared.problem.Problem.{Problem}
-use Rattle.traced_completion.specs.declared.budget.Budget.{Budget}
-use Rattle.matrix_models.specs.declared.model.Model.{Model}
-use Rattle.model_text.specs.Written.{model_text}
-use Rattle.block_text.specs.Back.{is_named}
-use Rattle.cofactor_checker.specs.ProvedMeans.{ProvedMeans}
-use Rattle.model_checker.specs.RefutedMeans.{RefutedMeans}
-use Rattle.statement_meaning.specs.Meanings.{SaysEquations}
-use Rattle.statement_meaning.proofs.Claims.{claim_there}
-use Rattle.report_text.specs.declared.verdict.Verdict.{Verdict}
+use Rattle.command_runs.proofs.Prelude.{◌≡◌, ◌<◌, ◌≤◌, ◌+◌, ◌≢◌, ℕ, true, List, ◌∷◌, ◌++◌, arith, refl, sym, ap, subst, ◌∙◌, length, drop, get_or, codes, IsTrue, decimal, signed_decimal, list_all, decimal_injective, append_assoc, Structure, denominator_of, Evidence, Poly, Declaration, Problem, Budget, Model, model_text, is_named, ProvedMeans, RefutedMeans, SaysEquations, claim_there, Verdict, row_count, said_of, IsStated, VerdictMeans, positive_denominator, HasLineBefore, claim_line, block_line, number_limit, IsProved, SaysProved, IsRefuted, IsNext, IsNotDerivable, IsSharp, IsUndecided, LinesAreMeant, lacks, LineAt}
 use Rattle.report_text.specs.declared.verdict.Verdict.TheVariants as verdict
-use Rattle.report_text.specs.Heads.{row_count, said_of}
-use Rattle.stated_problem.specs.Stated.{IsStated}
-use Rattle.prove_command.specs.Says.{VerdictMeans}
-use Rattle.evidence_commands.proofs.Certificates.{positive_denominator}
-use Rattle.command_runs.specs.Promises.Lines.{HasLineBefore, claim_line, block_line, number_limit}
-use Rattle.command_runs.specs.Promises.Proved.{IsProved, SaysProved}
-use Rattle.command_runs.specs.Promises.Refuted.{IsRefuted, IsNext}
-use Rattle.command_runs.specs.Promises.NotDerivable.{IsNotDerivable}
-use Rattle.command_runs.specs.Promises.Sharp.{IsSharp}
-use Rattle.command_runs.specs.Promises.Undecided.{IsUndecided}
-use Rattle.command_runs.specs.Promises.{LinesAreMeant}
 use Rattle.command_runs.proofs.PromisedFiles.{has_no_fault}
 use Rattle.command_runs.proofs.PromisedGenerators.{is_not_derivable}
-use Rattle.evidence_commands.proofs.QuietTexts.{lacks, LineAt}
 use Rattle.command_runs.proofs.ReportLines.{at_start, claim_said, IsOfVerdict}
 
 -- the text of a verdict begins with a blank

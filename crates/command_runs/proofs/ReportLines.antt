@@ -1,26 +1,7 @@
 -- The lines of reports that begin with #: of verdicts, and of blocks that are judged one after another.
-use Rattle.std.proofs.Common.{◌≡◌, ◌⊎◌, inl, inr, ◌<◌, ◌≤◌, ◌+◌, ◌==◌, ℕ, suc, Bool, true, false, cond, List, [], ◌∷◌, ◌++◌, Option, Some, None, arith, refl, sym, ap, subst, ◌∙◌, length, drop, codes, get_or, slice_get, IsTrue}
-use Rattle.std.specs.Prelude.{decimal}
-use Rattle.std.specs.Fmt.{signed_decimal}
-use Rattle.std.specs.List.{AllZip, list_all, range_with_len}
-use Rattle.std.proofs.lemmas.List.{append_assoc, append-nil}
-use Rattle.nc_polynomial.specs.declared.poly.Poly.{Poly}
-use Rattle.cofactor_trace.specs.declared.halt.Place.{Place}
+use Rattle.command_runs.proofs.Prelude.{◌≡◌, ◌⊎◌, inl, inr, ◌<◌, ◌≤◌, ◌+◌, ◌==◌, ℕ, suc, Bool, true, false, cond, List, [], ◌∷◌, ◌++◌, Option, Some, None, arith, refl, sym, ap, subst, ◌∙◌, length, drop, codes, get_or, slice_get, IsTrue, decimal, signed_decimal, AllZip, list_all, range_with_len, append_assoc, append-nil, Poly, Place, denominator_of, Declaration, word_text, is_named, Verdict, row_count, denominator_text, cause_text, place_text, least_text, said_of, head_line, block_text, report_from, heads_from, line, on_block, refused_text, AcceptsBlock, JudgesFrom, accepted, refused, IsTold, AreLines, HasLineBefore, claim_line, block_line, lacks, cut, ends_line, LineAt, past_quiet, first_or_later, no_line, lacks-append, decimal_lacks, number_is_part, integer_is_part, cause_is_part, word_is_part, AreQuiet, evidence_is_quiet, basis_is_quiet, model_is_quiet}
 use Rattle.cofactor_trace.specs.declared.halt.Place.TheVariants as place
-use Rattle.traced_rows.specs.LemmaRows.{denominator_of}
-use Rattle.quiver.specs.Declarations.{Declaration}
-use Rattle.block_text.specs.Written.{word_text}
-use Rattle.block_text.specs.Back.{is_named}
-use Rattle.report_text.specs.declared.verdict.Verdict.{Verdict}
 use Rattle.report_text.specs.declared.verdict.Verdict.TheVariants as verdict
-use Rattle.report_text.specs.Heads.{row_count, denominator_text, cause_text, place_text, least_text, said_of, head_line}
-use Rattle.report_text.specs.Report.{block_text, report_from, heads_from}
-use Rattle.command_shape.specs.Ending.{line}
-use Rattle.command_shape.specs.Blocks.{block_text as on_block, refused_text, AcceptsBlock, JudgesFrom, accepted, refused}
-use Rattle.evidence_commands.proofs.Said.{IsTold}
-use Rattle.command_runs.specs.Promises.Lines.{AreLines, HasLineBefore, claim_line, block_line}
-use Rattle.evidence_commands.proofs.QuietTexts.{lacks, cut, ends_line, LineAt, past_quiet, first_or_later, no_line}
-use Rattle.evidence_commands.proofs.QuietBlocks.{lacks-append, decimal_lacks, number_is_part, integer_is_part, cause_is_part, word_is_part, AreQuiet, evidence_is_quiet, basis_is_quiet, model_is_quiet}
 
 -- a line of what was put
 ends : (start : Bool) (most : List ℕ) → ends_line start (most ++ 10 ∷ []) ≡ true

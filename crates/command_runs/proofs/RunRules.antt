@@ -1,15 +1,5 @@
 -- The rules of a run are the rules of their polynomials, and each of these may be a rule.
-use Rattle.std.proofs.Common.{◌≡◌, ◌<ℤ◌, ℕ, pos, List, [], ◌∷◌, ◌++◌, get_or, option_to_list, Option, IsSomeAnd, refl, sym, ap, ◌∙◌, subst}
-use Rattle.std.specs.List.{All}
-use Rattle.std.proofs.lemmas.List.Elements.{All-head, All-tail, All-map}
-use Rattle.std.specs.Option.{option_map}
-use Rattle.definitions.specs.Poly.{Term}
-use Rattle.word_orders.specs.Admissible.{Compare}
-use Rattle.nc_polynomial.specs.Content.{IsContent}
-use Rattle.rule_reduce.specs.declared.rule.Rule.{Rule}
-use Rattle.rule_reduce.specs.RuleLists.{IsRule}
-use Rattle.claim_decider.specs.Decided.{polynomials_in}
-use Rattle.closed_checker.specs.Rests.{MayBeRule, rules_from}
+use Rattle.command_runs.proofs.Prelude.{◌≡◌, ◌<ℤ◌, ℕ, pos, List, [], ◌∷◌, ◌++◌, get_or, option_to_list, Option, IsSomeAnd, refl, sym, ap, ◌∙◌, subst, All, All-head, All-tail, All-map, option_map, Term, Compare, IsContent, Rule, IsRule, polynomials_in, MayBeRule, rules_from}
 
 module _ (letters : ℕ) (compare : Compare) where
   pub rules_of_run : (rules : List Rule) → All (IsRule letters compare) rules → rules_from compare (polynomials_in rules) ≡ rules

@@ -1,42 +1,5 @@
 -- The rules of a run are typed and in play, so the bases that are printed of closed claims are sharp.
-use Rattle.std.proofs.Common.{◌≡◌, ℕ, true, List, [], ◌∷◌, length, ◌∙◌, refl, sym, ap, subst, arith}
-use Rattle.std.specs.List.{All}
-use Rattle.std.proofs.lemmas.List.{length-map}
-use Rattle.definitions.specs.Poly.{Term}
-use Rattle.definitions.specs.Combination.{InRationalIdeal}
-use Rattle.word_core.specs.Letters.{IsOver}
-use Rattle.word_orders.proofs.AskedOrders.{asked_rank}
-use Rattle.quiver.specs.Declarations.{letter_count}
-use Rattle.traced_rows.specs.declared.evidence.Format.{Format}
-use Rattle.nc_polynomial.specs.declared.poly.Poly.{Poly}
-use Rattle.rule_reduce.specs.declared.rule.Rule.{Rule}
-use Rattle.rule_reduce.specs.RuleLists.{polynomials_of}
-use Rattle.rule_reduce.proofs.WordsKept.{words_with_coefficients}
-use Rattle.ambiguities.specs.Resolved.{Resolved}
-use Rattle.confluence.specs.Reductions.{IsZero, HasLettersBelow}
-use Rattle.confluence.proofs.Ideals.{all_from_numbers}
-use Rattle.confluence.proofs.RestLaws.{normal_forms_are_reduced, rests_of_ideal_are_zero}
-use Rattle.adjoint_rules.specs.declared.problem.Problem.{Problem}
-use Rattle.adjoint_rules.specs.Problem.{polynomials}
-use Rattle.adjoint_rules.specs.Claims.{claim_at}
-use Rattle.traced_completion.specs.declared.budget.Budget.{Budget}
-use Rattle.traced_completion.specs.PlainRun.{RunState, setting_of}
-use Rattle.claim_decider.specs.Decided.{polynomials_in}
-use Rattle.outcome_laws.proofs.ProblemStates.{state_kept}
-use Rattle.adjoint_rules.specs.declared.basis.Basis.{Basis}
-use Rattle.closed_checker.specs.Rests.{order_of, rules_of, claim_of}
-use Rattle.closed_checker.proofs.ClosedMeaning.{zero_is_empty}
-use Rattle.closed_checker.proofs.ByNumber.{canonical_at, claim_over}
-use Rattle.closed_checker.proofs.PartOrder.{order_laws}
-use Rattle.normal_forms.specs.SharpMeans.{SharpMeans}
-use Rattle.normal_forms.proofs.StarSharp.{star_sharp_means}
-use Rattle.normal_category.specs.Faults.{AreSharp}
-use Rattle.normal_category.specs.Tests.{is_sharp}
-use Rattle.normal_category.proofs.Problems.{problem_is_sharp}
-use Rattle.normal_category.proofs.Tested.{sharp_rules_are_told}
-use Rattle.evidence_commands.specs.Confirm.{claim_closed}
-use Rattle.command_runs.specs.Printed.{IsPrinted}
-use Rattle.command_runs.specs.SharpBases.{PrintedBasesAreSharp, PrintedBasesMeanSharp, PrintedBasesMeanStarSharp}
+use Rattle.command_runs.proofs.Prelude.{◌≡◌, ℕ, true, List, [], ◌∷◌, length, ◌∙◌, refl, sym, ap, subst, arith, All, length-map, Term, InRationalIdeal, IsOver, asked_rank, letter_count, Format, Poly, Rule, polynomials_of, words_with_coefficients, Resolved, IsZero, HasLettersBelow, all_from_numbers, normal_forms_are_reduced, rests_of_ideal_are_zero, Problem, polynomials, claim_at, Budget, RunState, setting_of, polynomials_in, state_kept, Basis, order_of, rules_of, claim_of, zero_is_empty, canonical_at, claim_over, order_laws, SharpMeans, star_sharp_means, AreSharp, is_sharp, problem_is_sharp, sharp_rules_are_told, claim_closed, IsPrinted, PrintedBasesAreSharp, PrintedBasesMeanSharp, PrintedBasesMeanStarSharp}
 use Rattle.command_runs.proofs.ClosedRuns.{Closes}
 use Rattle.command_runs.proofs.Printed.{run, polys_are, rules_are, names, by_closing, are_rules, resolved, generator_inside}
 

@@ -1,13 +1,5 @@
 -- The report on a statement is read as the bases of its claims that are closed.
-use Rattle.std.proofs.Common.{sym, subst}
-use Rattle.std.specs.List.{All}
-use Rattle.adjoint_rules.specs.Claims.{claim_numbers}
-use Rattle.outcome_laws.proofs.OutcomeLetters.{last_rules_have_letters}
-use Rattle.block_lines.specs.Back.{IsWritableBasis}
-use Rattle.report_text.specs.Report.{report_of}
-use Rattle.report_readback.proofs.Declared.{declared_names_are_names}
-use Rattle.report_readback.proofs.Outcomes.{verdicts_writable, few_verdicts}
-use Rattle.command_runs.specs.BasesReadBack.{IsReadAsBases, StatementReportsReadBackAsBases}
+use Rattle.command_runs.proofs.Prelude.{sym, subst, All, claim_numbers, last_rules_have_letters, IsWritableBasis, report_of, declared_names_are_names, verdicts_writable, few_verdicts, IsReadAsBases, StatementReportsReadBackAsBases}
 use Rattle.command_runs.proofs.BasisReports.{reports_read_back_as_bases}
 use Rattle.command_runs.proofs.ClaimBases.{same_bases, closed_are_writable}
 

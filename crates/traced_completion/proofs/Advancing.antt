@@ -1,25 +1,5 @@
 -- The store after a round.
-use Rattle.std.proofs.Common.{◌≡◌, ◌≢◌, ◌⊎◌, inl, inr, ℕ, ◌+◌, ◌<◌, ◌≤◌, List, ◌++◌, length, take, drop, get_or, min, sym, ap, ◌∙◌, subst, arith}
-use Rattle.std.specs.Cmp.{IsTotalOrder}
-use Rattle.std.specs.List.{All, AllPairs, Contains}
-use Rattle.std.specs.List.Sorted.{IsPermutation, IsSorted}
-use Rattle.std.specs.Ordering.{is_eq}
-use Rattle.std.specs.declared.cmp.Ordering.TheVariants.{Equal}
-use Rattle.std.proofs.lemmas.Bool.{cases_lt}
-use Rattle.std.proofs.lemmas.List.{take-append-drop, get_or-take, get_or-drop, length-drop, get_or_default, length-take}
-use Rattle.std.proofs.lemmas.List.Elements.{All-append, All-contains, All-map, All-take, Contains-append_left, Contains-append_right, Contains-append_cases}
-use Rattle.std.proofs.lemmas.List.Sorted.{IsPermutation-sym, Contains-permutation}
-use Rattle.word_orders.specs.Admissible.{Compare}
-use Rattle.rule_reduce.specs.declared.rule.Rule.{Rule}
-use Rattle.ambiguities.specs.declared.ambiguity.Ambiguity.{Ambiguity}
-use Rattle.ambiguities.specs.Ambiguities.{IsAmbiguity, overlap_word_of}
-use Rattle.ambiguities.specs.Listed.{IsAmbiguityFrom}
-use Rattle.ambiguities.proofs.Exactly.{exactly-append}
-use Rattle.ambiguities.specs.declared.waiting.Waiting.{Waiting}
-use Rattle.ambiguities.specs.Order.{IsWaitingBefore, AreInOrder, waiting_cmp}
-use Rattle.traced_completion.specs.Pending.{IsPending, AreAllPending, IsNextStore, ambiguities_of}
-use Rattle.ambiguities.proofs.Comparing.{not_before_itself, tells, sorted-ascending}
-use Rattle.ambiguities.proofs.Ascending.{Image, contains-image, contains-map, distinct-permutation, distinct-pairs, drop-pairs}
+use Rattle.traced_completion.proofs.Prelude.{◌≡◌, ◌≢◌, ◌⊎◌, inl, inr, ℕ, ◌+◌, ◌<◌, ◌≤◌, List, ◌++◌, length, take, drop, get_or, min, sym, ap, ◌∙◌, subst, arith, IsTotalOrder, All, AllPairs, Contains, IsPermutation, IsSorted, is_eq, Equal, cases_lt, take-append-drop, get_or-take, get_or-drop, length-drop, get_or_default, length-take, All-append, All-contains, All-map, All-take, Contains-append_left, Contains-append_right, Contains-append_cases, IsPermutation-sym, Contains-permutation, Compare, Rule, Ambiguity, IsAmbiguity, overlap_word_of, IsAmbiguityFrom, exactly-append, Waiting, IsWaitingBefore, AreInOrder, waiting_cmp, IsPending, AreAllPending, IsNextStore, ambiguities_of, not_before_itself, tells, sorted-ascending, Image, contains-image, contains-map, distinct-permutation, distinct-pairs, drop-pairs}
 use Rattle.traced_completion.proofs.Staying.{overlap_word-append, first-within, second-within, ambiguity-append, ambiguity-before}
 use Rattle.traced_completion.proofs.StoreLemmas.{pending-all}
 

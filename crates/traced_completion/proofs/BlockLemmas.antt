@@ -1,27 +1,5 @@
 -- Blocks of waiting ambiguities, and what is put among them.
-use Rattle.std.proofs.Common.{◌≡◌, ◌≢◌, ◌⊎◌, inl, inr, ℕ, zero, suc, ◌+◌, ◌-◌, ◌<◌, ◌≤◌, true, false, List, [], ◌∷◌, ◌++◌, length, take, drop, set, get_or, refl, sym, ap, ap₂, ◌∙◌, subst, arith}
-use Rattle.std.specs.Cmp.{IsTotalOrder}
-use Rattle.std.specs.List.{All, AllPairs, Contains, insert, remove}
-use Rattle.std.specs.List.Sorted.{IsPermutation}
-use Rattle.std.specs.Ordering.{is_lt, ordering_reverse, is_gt}
-use Rattle.std.specs.declared.cmp.Ordering.{Ordering}
-use Rattle.std.specs.declared.cmp.Ordering.TheVariants.{Less, Equal, Greater}
-use Rattle.std.proofs.lemmas.Bool.{cases_lt}
-use Rattle.std.proofs.lemmas.Cmp.{upto}
-use Rattle.std.proofs.lemmas.List.{append_assoc, append-nil, take_all, length-append, length-take, length-take-le, length-set, take_at, drop_at, take_more, drop_more, drop_all, take-append-drop, take-set-le, drop-set-add, set-set, set-get_or, set_split, get_or-set_same, get_or-drop, get_or-take, length-drop, get_or_default}
-use Rattle.std.proofs.lemmas.List.Concat.{flat_map-append, get_or-flat_map}
-use Rattle.std.proofs.lemmas.List.Elements.{All-append, All-cons, All-take, All-drop, All-set, Contains-append_cases}
-use Rattle.std.proofs.lemmas.List.Kept.{AllPairs-cons}
-use Rattle.std.proofs.lemmas.List.Sorted.{IsPermutation-append_left, IsPermutation-to_front, IsPermutation-insert, IsPermutation-trans}
-use Rattle.ambiguities.proofs.Exactly.{exactly-append}
-use Rattle.word_core.specs.Letters.{IsOver}
-use Rattle.word_orders.specs.Admissible.{Compare}
-use Rattle.ambiguities.specs.declared.waiting.Waiting.{Waiting}
-use Rattle.ambiguities.specs.Order.{waiting_cmp}
-use Rattle.traced_completion.specs.Blocks.{IsUpTo, last_of}
-use Rattle.traced_completion.specs.Blocks.{joined, put_at, taken_out, restored, IsPut, IsFilled}
-use Rattle.ambiguities.proofs.Ascending.{drop-pairs}
-use Rattle.ambiguities.proofs.Comparing.{waiting_cmp-total}
+use Rattle.traced_completion.proofs.Prelude.{◌≡◌, ◌≢◌, ◌⊎◌, inl, inr, ℕ, zero, suc, ◌+◌, ◌-◌, ◌<◌, ◌≤◌, true, false, List, [], ◌∷◌, ◌++◌, length, take, drop, set, get_or, refl, sym, ap, ap₂, ◌∙◌, subst, arith, IsTotalOrder, All, AllPairs, Contains, insert, remove, IsPermutation, is_lt, ordering_reverse, is_gt, Ordering, Less, Equal, Greater, cases_lt, upto, append_assoc, append-nil, take_all, length-append, length-take, length-take-le, length-set, take_at, drop_at, take_more, drop_more, drop_all, take-append-drop, take-set-le, drop-set-add, set-set, set-get_or, set_split, get_or-set_same, get_or-drop, get_or-take, length-drop, get_or_default, flat_map-append, get_or-flat_map, All-append, All-cons, All-take, All-drop, All-set, Contains-append_cases, AllPairs-cons, IsPermutation-append_left, IsPermutation-to_front, IsPermutation-insert, IsPermutation-trans, exactly-append, IsOver, Compare, Waiting, waiting_cmp, IsUpTo, last_of, joined, put_at, taken_out, restored, IsPut, IsFilled, drop-pairs, waiting_cmp-total}
 
 -- what was put is taken out
 pub restored-more : (places : List (ℕ × ℕ)) (at : ℕ × ℕ) (blocks : List (List Waiting)) → restored (places ++ at ∷ []) blocks ≡ restored places (taken_out at blocks)

@@ -1,18 +1,7 @@
 -- The first reductions of ambiguities, from the answers to each.
-use Rattle.std.proofs.Common.{◌≡◌, ℕ, suc, List, [], ◌∷◌, length, map, Result, Ok, Err, MatchResult, IfOk, refl, sym, ap, ◌∙◌, subst}
-use Rattle.std.specs.List.{All, AllZip}
-use Rattle.std.proofs.lemmas.List.{length-map}
-use Rattle.word_orders.specs.Admissible.{Compare}
-use Rattle.rule_reduce.specs.declared.rule.Rule.{Rule}
-use Rattle.rule_reduce.specs.declared.fault.ReduceFault.{ReduceFault}
+use Rattle.traced_completion.proofs.Prelude.{◌≡◌, ℕ, suc, List, [], ◌∷◌, length, map, Result, Ok, Err, MatchResult, IfOk, refl, sym, ap, ◌∙◌, subst, All, AllZip, length-map, Compare, Rule, ReduceFault, Kept, Ambiguity, and_then, each_in_turn, Explains, First, first_of, plain_first, IsKeptFirst, IsAnswer, AllZip-weaker}
 use Rattle.rule_reduce.specs.declared.fault.ReduceFault.TheVariants as fault
-use Rattle.traced_completion.specs.declared.first_reductions.First.{First as Kept}
-use Rattle.ambiguities.specs.declared.ambiguity.Ambiguity.{Ambiguity}
-use Rattle.traced_completion.specs.Results.{and_then, each_in_turn, Explains}
-use Rattle.traced_completion.specs.Works.{First, first_of}
-use Rattle.traced_completion.specs.Reductions.{plain_first, IsKeptFirst, IsAnswer}
 use Rattle.traced_completion.proofs.InOrder.{values, IsAnswerTo, AreAnswers, values_answer}
-use Rattle.lists.proofs.Zips.{AllZip-weaker}
 
 module _ (letters : ℕ) (compare : Compare) (steps : ℕ) (rules : List Rule) (taken : List Ambiguity) (answers : List (Result Kept ReduceFault)) (each : AllZip (IsAnswer letters compare steps rules) taken answers) where
   abbrev Answered : Result (List Kept) ReduceFault → Type 0

@@ -1,24 +1,6 @@
 -- The reduction of one generator as a work.
-use Rattle.std.proofs.Common.{◌≡◌, ◌<◌, ◌≤◌, ℕ, zero, suc, ◌+◌, ◌-◌, List, [], ◌∷◌, ◌++◌, length, get_or, slice_get, drop, Option, Some, None, Result, Ok, refl, sym, ap, ◌∙◌, subst, arith}
-use Rattle.std.specs.List.{range_with_len}
-use Rattle.std.proofs.lemmas.List.{drop_more, drop_all, length-append, get_or-append_right}
-use Rattle.std.proofs.lemmas.List.FromFn.{length-range_with_len, get_or-range_with_len}
-use Rattle.std.proofs.lemmas.Option.{slice_get-get_or}
-use Rattle.std.proofs.Math.ListN.{get_or-map}
-use Rattle.definitions.specs.Poly.{Term}
-use Rattle.definitions.specs.Combination.{generator_at}
-use Rattle.word_orders.specs.Admissible.{Compare}
-use Rattle.nc_polynomial.specs.declared.poly.Poly.{Poly}
-use Rattle.rule_reduce.specs.declared.rule.Rule.{Rule}
-use Rattle.rule_reduce.specs.declared.state.State.{State}
-use Rattle.rule_reduce.specs.declared.fault.ReduceFault.{ReduceFault}
+use Rattle.traced_completion.proofs.Prelude.{◌≡◌, ◌<◌, ◌≤◌, ℕ, zero, suc, ◌+◌, ◌-◌, List, [], ◌∷◌, ◌++◌, length, get_or, slice_get, drop, Option, Some, None, Result, Ok, refl, sym, ap, ◌∙◌, subst, arith, range_with_len, drop_more, drop_all, length-append, get_or-append_right, length-range_with_len, get_or-range_with_len, slice_get-get_or, get_or-map, Term, generator_at, Compare, Poly, Rule, State, ReduceFault, normal_form_of, polynomials, and_then, Explains, Recorded, rest_with, IsExtended, generator_rows, generator_work, Does, units_first}
 use Rattle.rule_reduce.specs.declared.fault.ReduceFault.TheVariants as fault
-use Rattle.rule_reduce.specs.NormalForms.{normal_form_of}
-use Rattle.adjoint_rules.specs.Problem.{polynomials}
-use Rattle.traced_completion.specs.Results.{and_then, Explains}
-use Rattle.rule_making.specs.Making.{Recorded, rest_with, IsExtended}
-use Rattle.traced_completion.specs.Works.{generator_rows, generator_work, Does}
-use Rattle.traced_completion.specs.UnitsFirst.{units_first}
 
 -- the generator with a number
 pub generator_is : (generators : List Poly) (number : ℕ) (p : Poly) → 0 < number → p ≡ get_or generators (number - 1) p → number ≤ length generators → generator_at (polynomials generators) number ≡ p.terms

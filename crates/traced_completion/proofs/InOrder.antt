@@ -1,10 +1,7 @@
 -- Answers in their order, and the first fault of them.
-use Rattle.std.proofs.Common.{◌≡◌, List, [], ◌∷◌, ◌++◌, map, Result, Ok, Err, MatchResult, IfOk, refl, sym, ap, ◌∙◌, append_assoc}
-use Rattle.std.specs.List.{AllZip, All}
-use Rattle.std.proofs.lemmas.List.Elements.{All-nil, All-cons}
-use Rattle.rule_reduce.specs.declared.fault.ReduceFault.{ReduceFault}
+use Rattle.traced_completion.proofs.Prelude.{◌≡◌, List, [], ◌∷◌, ◌++◌, map, Result, Ok, Err, MatchResult, IfOk, refl, sym, ap, ◌∙◌, AllZip, All, All-nil, All-cons, ReduceFault, and_then, each_in_turn, Explains}
+use Rattle.std.proofs.Common.{append_assoc}
 use Rattle.rule_reduce.specs.declared.fault.ReduceFault.TheVariants as fault
-use Rattle.traced_completion.specs.Results.{and_then, each_in_turn, Explains}
 
 -- values before those of what is left
 abbrev pub join : {A : Type 0} → List A → Result (List A) ReduceFault → Result (List A) ReduceFault

@@ -1,28 +1,6 @@
 -- What the code keeps of reductions holds.
-use Rattle.std.proofs.Common.{◌≡◌, ◌<◌, ℕ, List, length, Ok, Err, Result, IfOk, MatchResult, arith}
-use Rattle.std.specs.List.{All}
-use Rattle.std.proofs.lemmas.List.Elements.{All-weaker}
-use Rattle.coef_int.specs.Range.{IsCoefficient}
-use Rattle.definitions.specs.Poly.{Term}
-use Rattle.word_core.specs.Letters.{IsOver}
-use Rattle.word_orders.specs.Admissible.{Compare}
-use Rattle.traced_rows.specs.declared.Origin.{Origin}
+use Rattle.traced_completion.proofs.Prelude.{◌≡◌, ◌<◌, ℕ, List, length, Ok, Err, Result, IfOk, MatchResult, arith, All, All-weaker, IsCoefficient, Term, IsOver, Compare, Origin, Row, IsAmongFirst, Rule, Reduced, ReduceFault, IsRule, normal_form_of, IsByRule, rows_are_by_rules, Ambiguity, IsAmbiguity, first_row, second_row, s_rows_of, rule_at-first, rule_at-last, all_two, plain, IsKept}
 use Rattle.traced_rows.specs.declared.Origin.TheVariants as origin
-use Rattle.traced_rows.specs.declared.Row.{Row}
-use Rattle.cofactor_trace.specs.Needed.{IsAmongFirst}
-use Rattle.rule_reduce.specs.declared.rule.Rule.{Rule}
-use Rattle.rule_reduce.specs.declared.rules.Reduced.{Reduced}
-use Rattle.rule_reduce.specs.declared.fault.ReduceFault.{ReduceFault}
-use Rattle.rule_reduce.specs.RuleLists.{IsRule}
-use Rattle.rule_reduce.specs.NormalForms.{normal_form_of}
-use Rattle.rule_reduce.specs.Laws.{IsByRule}
-use Rattle.rule_reduce.proofs.RowsByRules.{rows_are_by_rules}
-use Rattle.ambiguities.specs.declared.ambiguity.Ambiguity.{Ambiguity}
-use Rattle.ambiguities.specs.Ambiguities.{IsAmbiguity}
-use Rattle.ambiguities.specs.SPolynomials.{first_row, second_row, s_rows_of}
-use Rattle.ambiguities.proofs.Numbers.{rule_at-first, rule_at-last}
-use Rattle.traced_rows.proofs.Lists.{all_two}
-use Rattle.traced_completion.specs.Reductions.{plain, IsKept}
 use Rattle.traced_completion.proofs.NonemptyWords.{nonempty_rest}
 
 pub among_first : (count : ℕ) (from : Origin) → IsByRule count from → IsAmongFirst count from

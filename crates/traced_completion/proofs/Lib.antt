@@ -1,3 +1,4 @@
+mod Prelude
 pub mod Staying
 pub mod StoreLemmas
 pub mod Advancing

@@ -1,23 +1,5 @@
 -- No word of an S-polynomial is empty, nor one of what a reduction leaves.
-use Rattle.std.proofs.Common.{◌≡◌, ◌≢◌, ◌<◌, ℕ, pos, List, ◌++◌, length, Some, Ok, arith, get_or}
-use Rattle.std.specs.List.{All}
-use Rattle.std.proofs.lemmas.List.{length-append}
-use Rattle.std.proofs.lemmas.List.Elements.{All-map}
-use Rattle.definitions.specs.Poly.{Term, coefficient_of, poly_between}
-use Rattle.word_orders.specs.Admissible.{Compare}
-use Rattle.nc_polynomial.specs.Shape.{IsShaped}
-use Rattle.nc_polynomial.proofs.Distinct.{distinct-descending, words_listed}
-use Rattle.nc_polynomial.proofs.Shapes.{recursion_from_IsDescending}
-use Rattle.rule_reduce.specs.declared.rule.Rule.{Rule}
-use Rattle.rule_reduce.specs.declared.state.State.{State}
-use Rattle.rule_reduce.specs.RuleLists.{IsRule, rule_at}
-use Rattle.rule_reduce.specs.NormalForms.{normal_form_of}
-use Rattle.rule_reduce.proofs.Numbers.{rule_at-all}
-use Rattle.rule_reduce.proofs.WordsKept.{words_with_coefficients, words_kept}
-use Rattle.ambiguities.specs.declared.ambiguity.Ambiguity.{Ambiguity}
-use Rattle.ambiguities.specs.Ambiguities.{IsAmbiguity}
-use Rattle.ambiguities.specs.SPolynomials.{first_row, second_row, s_polynomial_of}
-use Rattle.ambiguities.proofs.Bounds.{of_either, coefficient_of-s_polynomial}
+use Rattle.traced_completion.proofs.Prelude.{◌≡◌, ◌≢◌, ◌<◌, ℕ, pos, List, ◌++◌, length, Some, Ok, arith, get_or, All, length-append, All-map, Term, coefficient_of, poly_between, Compare, IsShaped, distinct-descending, words_listed, recursion_from_IsDescending, Rule, State, IsRule, rule_at, normal_form_of, rule_at-all, words_with_coefficients, words_kept, Ambiguity, IsAmbiguity, first_row, second_row, s_polynomial_of, of_either, coefficient_of-s_polynomial}
 
 abbrev pub IsNonempty : List ℕ → Type 0
 IsNonempty w = 0 < length w

@@ -1,18 +1,6 @@
 -- Rows of records name what is there before.
-use Rattle.std.proofs.Common.{◌≤◌, ℕ, ℤ, List, [], ◌∷◌, map, arith}
-use Rattle.std.proofs.lemmas.List.Elements.{All-weaker, All-map, All-append}
-use Rattle.traced_rows.specs.declared.Origin.{Origin}
+use Rattle.traced_completion.proofs.Prelude.{◌≤◌, ℕ, ℤ, List, [], ◌∷◌, map, arith, All-weaker, All-map, All-append, Origin, Row, IsAmongFirst, State, multiplied_row, negated_rows, AreRows, AreNamed, negated_named, First, generator_rows, less_rows, first_rows, second_rows, IsKept, IsKeptFirst, all_one}
 use Rattle.traced_rows.specs.declared.Origin.TheVariants as origin
-use Rattle.traced_rows.specs.declared.Row.{Row}
-use Rattle.cofactor_trace.specs.Needed.{IsAmongFirst}
-use Rattle.rule_reduce.specs.declared.state.State.{State}
-use Rattle.rule_reduce.specs.Steps.{multiplied_row}
-use Rattle.rule_making.specs.Making.{negated_rows}
-use Rattle.rule_making.specs.Records.{AreRows}
-use Rattle.rule_making.proofs.Records.{AreNamed, negated_named}
-use Rattle.traced_completion.specs.Works.{First, generator_rows, less_rows, first_rows, second_rows}
-use Rattle.traced_completion.specs.Reductions.{IsKept, IsKeptFirst}
-use Rattle.traced_rows.proofs.Lists.{all_one}
 
 less_named : (count : ℕ) (rows : List Row) (by : ℤ) (taken : List Row) → AreNamed count rows → AreNamed count taken → AreNamed count (less_rows rows by taken)
 less_named count rows by taken named also =

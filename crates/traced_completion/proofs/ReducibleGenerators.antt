@@ -1,20 +1,5 @@
 -- The generators of a problem can be reduced: no word is empty, and all letters are in range.
-use Rattle.std.proofs.Common.{◌≡◌, ◌<◌, ◌≤◌, ℕ, true, List, [], ◌∷◌, length, arith, get_or}
-use Rattle.std.specs.List.{All, AllByRecursion}
-use Rattle.std.proofs.lemmas.List.Elements.{All-nil, All-cons}
-use Rattle.definitions.specs.Quiver.{Quiver, IsPath, letters, source, leads, is_path}
-use Rattle.definitions.specs.Soundness.{HasSignature}
-use Rattle.definitions.proofs.Paths.{step}
-use Rattle.word_core.specs.Letters.{IsOver}
-use Rattle.nc_polynomial.specs.declared.poly.Poly.{Poly}
-use Rattle.nc_polynomial.proofs.Distinct.{distinct-descending, words_listed}
-use Rattle.nc_polynomial.proofs.Shapes.{recursion_from_IsDescending}
-use Rattle.quiver.specs.Declarations.{letter_count, quiver_of}
-use Rattle.quiver.proofs.Counts.{letters-quiver_of}
-use Rattle.adjoint_rules.specs.declared.problem.Problem.{Problem}
-use Rattle.adjoint_rules.specs.Problem.{polynomials}
-use Rattle.adjoint_rules.proofs.Generators.{generators_have_signatures}
-use Rattle.traced_completion.specs.Reductions.{IsReducible}
+use Rattle.traced_completion.proofs.Prelude.{◌≡◌, ◌<◌, ◌≤◌, ℕ, true, List, [], ◌∷◌, length, arith, get_or, All, AllByRecursion, All-nil, All-cons, Quiver, IsPath, letters, source, leads, is_path, HasSignature, step, IsOver, Poly, distinct-descending, words_listed, recursion_from_IsDescending, letter_count, quiver_of, letters-quiver_of, Problem, polynomials, generators_have_signatures, IsReducible}
 
 leads_over : (q : Quiver) (u v : ℕ) (w : List ℕ) → leads q u v w ≡ true → IsOver (letters q) w
 leads_over q u v [] path = All-nil (λ a. a < letters q)

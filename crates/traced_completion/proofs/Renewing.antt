@@ -1,19 +1,5 @@
 -- The store after its blocks were renewed.
-use Rattle.std.proofs.Common.{◌≡◌, ℕ, ◌+◌, List, ◌++◌, drop, ap, ◌∙◌, arith}
-use Rattle.std.specs.Cmp.{IsTotalOrder}
-use Rattle.std.specs.List.{AllPairs}
-use Rattle.std.specs.List.Sorted.{IsPermutation, IsSorted}
-use Rattle.std.specs.Ordering.{is_lt, ordering_reverse}
-use Rattle.std.specs.declared.cmp.Ordering.TheVariants.{Equal}
-use Rattle.word_orders.specs.Admissible.{Compare}
-use Rattle.rule_reduce.specs.declared.rule.Rule.{Rule}
-use Rattle.ambiguities.specs.declared.waiting.Waiting.{Waiting}
-use Rattle.traced_completion.specs.Pending.{IsNextStore}
-use Rattle.ambiguities.specs.Listed.{IsAmbiguityFrom}
-use Rattle.ambiguities.specs.Order.{IsWaitingBefore, AreInOrder, waiting_cmp}
-use Rattle.traced_completion.specs.Blocks.{IsUpTo}
-use Rattle.ambiguities.proofs.Ascending.{drop-pairs, pairs-weaker}
-use Rattle.ambiguities.proofs.Comparing.{waiting_cmp-total, less-waiting}
+use Rattle.traced_completion.proofs.Prelude.{◌≡◌, ℕ, ◌+◌, List, ◌++◌, drop, ap, ◌∙◌, arith, IsTotalOrder, AllPairs, IsPermutation, IsSorted, is_lt, ordering_reverse, Equal, Compare, Rule, Waiting, IsNextStore, IsAmbiguityFrom, IsWaitingBefore, AreInOrder, waiting_cmp, IsUpTo, drop-pairs, pairs-weaker, waiting_cmp-total, less-waiting}
 use Rattle.traced_completion.proofs.Advancing.{next-store}
 
 module _ (compare : Compare) (total : IsTotalOrder compare) where

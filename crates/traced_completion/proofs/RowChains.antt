@@ -1,15 +1,6 @@
 -- Products of rows, one list after another, and the first that overflows.
-use Rattle.std.proofs.Common.{◌≡◌, List, ◌++◌, Option, Some, None, Result, Ok, Err, sym, ap, ◌∙◌, subst}
-use Rattle.coef_int.specs.declared.Overflow.{Overflow}
-use Rattle.coef_int.specs.Operations.{first_overflow}
-use Rattle.nc_polynomial.proofs.Chains.{or_first, first-append}
-use Rattle.traced_rows.specs.declared.Row.{Row}
-use Rattle.rule_reduce.specs.declared.state.State.{State}
-use Rattle.rule_reduce.specs.declared.fault.ReduceFault.{ReduceFault}
+use Rattle.traced_completion.proofs.Prelude.{◌≡◌, List, ◌++◌, Option, Some, None, Result, Ok, Err, sym, ap, ◌∙◌, subst, Overflow, first_overflow, or_first, first-append, Row, State, ReduceFault, row_operations, Explains, unless_overflow, First, less_rows, first_rows, second_rows, rows_operations}
 use Rattle.rule_reduce.specs.declared.fault.ReduceFault.TheVariants as fault
-use Rattle.rule_reduce.specs.Steps.{row_operations}
-use Rattle.traced_completion.specs.Results.{Explains, unless_overflow}
-use Rattle.traced_completion.specs.Works.{First, less_rows, first_rows, second_rows, rows_operations}
 
 no_error : {A : Type 0} (x : A) (e : ReduceFault) → ◌≡◌ {A = Result A ReduceFault} (Ok x) (Err e) → ⊥
 no_error x e is = cc

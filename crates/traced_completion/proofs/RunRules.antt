@@ -1,19 +1,5 @@
 -- Each state of a run has rules.
-use Rattle.std.proofs.Common.{◌≡◌, ◌≢◌, ◌<◌, ℕ, pos, ◌*ℤ◌, length, Option, Some, None, refl, sym, ap, ◌∙◌}
-use Rattle.std.specs.Option.{option_map}
-use Rattle.std.proofs.Math.IntN.{*ℤ-zero}
-use Rattle.definitions.specs.Poly.{Term}
-use Rattle.coef_int.specs.Range.{IsCoefficient}
-use Rattle.word_core.specs.Letters.{IsOver}
-use Rattle.word_orders.specs.Admissible.{Compare}
-use Rattle.traced_rows.specs.declared.Made.{Made}
-use Rattle.rule_reduce.specs.declared.rule.Rule.{Rule}
-use Rattle.rule_reduce.specs.Leading.{leading_term}
-use Rattle.rule_reduce.specs.RuleLists.{IsRule}
-use Rattle.rule_reduce.proofs.AtMost.{leading-all}
-use Rattle.ambiguities.proofs.Words.{AreWords, words_nonempty, words_over}
-use Rattle.rule_making.specs.Making.{is_negative, is_term_negative, leads_negative, Rest, IsMadeFrom}
-use Rattle.rule_making.proofs.Quotients.{signed, signed_nonzero, multiple_term, leading-multiple, quotient_words, positive_quotient}
+use Rattle.traced_completion.proofs.Prelude.{◌≡◌, ◌≢◌, ◌<◌, ℕ, pos, ◌*ℤ◌, length, Option, Some, None, refl, sym, ap, ◌∙◌, option_map, *ℤ-zero, Term, IsCoefficient, IsOver, Compare, Made, Rule, leading_term, IsRule, leading-all, AreWords, words_nonempty, words_over, is_negative, is_term_negative, leads_negative, Rest, IsMadeFrom, signed, signed_nonzero, multiple_term, leading-multiple, quotient_words, positive_quotient}
 use Rattle.traced_completion.proofs.UniqueRuns.{same_factor}
 
 -- a rule that is made

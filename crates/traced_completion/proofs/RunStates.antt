@@ -1,38 +1,9 @@
 -- The states of a run: their rules, and how many there are.
-use Rattle.std.proofs.Common.{◌≡◌, ◌<◌, ◌≤◌, ◌+◌, ℕ, zero, suc, List, [], ◌∷◌, ◌++◌, length, map, take, Bool, true, false, leb, Option, Some, None, Result, Ok, Err, refl, sym, ap, ◌∙◌, subst, arith, get_or}
-use Rattle.std.specs.List.{All}
-use Rattle.std.proofs.lemmas.Bool.{leb-false}
-use Rattle.std.proofs.lemmas.List.{length-append, length-map}
-use Rattle.std.proofs.lemmas.List.Elements.{All-append, All-map, All-take, All-nil, All-cons, All-tail}
-use Rattle.definitions.specs.Poly.{Term}
-use Rattle.definitions.specs.Combination.{generator_at}
-use Rattle.word_orders.specs.Admissible.{Compare}
-use Rattle.traced_rows.specs.declared.Row.{Row}
-use Rattle.rule_reduce.specs.declared.rule.Rule.{Rule}
-use Rattle.rule_reduce.specs.declared.state.State.{State}
-use Rattle.rule_reduce.specs.declared.fault.ReduceFault.{ReduceFault}
-use Rattle.nc_polynomial.specs.declared.fault.PolyFault.{PolyFault}
-use Rattle.coef_int.specs.declared.Overflow.{Overflow}
-use Rattle.coef_int.specs.Operations.{first_overflow}
-use Rattle.rule_reduce.specs.RuleLists.{IsRule}
-use Rattle.rule_reduce.specs.NormalForms.{normal_form_of}
-use Rattle.ambiguities.specs.declared.ambiguity.Ambiguity.{Ambiguity}
-use Rattle.ambiguities.specs.Ambiguities.{IsAmbiguity}
-use Rattle.ambiguities.specs.SPolynomials.{s_rows_of, s_polynomial_of}
-use Rattle.ambiguities.proofs.Words.{IsWord, AreWords, words_from, normal_words, s_words}
-use Rattle.ambiguities.specs.declared.waiting.Waiting.{Waiting}
-use Rattle.traced_completion.specs.Results.{and_then, halted, each_in_turn, unless_overflow}
-use Rattle.rule_making.specs.Making.{Recorded, Rest, rest_with, Adds}
-use Rattle.traced_completion.specs.Works.{Work, generator_rows, generator_work, First, first_of, second_rest, second_reduction, second_rows, rows_operations, second_work, Goes, InTurn, InTwoPasses}
-use Rattle.traced_completion.specs.Pending.{AreAllPending, ambiguities_of}
-use Rattle.traced_completion.specs.PlainRun.{Setting, RunState, went, closed, stopped, Ends, recorded, taken_count, IsTreated, TreatsFirst, TreatsPending, IsRoundZero, IsLaterRound}
-use Rattle.traced_completion.specs.RunLaws.{HasWords, StatesHaveRules, IsBounded, StatesAreBounded}
-use Rattle.cofactor_trace.specs.declared.halt.Halt.{Halt}
+use Rattle.traced_completion.proofs.Prelude.{◌≡◌, ◌<◌, ◌≤◌, ◌+◌, ℕ, zero, suc, List, [], ◌∷◌, ◌++◌, length, map, take, Bool, true, false, leb, Option, Some, None, Result, Ok, Err, refl, sym, ap, ◌∙◌, subst, arith, get_or, All, leb-false, length-append, length-map, All-append, All-map, All-take, All-nil, All-cons, All-tail, Term, generator_at, Compare, Row, Rule, State, ReduceFault, PolyFault, Overflow, first_overflow, IsRule, normal_form_of, Ambiguity, IsAmbiguity, s_rows_of, s_polynomial_of, IsWord, AreWords, words_from, normal_words, s_words, Waiting, and_then, halted, each_in_turn, unless_overflow, Recorded, Rest, rest_with, Adds, Work, generator_rows, generator_work, First, first_of, second_rest, second_reduction, second_rows, rows_operations, second_work, Goes, InTurn, InTwoPasses, AreAllPending, ambiguities_of, Setting, RunState, went, closed, stopped, Ends, recorded, taken_count, IsTreated, TreatsFirst, TreatsPending, IsRoundZero, IsLaterRound, HasWords, StatesHaveRules, IsBounded, StatesAreBounded, Halt, all_one}
 use Rattle.traced_completion.proofs.StoreLemmas.{pending-all}
 use Rattle.traced_completion.proofs.FirstReductions.{each_length}
 use Rattle.traced_completion.proofs.Transitions.{taken_length}
 use Rattle.traced_completion.proofs.RunRules.{made_is_rule}
-use Rattle.traced_rows.proofs.Lists.{all_one}
 
 ok_is : {A : Type 0} (x y : A) → ◌≡◌ {A = Result A ReduceFault} (Ok x) (Ok y) → x ≡ y
 ok_is x y same = cc

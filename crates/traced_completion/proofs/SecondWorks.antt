@@ -1,17 +1,6 @@
 -- The second reduction of one ambiguity as a work.
-use Rattle.std.proofs.Common.{◌≡◌, ◌<◌, ℕ, List, [], ◌∷◌, length, Some, None, Result, Ok, refl, sym, ap, ◌∙◌, subst, arith}
-use Rattle.coef_int.specs.Operations.{first_overflow}
-use Rattle.definitions.specs.Poly.{Term}
-use Rattle.word_orders.specs.Admissible.{Compare}
-use Rattle.traced_rows.specs.declared.Row.{Row}
-use Rattle.rule_reduce.specs.declared.rule.Rule.{Rule}
-use Rattle.rule_reduce.specs.declared.state.State.{State}
-use Rattle.rule_reduce.specs.declared.fault.ReduceFault.{ReduceFault}
+use Rattle.traced_completion.proofs.Prelude.{◌≡◌, ◌<◌, ℕ, List, [], ◌∷◌, length, Some, None, Result, Ok, refl, sym, ap, ◌∙◌, subst, arith, first_overflow, Term, Compare, Row, Rule, State, ReduceFault, normal_form_of, and_then, Explains, unless_overflow, Recorded, rest_with, IsExtended, First, second_rows, rows_operations, second_rest, second_reduction, second_work, Does}
 use Rattle.rule_reduce.specs.declared.fault.ReduceFault.TheVariants as fault
-use Rattle.rule_reduce.specs.NormalForms.{normal_form_of}
-use Rattle.traced_completion.specs.Results.{and_then, Explains, unless_overflow}
-use Rattle.rule_making.specs.Making.{Recorded, rest_with, IsExtended}
-use Rattle.traced_completion.specs.Works.{First, second_rows, rows_operations, second_rest, second_reduction, second_work, Does}
 use Rattle.traced_completion.proofs.RowChains.{other_explains, other_value, value_of}
 
 module _ (compare : Compare) (steps : ℕ) (rules : List Rule) (f : First) where

@@ -1,12 +1,5 @@
 -- What stays of ambiguities where rules are appended.
-use Rattle.std.proofs.Common.{◌≡◌, ℕ, zero, suc, ◌<◌, ◌≤◌, List, [], ◌∷◌, ◌++◌, length, slice_get, refl, sym, ap, ap₂, ◌∙◌, arith}
-use Rattle.std.specs.Option.{option_map, unwrap_or}
-use Rattle.rule_reduce.specs.declared.rule.Rule.{Rule}
-use Rattle.rule_reduce.specs.RuleLists.{rule_at}
-use Rattle.ambiguities.specs.declared.ambiguity.Ambiguity.{Ambiguity}
-use Rattle.ambiguities.specs.Ambiguities.{IsAmbiguity, lead_at, joined_word, overlap_word_of}
-use Rattle.ambiguities.proofs.Numbers.{rule_at-last}
-use Rattle.traced_completion.specs.StoreLaws.{IsAmbiguityBefore, AmbiguitiesStay}
+use Rattle.traced_completion.proofs.Prelude.{◌≡◌, ℕ, zero, suc, ◌<◌, ◌≤◌, List, [], ◌∷◌, ◌++◌, length, slice_get, refl, sym, ap, ap₂, ◌∙◌, arith, option_map, unwrap_or, Rule, rule_at, Ambiguity, IsAmbiguity, lead_at, joined_word, overlap_word_of, rule_at-last, IsAmbiguityBefore, AmbiguitiesStay}
 
 slice_get-append : (rules more : List Rule) (n : ℕ) → n < length rules → slice_get (rules ++ more) n ≡ slice_get rules n
 slice_get-append [] more n inside = absurd (omega (arith, inside))

@@ -1,24 +1,5 @@
 -- The laws of the store.
-use Rattle.std.proofs.Common.{◌≡◌, ◌↔◌, ◌⊎◌, inl, inr, ◌+◌, ◌≤◌, ℕ, List, [], ◌∷◌, ◌++◌, length, take, sym, ap, subst, arith}
-use Rattle.std.specs.List.{All, Contains}
-use Rattle.std.proofs.lemmas.List.Elements.{All-weaker, All-append, All-take, All-map, All-contains_itself}
-use Rattle.std.specs.declared.cmp.Ordering.TheVariants.{Less}
-use Rattle.word_core.specs.Letters.{IsOver}
-use Rattle.word_orders.specs.Admissible.{Compare}
-use Rattle.rule_reduce.specs.declared.rule.Rule.{Rule}
-use Rattle.rule_reduce.specs.RuleLists.{IsRule}
-use Rattle.ambiguities.specs.declared.ambiguity.Ambiguity.{Ambiguity}
-use Rattle.ambiguities.specs.Ambiguities.{IsAmbiguity, overlap_word_of}
-use Rattle.ambiguities.specs.Listed.{IsAmbiguityFrom}
-use Rattle.ambiguities.proofs.Bounds.{over_overlap_word}
-use Rattle.ambiguities.proofs.Exactly.{exactly-all, exactly-same}
-use Rattle.ambiguities.proofs.Numbers.{rule_at-first, rule_at-last}
-use Rattle.ambiguities.specs.declared.waiting.Waiting.{Waiting}
-use Rattle.ambiguities.specs.Order.{IsWaitingBefore, AreInOrder}
-use Rattle.traced_completion.specs.Pending.{IsPending, AreAllPending, ambiguities_of}
-use Rattle.traced_completion.specs.StoreLaws.{StoresAreUnique, LeastWordsAreLeast, NothingIsPendingAtFirst, TakenOnesAreAmbiguities, PendingWordsAreOver}
-use Rattle.ambiguities.proofs.Comparing.{not_before_itself, not_before_each_other}
-use Rattle.ambiguities.proofs.Ascending.{ascending-same, contains-none, contains-cases, contains-first, first-before}
+use Rattle.traced_completion.proofs.Prelude.{◌≡◌, ◌↔◌, ◌⊎◌, inl, inr, ◌+◌, ◌≤◌, ℕ, List, [], ◌∷◌, ◌++◌, length, take, sym, ap, subst, arith, All, Contains, All-weaker, All-append, All-take, All-map, All-contains_itself, Less, IsOver, Compare, Rule, IsRule, Ambiguity, IsAmbiguity, overlap_word_of, IsAmbiguityFrom, over_overlap_word, exactly-all, exactly-same, rule_at-first, rule_at-last, Waiting, IsWaitingBefore, AreInOrder, IsPending, AreAllPending, ambiguities_of, StoresAreUnique, LeastWordsAreLeast, NothingIsPendingAtFirst, TakenOnesAreAmbiguities, PendingWordsAreOver, not_before_itself, not_before_each_other, ascending-same, contains-none, contains-cases, contains-first, first-before}
 use Rattle.traced_completion.proofs.Staying.{ambiguity-append}
 
 pub stores-unique : StoresAreUnique

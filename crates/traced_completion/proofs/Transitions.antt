@@ -1,39 +1,8 @@
 -- What a round makes of the completion of a problem.
-use Rattle.std.proofs.Common.{◌≡◌, ◌<◌, ◌≤◌, ℕ, zero, suc, ◌+◌, List, [], ◌∷◌, ◌++◌, length, map, take, drop, slice_get, Bool, true, false, leb, Option, Some, None, Result, Ok, Err, OnErr, refl, sym, ap, ◌∙◌, subst, arith}
-use Rattle.std.specs.List.{All}
-use Rattle.std.proofs.lemmas.List.{length-map, length-take-le, take-append-drop}
-use Rattle.std.proofs.lemmas.Bool.{leb-true, leb-false}
-use Rattle.word_orders.specs.Admissible.{Compare}
-use Rattle.word_orders.specs.Specified.{asked_cmp, made_cmp, letters_of}
-use Rattle.word_orders.specs.declared.any.AnyOrder.{AnyOrder}
-use Rattle.quiver.specs.Declarations.{letter_count}
-use Rattle.traced_rows.specs.declared.Made.{Made}
-use Rattle.cofactor_trace.specs.Needed.{IsRecord}
+use Rattle.traced_completion.proofs.Prelude.{◌≡◌, ◌<◌, ◌≤◌, ℕ, zero, suc, ◌+◌, List, [], ◌∷◌, ◌++◌, length, map, take, drop, slice_get, Bool, true, false, leb, Option, Some, None, Result, Ok, Err, OnErr, refl, sym, ap, ◌∙◌, subst, arith, All, length-map, length-take-le, take-append-drop, leb-true, leb-false, Compare, asked_cmp, made_cmp, letters_of, AnyOrder, letter_count, Made, IsRecord, Rule, rule_at, ReduceFault, Ambiguity, IsAmbiguity, Problem, polynomials, units_in, Budget, Completion, Step, Went, Closed, Stopped, Waiting, each_in_turn, Recorded, generator_work, first_of, InTurn, InTwoPasses, EndsWith, units_first, AreAllPending, IsNextStore, ambiguities_of, first_word, HasRecords, RunState, Outcome, went, closed, stopped, Setting, start, recorded, taken_count, Ends, TreatsFirst, TreatsPending, IsRound, IsRoundZero, IsRunState, setting_of, IsBudget, state_of, outcome_of, IsUnchanged, IsUnchangedAfter, IsGivingUp, IsRunOf, IsCompletionOf, contains-first}
 use Rattle.cofactor_trace.specs.declared.halt.Cause.TheVariants as cause
 use Rattle.cofactor_trace.specs.declared.halt.Place.TheVariants as place
-use Rattle.rule_reduce.specs.declared.rule.Rule.{Rule}
-use Rattle.rule_reduce.specs.RuleLists.{rule_at}
-use Rattle.rule_reduce.specs.declared.fault.ReduceFault.{ReduceFault}
 use Rattle.rule_reduce.specs.declared.fault.ReduceFault.TheVariants as fault
-use Rattle.ambiguities.specs.declared.ambiguity.Ambiguity.{Ambiguity}
-use Rattle.ambiguities.specs.Ambiguities.{IsAmbiguity}
-use Rattle.adjoint_rules.specs.declared.problem.Problem.{Problem}
-use Rattle.adjoint_rules.specs.Problem.{polynomials}
-use Rattle.adjoint_rules.specs.Parts.{units_in}
-use Rattle.traced_completion.specs.declared.budget.Budget.{Budget}
-use Rattle.traced_completion.specs.declared.completion.Completion.{Completion}
-use Rattle.traced_completion.specs.declared.completion.Step.{Step}
-use Rattle.traced_completion.specs.declared.completion.Step.TheVariants.{Went, Closed, Stopped}
-use Rattle.ambiguities.specs.declared.waiting.Waiting.{Waiting}
-use Rattle.traced_completion.specs.Results.{each_in_turn}
-use Rattle.rule_making.specs.Making.{Recorded}
-use Rattle.traced_completion.specs.Works.{generator_work, first_of, InTurn, InTwoPasses, EndsWith}
-use Rattle.traced_completion.specs.UnitsFirst.{units_first}
-use Rattle.traced_completion.specs.Pending.{AreAllPending, IsNextStore, ambiguities_of, first_word}
-use Rattle.rule_making.specs.Records.{HasRecords}
-use Rattle.traced_completion.specs.PlainRun.{RunState, Outcome, went, closed, stopped, Setting, start, recorded, taken_count, Ends, TreatsFirst, TreatsPending, IsRound, IsRoundZero, IsRunState, setting_of}
-use Rattle.traced_completion.specs.Completions.{IsBudget, state_of, outcome_of, IsUnchanged, IsUnchangedAfter, IsGivingUp, IsRunOf, IsCompletionOf}
-use Rattle.ambiguities.proofs.Ascending.{contains-first}
 use Rattle.traced_completion.proofs.StoreLemmas.{nothing-at_first, taken-ambiguities}
 
 -- a completion that stays

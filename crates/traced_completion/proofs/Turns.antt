@@ -1,14 +1,6 @@
 -- Works one after another.
-use Rattle.std.proofs.Common.{◌≡◌, ◌≤◌, ℕ, suc, List, [], ◌∷◌, ◌++◌, length, map, take, Option, Some, None, Result, Ok, Err, refl, sym, ap, ◌∙◌, subst, arith}
-use Rattle.std.proofs.lemmas.List.{length-append, length-take, take-append-le}
-use Rattle.word_orders.specs.Admissible.{Compare}
-use Rattle.traced_rows.specs.declared.Made.{Made}
-use Rattle.rule_reduce.specs.declared.rule.Rule.{Rule}
-use Rattle.rule_reduce.specs.declared.fault.ReduceFault.{ReduceFault}
+use Rattle.traced_completion.proofs.Prelude.{◌≡◌, ◌≤◌, ℕ, suc, List, [], ◌∷◌, ◌++◌, length, map, take, Option, Some, None, Result, Ok, Err, refl, sym, ap, ◌∙◌, subst, arith, length-append, length-take, take-append-le, Compare, Made, Rule, ReduceFault, Explains, Recorded, Rest, Adds, Work, First, second_work, Does, Goes, InTurn, InTwoPasses, EndsWith}
 use Rattle.rule_reduce.specs.declared.fault.ReduceFault.TheVariants as fault
-use Rattle.traced_completion.specs.Results.{Explains}
-use Rattle.rule_making.specs.Making.{Recorded, Rest, Adds}
-use Rattle.traced_completion.specs.Works.{Work, First, second_work, Does, Goes, InTurn, InTwoPasses, EndsWith}
 
 -- a list that is a prefix of another stays one with one more item
 pub front_stays : {X : Type 0} (xs ys : List X) (x : X) → take (length xs) ys ≡ xs → take (length xs) (ys ++ x ∷ []) ≡ xs

@@ -1,32 +1,8 @@
 -- A round has one outcome, and a run one state after each number of rounds.
-use Rattle.std.proofs.Common.{◌≡◌, ◌≢◌, ℕ, zero, suc, ℤ, pos, negsuc, neg_ℤ, ◌+ℤ◌, ◌*ℤ◌, List, [], ◌∷◌, ◌++◌, length, map, take, Bool, true, false, leb, Option, Some, None, Result, Ok, Err, refl, sym, ap, ap₂, ◌∙◌, subst, arith}
+use Rattle.traced_completion.proofs.Prelude.{◌≡◌, ◌≢◌, ℕ, zero, suc, ℤ, pos, negsuc, neg_ℤ, ◌+ℤ◌, ◌*ℤ◌, List, [], ◌∷◌, ◌++◌, length, map, take, Bool, true, false, leb, Option, Some, None, Result, Ok, Err, refl, sym, ap, ap₂, ◌∙◌, subst, arith, ints, *ℤ_comm, *ℤ-neg_ℤ, *ℤ-+ℤ, *ℤ_zero, Term, poly_multiple, Compare, IsAdmissible, IsCanonical, Poly, Made, Cause, Rule, ReduceFault, rule_from, one_content, Ambiguity, Waiting, each_in_turn, Recorded, Rest, leads_negative, IsMadeFrom, Adds, Work, generator_work, First, first_of, Goes, InTurn, InTwoPasses, second_work, ambiguities_of, Setting, RunState, Outcome, went, stopped, IsCauseOf, Ends, recorded, IsTreated, TreatsFirst, TreatsPending, IsRoundZero, IsLaterRound, IsRound, taken_count, RoundsAreUnique, StatesAreUnique, signed, signed_nonzero}
 use Rattle.std.proofs.Props as std
-use Rattle.std.proofs.lemmas.Int.{ints}
-use Rattle.std.proofs.Math.IntN.{*ℤ_comm}
-use Rattle.definitions.proofs.Integers.{*ℤ-neg_ℤ}
-use Rattle.definitions.proofs.Integers.{*ℤ-+ℤ}
-use Rattle.definitions.proofs.Integers.{*ℤ_zero}
-use Rattle.definitions.specs.Poly.{Term, poly_multiple}
-use Rattle.word_orders.specs.Admissible.{Compare, IsAdmissible}
-use Rattle.nc_polynomial.specs.Shape.{IsCanonical}
-use Rattle.nc_polynomial.specs.declared.poly.Poly.{Poly}
-use Rattle.traced_rows.specs.declared.Made.{Made}
-use Rattle.cofactor_trace.specs.declared.halt.Cause.{Cause}
 use Rattle.cofactor_trace.specs.declared.halt.Place.TheVariants as place
-use Rattle.rule_reduce.specs.declared.rule.Rule.{Rule}
-use Rattle.rule_reduce.specs.declared.fault.ReduceFault.{ReduceFault}
 use Rattle.rule_reduce.specs.declared.fault.ReduceFault.TheVariants as fault
-use Rattle.rule_reduce.specs.RuleLists.{rule_from}
-use Rattle.rule_reduce.proofs.MadeRules.{one_content}
-use Rattle.ambiguities.specs.declared.ambiguity.Ambiguity.{Ambiguity}
-use Rattle.ambiguities.specs.declared.waiting.Waiting.{Waiting}
-use Rattle.traced_completion.specs.Results.{each_in_turn}
-use Rattle.rule_making.specs.Making.{Recorded, Rest, leads_negative, IsMadeFrom, Adds}
-use Rattle.traced_completion.specs.Works.{Work, generator_work, First, first_of, Goes, InTurn, InTwoPasses, second_work}
-use Rattle.traced_completion.specs.Pending.{ambiguities_of}
-use Rattle.traced_completion.specs.PlainRun.{Setting, RunState, Outcome, went, stopped, IsCauseOf, Ends, recorded, IsTreated, TreatsFirst, TreatsPending, IsRoundZero, IsLaterRound, IsRound, taken_count}
-use Rattle.traced_completion.specs.RunLaws.{RoundsAreUnique, StatesAreUnique}
-use Rattle.rule_making.proofs.Quotients.{signed, signed_nonzero}
 use Rattle.traced_completion.proofs.StoreLemmas.{stores-unique}
 
 -- rules

@@ -7,14 +7,16 @@ pub returns-then-not-is_tight-clause-loose : goal.returns-then-not-is_tight-clau
 returns-then-not-is_tight-clause-loose g c =
     let items = c.args.items.now in
     let i = c.loop-item.item-index in
-    let is : to_z w128 (of_z w128 c.args.denominator) ≡ c.args.denominator = search rules in
-    (record {
-      before = i;
-      item = c.item-item.result;
-      there = slice_get_read items (length items) i c.item-item.result refl c.loop-item-test.true c.item-item.is;
-      earlier = subst (λ z. All (g.I.Scaled.tight z) (take i items)) is c.loop-item.invariant.tight;
-      fails = λ tight. clash c.is_tight.result (c.is_tight.ensures.1 (subst (λ z. g.I.Scaled.tight z c.item-item.result) (sym is) tight)) c.if-not-is_tight.true;
-    }, omega arith)
+    let is : to_z w128 (of_z w128 c.args.denominator) ≡ c.args.denominator = search rules in (
+      record {
+        before = i;
+        item = c.item-item.result;
+        there = slice_get_read items (length items) i c.item-item.result refl c.loop-item-test.true c.item-item.is;
+        earlier = subst (λ z. All (g.I.Scaled.tight z) (take i items)) is c.loop-item.invariant.tight;
+        fails = λ tight. clash c.is_tight.result (c.is_tight.ensures.1 (subst (λ z. g.I.Scaled.tight z c.item-item.result) (sym is) tight)) c.if-not-is_tight.true;
+      },
+      omega arith,
+    )
 
 pub returns-clause-tight : goal.returns-clause-tight
 returns-clause-tight g c =

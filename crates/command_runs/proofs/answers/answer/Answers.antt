@@ -1,9 +1,4 @@
-use Rattle.std.proofs.Common.{◌≡◌, ◌∙◌, ◌≤◌, ℕ, List, [], length, sym, subst, rules, arith}
-use Rattle.command_shape.specs.declared.call.Call.{Call}
-use Rattle.command_shape.specs.FileWords.{statement_limit, evidence_limit}
-use Rattle.command_shape.proofs.Stops.{memory_ends}
-use Rattle.command_runs.specs.CallFiles.{written_by}
-use Rattle.command_runs.specs.Answers.{Answers}
+use Rattle.command_runs.proofs.Prelude.{◌≡◌, ◌∙◌, ◌≤◌, ℕ, List, [], length, sym, subst, rules, arith, Call, statement_limit, evidence_limit, memory_ends, written_by, Answers}
 use Rattle.command_runs.proofs.Commands.{answered, are_contents, are_short, other_default, no_item}
 use Rattle.command_runs.proofs.answers.answer.Goals as goal
 

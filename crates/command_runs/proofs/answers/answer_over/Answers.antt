@@ -1,6 +1,4 @@
-use Rattle.std.proofs.Common.{◌≡◌, Err, rules}
-use Rattle.command_runs.specs.Answers.{AnswersOver}
-use Rattle.stated_problem.proofs.Over.{refused_statement_ends, stated_ends}
+use Rattle.command_runs.proofs.Prelude.{◌≡◌, Err, rules, AnswersOver, refused_statement_ends, stated_ends}
 use Rattle.command_runs.proofs.answers.answer_over.Goals as goal
 
 -- the statement is refused

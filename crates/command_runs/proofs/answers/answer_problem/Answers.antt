@@ -1,11 +1,4 @@
-use Rattle.std.proofs.Common.{sym, subst}
-use Rattle.adjoint_rules.specs.declared.problem.Problem.{Problem}
-use Rattle.command_shape.specs.declared.call.Call.{Call}
-use Rattle.report_text.specs.Report.{report_of}
-use Rattle.prove_command.specs.declared.prove.Asked.{Asked}
-use Rattle.command_runs.specs.Answers.{AnswersOver}
-use Rattle.prove_command.specs.Answers.{asked_by, AnswersClaims}
-use Rattle.command_shape.specs.Stop.{EndsAs}
+use Rattle.command_runs.proofs.Prelude.{sym, subst, Problem, Call, report_of, Asked, AnswersOver, asked_by, AnswersClaims, EndsAs}
 use Rattle.command_runs.proofs.answers.answer_problem.Goals as goal
 
 pub returns-in-Prove : goal.returns-in-Prove

@@ -1,12 +1,4 @@
-use Rattle.std.proofs.Common.{◌≡◌, ◌∙◌, ◌≤◌, ℕ, List, IfOk, length, sym, subst, ap, rules, arith}
-use Rattle.std.proofs.lemmas.Result.{IfOk-weaker}
-use Rattle.command_shape.specs.Calls.{IsInRange}
-use Rattle.command_shape.specs.declared.call.Call.{Call}
-use Rattle.command_shape.specs.declared.call.Call.TheVariants.{Bench}
-use Rattle.report_text.specs.Bench.{bench_statement}
-use Rattle.command_shape.specs.FileWords.{statement_limit}
-use Rattle.prove_command.proofs.BenchSize.{bench_fits}
-use Rattle.command_runs.specs.CallFiles.{written_by}
+use Rattle.command_runs.proofs.Prelude.{◌≡◌, ◌∙◌, ◌≤◌, ℕ, List, IfOk, length, sym, subst, ap, rules, arith, IfOk-weaker, IsInRange, Call, Bench, bench_statement, statement_limit, bench_fits, written_by}
 use Rattle.command_runs.proofs.Commands.{no_file_written}
 use Rattle.command_runs.proofs.answers.write_statement.Goals as goal
 

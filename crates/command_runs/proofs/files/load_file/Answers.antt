@@ -1,8 +1,4 @@
-use Rattle.std.proofs.Common.{Err, inl, inr, sym, ap, subst, ◌∙◌}
-use Rattle.flow_io.specs.Told.{MayExceed}
-use Rattle.flow_io.specs.Shelf.{LoadAnswers}
-use Rattle.command_shape.specs.Ending.{load_failed, too_long}
-use Rattle.command_runs.specs.Files.{RoseAt, AreLoaded}
+use Rattle.command_runs.proofs.Prelude.{Err, inl, inr, sym, ap, subst, ◌∙◌, MayExceed, LoadAnswers, load_failed, too_long, RoseAt, AreLoaded}
 use Rattle.command_runs.proofs.files.load_file.Goals as goal
 
 pub returns-in-Ok-clause-loaded : goal.returns-in-Ok-clause-loaded

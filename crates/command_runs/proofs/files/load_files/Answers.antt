@@ -1,11 +1,4 @@
-use Rattle.std.proofs.Common.{◌≡◌, ◌+◌, ◌++◌, ◌∷◌, [], ℕ, List, Err, take, drop, subst, sym, ◌∙◌, arith, rules}
-use Rattle.flow_io.specs.Told.{Told}
-use Rattle.command_shape.specs.declared.files.FileWord.{FileWord}
-use Rattle.command_shape.specs.Ending.{Ending}
-use Rattle.command_runs.specs.Files.{AreLoaded, EndsAtFile, AfterFiles, WereLoaded, RoseAt}
-use Rattle.command_shape.specs.Stop.{StopsBy}
-use Rattle.command_shape.proofs.Places.{take-at, splits-at}
-use Rattle.command_shape.proofs.Stops.{stops_weaker, handed_on}
+use Rattle.command_runs.proofs.Prelude.{◌≡◌, ◌+◌, ◌++◌, ◌∷◌, [], ℕ, List, Err, take, drop, subst, sym, ◌∙◌, arith, rules, Told, FileWord, Ending, AreLoaded, EndsAtFile, AfterFiles, WereLoaded, RoseAt, StopsBy, take-at, splits-at, stops_weaker, handed_on}
 use Rattle.command_runs.proofs.AfterFiles.{ends_earlier, after_ended, loaded_more}
 use Rattle.command_runs.proofs.files.load_files.Goals as goal
 

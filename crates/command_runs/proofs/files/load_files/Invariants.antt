@@ -1,5 +1,4 @@
-use Rattle.std.proofs.Common.{◌≡◌, ◌≤◌, ℕ, List, take}
-use Rattle.command_runs.specs.Files.{WereLoaded}
+use Rattle.command_runs.proofs.Prelude.{◌≡◌, ◌≤◌, ℕ, List, take, WereLoaded}
 use Rattle.command_runs.proofs.files.load_files.Given as goal
 
 -- the files before the place were loaded; what the shelf tells of files stays, and no count fell

@@ -1,12 +1,5 @@
-use Rattle.std.proofs.Common.{◌≡◌, ℕ, List, Err, sym, subst, rules}
-use Rattle.flow_io.specs.Told.{Told}
-use Rattle.command_shape.specs.declared.files.FileWord.{FileWord}
-use Rattle.command_runs.specs.CallFiles.{files_of}
-use Rattle.command_shape.specs.Ending.{Ending}
-use Rattle.command_runs.specs.Files.{AfterFiles, WereLoaded, RoseAt}
-use Rattle.command_runs.specs.Answers.{Answers}
+use Rattle.command_runs.proofs.Prelude.{◌≡◌, ℕ, List, Err, sym, subst, rules, Told, FileWord, files_of, Ending, AfterFiles, WereLoaded, RoseAt, Answers, stops_weaker, ends_weaker, ended_by}
 use Rattle.command_runs.proofs.AfterFiles.{after_weaker, after_loaded}
-use Rattle.command_shape.proofs.Stops.{stops_weaker, ends_weaker, ended_by}
 use Rattle.command_runs.proofs.whole_run.answer_call.Goals as goal
 
 -- the run ends at a file

@@ -1,12 +1,4 @@
-use Rattle.std.proofs.Common.{ℕ, List}
-use Rattle.flow_io.specs.Told.{Told}
-use Rattle.command_shape.specs.declared.call.Call.{Call}
-use Rattle.command_runs.specs.CallFiles.{files_of}
-use Rattle.command_runs.specs.Call.{IsCalled}
-use Rattle.command_runs.specs.Files.{AfterFiles, RoseAt}
-use Rattle.command_runs.specs.Answers.{Answers}
-use Rattle.command_runs.specs.Ends.{MayEnd, called}
-use Rattle.command_shape.proofs.Stops.{ends_weaker}
+use Rattle.command_runs.proofs.Prelude.{ℕ, List, Told, Call, files_of, IsCalled, AfterFiles, RoseAt, Answers, MayEnd, called, ends_weaker}
 use Rattle.command_runs.proofs.whole_run.answer_words.Goals as goal
 
 -- the words are a call

@@ -1,9 +1,4 @@
-use Rattle.std.proofs.Common.{◌≡◌, Err, rules}
-use Rattle.lists.specs.declared.stop.Stop.TheVariants.{Fault}
-use Rattle.command_shape.specs.Ending.{Ending}
-use Rattle.command_runs.specs.Files.{RoseAt}
-use Rattle.command_runs.specs.Ends.{MayEnd}
-use Rattle.command_shape.proofs.Stops.{ended_as}
+use Rattle.command_runs.proofs.Prelude.{◌≡◌, Err, rules, Fault, Ending, RoseAt, MayEnd, ended_as}
 use Rattle.command_runs.proofs.whole_run.ending_of.Goals as goal
 
 pub returns-in-Err-Fault : goal.returns-in-Err-Fault

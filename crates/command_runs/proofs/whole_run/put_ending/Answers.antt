@@ -1,8 +1,4 @@
-use Rattle.std.proofs.Common.{refl, subst, List, ℕ, take, arith}
-use Rattle.std.specs.Io.KnownBytes.{Appends}
-use Rattle.flow_io.specs.Causes.{Rose}
-use Rattle.flow_io.specs.Sink.{written_of}
-use Rattle.command_runs.specs.Put.{in_part}
+use Rattle.command_runs.proofs.Prelude.{refl, subst, List, ℕ, take, arith, Appends, Rose, written_of, in_part}
 use Rattle.command_runs.proofs.Prefix.{whole_prefix}
 use Rattle.command_runs.proofs.whole_run.put_ending.Goals as goal
 

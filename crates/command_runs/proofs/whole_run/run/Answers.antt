@@ -1,4 +1,4 @@
-use Rattle.command_runs.specs.Seen.{seen}
+use Rattle.command_runs.proofs.Prelude.{seen}
 use Rattle.command_runs.proofs.Endings.{reported, sink_failed, cut_short, never_six, only_usage, told_other_words, not_loaded, told_missing, told_too_long, answered, complete, meaning, meant}
 use Rattle.command_runs.proofs.whole_run.run.Goals as goal
 

@@ -1,8 +1,5 @@
-use Rattle.std.proofs.Common.{rules, ◌≡◌, ◌++◌, [], ◌∷◌, Ok, Err, length, sym, ap, subst, ◌∙◌, arith}
-use Rattle.std.specs.Vec.Iter.{into_iter_items}
+use Rattle.traced_completion.proofs.Prelude.{rules, ◌≡◌, ◌++◌, [], ◌∷◌, Ok, Err, length, sym, ap, subst, ◌∙◌, arith, into_iter_items, nil_from_length, append-nil, Explains}
 use Rattle.std.specs.Result.{MatchResult}
-use Rattle.std.proofs.lemmas.List.{nil_from_length, append-nil}
-use Rattle.traced_completion.specs.Results.{Explains}
 use Rattle.traced_completion.proofs.InOrder.{join, values, join-nil, value-next, explains-itself}
 use Rattle.traced_completion.proofs.first_reductions.collect_answers.Goals as goal
 

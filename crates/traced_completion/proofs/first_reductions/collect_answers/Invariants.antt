@@ -1,5 +1,4 @@
-use Rattle.std.proofs.Common.{◌≡◌, length}
-use Rattle.std.specs.Vec.Iter.{into_iter_items, into_iter_len}
+use Rattle.traced_completion.proofs.Prelude.{◌≡◌, length, into_iter_items, into_iter_len}
 use Rattle.traced_completion.proofs.InOrder.{join, values}
 use Rattle.traced_completion.proofs.first_reductions.collect_answers.Given as goal
 

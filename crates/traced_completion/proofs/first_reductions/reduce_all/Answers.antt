@@ -1,6 +1,5 @@
 use Rattle.traced_completion.proofs.FirstReductions.{firsts_exact, firsts_kept, one_for_each}
-use Rattle.traced_completion.specs.Results.{each_in_turn, Explains}
-use Rattle.traced_completion.specs.Works.{first_of}
+use Rattle.traced_completion.proofs.Prelude.{each_in_turn, Explains, first_of}
 use Rattle.traced_completion.proofs.first_reductions.reduce_all.Goals as goal
 
 pub returns-clause-exact : goal.returns-clause-exact

@@ -1,10 +1,4 @@
-use Rattle.std.proofs.Common.{rules, ◌≡◌, Ok, length, sym, subst}
-use Rattle.std.specs.List.{All}
-use Rattle.coef_int.specs.Range.{IsCoefficient}
-use Rattle.traced_rows.specs.declared.Row.{Row}
-use Rattle.cofactor_trace.specs.Needed.{IsAmongFirst}
-use Rattle.ambiguities.specs.SPolynomials.{s_rows_of, s_polynomial_of}
-use Rattle.traced_completion.specs.Reductions.{plain, IsKept}
+use Rattle.traced_completion.proofs.Prelude.{rules, ◌≡◌, Ok, length, sym, subst, All, IsCoefficient, Row, IsAmongFirst, s_rows_of, s_polynomial_of, plain, IsKept}
 use Rattle.traced_completion.proofs.NonemptyWords.{nonempty_s}
 use Rattle.traced_completion.proofs.KeptReductions.{s_rows_named}
 use Rattle.traced_completion.proofs.first_reductions.reduce_first.Goals as goal

@@ -1,4 +1,4 @@
-use Rattle.std.proofs.Common.{arith}
+use Rattle.traced_completion.proofs.Prelude.{arith}
 use Rattle.traced_completion.proofs.GeneratorWorks.{unit_turn, other_turn}
 use Rattle.traced_completion.proofs.generators.number_in_turn.Goals as goal
 

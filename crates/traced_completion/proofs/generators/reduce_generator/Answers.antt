@@ -1,12 +1,5 @@
-use Rattle.std.proofs.Common.{rules, ◌≡◌, ◌<◌, ◌-◌, length, get_or, List, Err, sym, subst, arith}
-use Rattle.rule_reduce.specs.declared.fault.ReduceFault.TheVariants.{Memory}
-use Rattle.traced_rows.specs.declared.Row.{Row}
-use Rattle.adjoint_rules.specs.Problem.{polynomials}
-use Rattle.rule_making.specs.Making.{Recorded, IsExtended}
-use Rattle.traced_completion.specs.Works.{generator_rows}
-use Rattle.traced_completion.specs.Reductions.{plain, IsKept, IsReducible}
+use Rattle.traced_completion.proofs.Prelude.{rules, ◌≡◌, ◌<◌, ◌-◌, length, get_or, List, Err, sym, subst, arith, Memory, Row, polynomials, Recorded, IsExtended, generator_rows, plain, IsKept, IsReducible, AreNamed}
 use Rattle.traced_completion.proofs.GeneratorWorks.{generator_is, generator_fault, nothing_left, rest_made}
-use Rattle.rule_making.proofs.Records.{AreNamed}
 use Rattle.traced_completion.proofs.Records.{generator_named}
 use Rattle.traced_completion.proofs.generators.reduce_generator.Goals as goal
 

@@ -1,12 +1,4 @@
-use Rattle.std.proofs.Common.{rules, ◌≡◌, ◌+◌, ◌∷◌, length, map, take, drop, Ok, refl, sym, ap, ◌∙◌, subst, arith}
-use Rattle.std.proofs.lemmas.List.{take_all}
-use Rattle.std.specs.List.{All}
-use Rattle.adjoint_rules.specs.Problem.{polynomials}
-use Rattle.traced_completion.specs.Results.{Explains}
-use Rattle.rule_making.specs.Making.{Recorded}
-use Rattle.traced_completion.specs.Works.{generator_work, Does, InTurn}
-use Rattle.traced_completion.specs.UnitsFirst.{units_first}
-use Rattle.traced_completion.specs.Reductions.{IsReducible}
+use Rattle.traced_completion.proofs.Prelude.{rules, ◌≡◌, ◌+◌, ◌∷◌, length, map, take, drop, Ok, refl, sym, ap, ◌∙◌, subst, arith, take_all, All, polynomials, Explains, Recorded, generator_work, Does, InTurn, units_first, IsReducible}
 use Rattle.traced_completion.proofs.Turns.{does_grows, goes_well, ends_with, ends_weaker}
 use Rattle.traced_completion.proofs.GeneratorWorks.{turns_left, no_turns_left}
 use Rattle.traced_completion.proofs.generators.reduce_generators.Goals as goal

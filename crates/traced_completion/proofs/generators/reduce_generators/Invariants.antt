@@ -1,10 +1,4 @@
-use Rattle.std.proofs.Common.{◌≡◌, ◌≤◌, ◌+◌, length, map, take, drop, Result}
-use Rattle.rule_reduce.specs.declared.fault.ReduceFault.{ReduceFault}
-use Rattle.adjoint_rules.specs.Problem.{polynomials}
-use Rattle.rule_making.specs.Making.{Recorded}
-use Rattle.traced_completion.specs.Works.{generator_work, InTurn}
-use Rattle.traced_completion.specs.UnitsFirst.{units_first}
-use Rattle.rule_making.specs.Records.{HasRecords}
+use Rattle.traced_completion.proofs.Prelude.{◌≡◌, ◌≤◌, ◌+◌, length, map, take, drop, Result, ReduceFault, polynomials, Recorded, generator_work, InTurn, units_first, HasRecords}
 use Rattle.traced_completion.proofs.generators.reduce_generators.Given as goal
 
 -- how the works that are left end by the rules so far, all works end by the rules from before

@@ -1,13 +1,5 @@
-use Rattle.std.proofs.Common.{rules, ◌≡◌, ◌≤◌, ◌∷◌, length, take, map, Err, IfErr, refl, sym, subst, arith, ap, ◌∙◌}
-use Rattle.std.specs.List.{All}
-use Rattle.std.specs.Vec.Iter.{into_iter_items}
-use Rattle.std.proofs.lemmas.List.{length-take, take_all}
-use Rattle.std.proofs.lemmas.List.Elements.{All-head, All-tail}
+use Rattle.traced_completion.proofs.Prelude.{rules, ◌≡◌, ◌≤◌, ◌∷◌, length, take, map, Err, IfErr, refl, sym, subst, arith, ap, ◌∙◌, All, into_iter_items, length-take, take_all, All-head, All-tail, Explains, Recorded, second_work, Does, InTurn, EndsWith, plain_first, IsKeptFirst}
 use Rattle.traced_completion.specs.declared.first_reductions.First.{First}
-use Rattle.traced_completion.specs.Results.{Explains}
-use Rattle.rule_making.specs.Making.{Recorded}
-use Rattle.traced_completion.specs.Works.{second_work, Does, InTurn, EndsWith}
-use Rattle.traced_completion.specs.Reductions.{plain_first, IsKeptFirst}
 use Rattle.traced_completion.proofs.Records.{first_more}
 use Rattle.traced_completion.proofs.Turns.{does_grows, goes_well, ends_with, ends_weaker}
 use Rattle.traced_completion.proofs.passes.treat_all.Goals as goal

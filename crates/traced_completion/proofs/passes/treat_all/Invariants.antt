@@ -1,11 +1,4 @@
-use Rattle.std.proofs.Common.{◌≡◌, ◌≤◌, ◌+◌, length, map, take, Result}
-use Rattle.std.specs.List.{All}
-use Rattle.std.specs.Vec.Iter.{into_iter_items, into_iter_len}
-use Rattle.rule_reduce.specs.declared.fault.ReduceFault.{ReduceFault}
-use Rattle.rule_making.specs.Making.{Recorded}
-use Rattle.traced_completion.specs.Works.{second_work, InTurn}
-use Rattle.rule_making.specs.Records.{HasRecords}
-use Rattle.traced_completion.specs.Reductions.{plain_first, IsKeptFirst}
+use Rattle.traced_completion.proofs.Prelude.{◌≡◌, ◌≤◌, ◌+◌, length, map, take, Result, All, into_iter_items, into_iter_len, ReduceFault, Recorded, second_work, InTurn, HasRecords, plain_first, IsKeptFirst}
 use Rattle.traced_completion.proofs.passes.treat_all.Given as goal
 
 -- how the works that are left end by the rules so far, all works end by the rules from before

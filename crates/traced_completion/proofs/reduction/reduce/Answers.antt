@@ -1,4 +1,4 @@
-use Rattle.rule_reduce.specs.NormalForms.{normal_form_of, ExplainsHalt}
+use Rattle.traced_completion.proofs.Prelude.{normal_form_of, ExplainsHalt}
 use Rattle.traced_completion.proofs.KeptReductions.{each_kept}
 use Rattle.traced_completion.proofs.reduction.reduce.Goals as goal
 

@@ -1,4 +1,4 @@
-use Rattle.std.proofs.Common.{◌≡◌, ◌++◌, take}
+use Rattle.traced_completion.proofs.Prelude.{◌≡◌, ◌++◌, take}
 use Rattle.traced_completion.proofs.rounds.push_treated.Given as goal
 
 abbrev pub invariant-loop-which : goal.invariant-loop-which

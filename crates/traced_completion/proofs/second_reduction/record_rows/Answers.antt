@@ -1,9 +1,4 @@
-use Rattle.std.proofs.Common.{rules, ◌≡◌, Ok, Err, sym, subst, ◌∙◌}
-use Rattle.coef_int.specs.Operations.{first_overflow}
-use Rattle.rule_reduce.specs.Steps.{row_operations}
-use Rattle.traced_completion.specs.Results.{Explains, unless_overflow}
-use Rattle.traced_completion.specs.Works.{less_rows, first_rows}
-use Rattle.traced_completion.specs.Reductions.{plain, plain_first}
+use Rattle.traced_completion.proofs.Prelude.{rules, ◌≡◌, Ok, Err, sym, subst, ◌∙◌, first_overflow, row_operations, Explains, unless_overflow, less_rows, first_rows, plain, plain_first}
 use Rattle.traced_completion.proofs.RowChains.{first_fault, second_left}
 use Rattle.traced_completion.proofs.second_reduction.record_rows.Goals as goal
 

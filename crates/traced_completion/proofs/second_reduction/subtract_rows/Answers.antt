@@ -1,9 +1,4 @@
-use Rattle.std.proofs.Common.{rules, ◌≡◌, ◌++◌, map, None, Some, Ok, Err, sym, ap, ◌∙◌}
-use Rattle.coef_int.specs.Operations.{first_overflow}
-use Rattle.rule_reduce.specs.declared.fault.ReduceFault.TheVariants.{Memory}
-use Rattle.rule_reduce.specs.Steps.{multiplied_row, row_operations}
-use Rattle.traced_completion.specs.Results.{unless_overflow}
-use Rattle.traced_completion.specs.Works.{less_rows}
+use Rattle.traced_completion.proofs.Prelude.{rules, ◌≡◌, ◌++◌, map, None, Some, Ok, Err, sym, ap, ◌∙◌, first_overflow, Memory, multiplied_row, row_operations, unless_overflow, less_rows}
 use Rattle.traced_completion.proofs.second_reduction.subtract_rows.Goals as goal
 
 pub returns-in_ok-join_rows-in-Ok-clause-exact : goal.returns-in_ok-join_rows-in-Ok-clause-exact

@@ -1,14 +1,6 @@
-use Rattle.std.proofs.Common.{rules, ◌≡◌, ◌<◌, length, Err, sym, subst}
-use Rattle.std.specs.List.{All}
-use Rattle.word_core.specs.Letters.{IsOver}
-use Rattle.nc_polynomial.specs.declared.poly.Poly.{Poly}
-use Rattle.rule_reduce.specs.declared.fault.ReduceFault.TheVariants.{Memory}
-use Rattle.traced_completion.specs.Works.{second_rows, rows_operations}
-use Rattle.traced_completion.specs.Reductions.{plain, plain_first, IsKept}
+use Rattle.traced_completion.proofs.Prelude.{rules, ◌≡◌, ◌<◌, length, Err, sym, subst, All, IsOver, Poly, Memory, second_rows, rows_operations, plain, plain_first, IsKept, Recorded, IsExtended, AreNamed}
 use Rattle.traced_completion.proofs.RowChains.{value_of}
 use Rattle.traced_completion.proofs.SecondWorks.{nothing_first, nothing_second, second_fault, rows_fault, second_made}
-use Rattle.rule_making.specs.Making.{Recorded, IsExtended}
-use Rattle.rule_making.proofs.Records.{AreNamed}
 use Rattle.traced_completion.proofs.Records.{second_named}
 use Rattle.traced_completion.proofs.second_reduction.treat.Goals as goal
 

@@ -1,14 +1,4 @@
-use Rattle.std.proofs.Common.{rules, ◌≡◌, ◌<◌, ◌≤◌, ◌+◌, ◌++◌, length, take, Ok, Err, refl, sym, ap, ◌∙◌, subst, arith}
-use Rattle.std.proofs.lemmas.Result.{IfOk-weaker}
-use Rattle.std.proofs.lemmas.List.{length-append}
-use Rattle.word_orders.specs.Specified.{made_cmp, letters_of}
-use Rattle.ambiguities.specs.Ambiguities.{IsAmbiguity}
-use Rattle.ambiguities.specs.declared.waiting.Waiting.{Waiting}
-use Rattle.traced_completion.specs.Results.{each_in_turn}
-use Rattle.traced_completion.specs.Works.{first_of, InTwoPasses}
-use Rattle.traced_completion.specs.Pending.{ambiguities_of, first_word}
-use Rattle.traced_completion.specs.PlainRun.{RunState, IsRound, setting_of, taken_count, went, stopped, recorded}
-use Rattle.traced_completion.specs.Completions.{state_of, IsUnchanged, IsGivingUp}
+use Rattle.traced_completion.proofs.Prelude.{rules, ◌≡◌, ◌<◌, ◌≤◌, ◌+◌, ◌++◌, length, take, Ok, Err, refl, sym, ap, ◌∙◌, subst, arith, IfOk-weaker, length-append, made_cmp, letters_of, IsAmbiguity, Waiting, each_in_turn, first_of, InTwoPasses, ambiguities_of, first_word, RunState, IsRound, setting_of, taken_count, went, stopped, recorded, state_of, IsUnchanged, IsGivingUp}
 use Rattle.traced_completion.proofs.StoreLemmas.{pending-all, pending-over}
 use Rattle.traced_completion.proofs.Transitions.{stays_completion, on_error, stays_after, taken_back, waiting_made, closed_for_none, spent_outcome, treated_outcome, next_run, given_up, not_spent, is_spent, taken_length}
 use Rattle.traced_completion.proofs.completion.Completion.round.Goals as goal

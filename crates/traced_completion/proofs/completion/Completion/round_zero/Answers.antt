@@ -1,14 +1,4 @@
-use Rattle.std.proofs.Common.{◌≡◌, ◌+◌, length, map, take, None, Ok, sym, ap, ◌∙◌, subst, arith}
-use Rattle.std.proofs.lemmas.Result.{IfOk-weaker}
-use Rattle.std.proofs.lemmas.List.{append-nil}
-use Rattle.word_orders.specs.Specified.{made_cmp}
-use Rattle.adjoint_rules.specs.Problem.{polynomials}
-use Rattle.adjoint_rules.specs.Parts.{units_in}
-use Rattle.traced_completion.specs.Works.{generator_work, InTurn}
-use Rattle.traced_completion.specs.UnitsFirst.{units_first}
-use Rattle.traced_completion.specs.Pending.{IsNextStore, first_word}
-use Rattle.traced_completion.specs.PlainRun.{RunState, went, recorded}
-use Rattle.traced_completion.specs.Completions.{state_of, IsGivingUp}
+use Rattle.traced_completion.proofs.Prelude.{◌≡◌, ◌+◌, length, map, take, None, Ok, sym, ap, ◌∙◌, subst, arith, IfOk-weaker, append-nil, made_cmp, polynomials, units_in, generator_work, InTurn, units_first, IsNextStore, first_word, RunState, went, recorded, state_of, IsGivingUp}
 use Rattle.traced_completion.proofs.ReducibleGenerators.{generators_reducible}
 use Rattle.traced_completion.proofs.Transitions.{none_waiting, no_rules, zero_outcome, next_run, given_up}
 use Rattle.traced_completion.proofs.completion.Completion.round_zero.Goals as goal

@@ -1,6 +1,4 @@
-use Rattle.std.proofs.Common.{rules, ◌≡◌, ◌≤◌, ℕ, List, Err, sym, subst, arith}
-use Rattle.word_orders.specs.Specified.{asked_cmp, made_cmp, letters_of}
-use Rattle.quiver.specs.Declarations.{letter_count}
+use Rattle.traced_completion.proofs.Prelude.{rules, ◌≡◌, ◌≤◌, ℕ, List, Err, sym, subst, arith, asked_cmp, made_cmp, letters_of, letter_count}
 use Rattle.traced_completion.proofs.Transitions.{first_run}
 use Rattle.traced_completion.proofs.completion.Completion.start.Goals as goal
 

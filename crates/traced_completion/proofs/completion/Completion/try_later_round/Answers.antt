@@ -1,19 +1,4 @@
-use Rattle.std.proofs.Common.{rules, ◌≡◌, List, ◌++◌, length, map, take, Ok, Err, sym, subst, arith, ap, ◌∙◌}
-use Rattle.std.specs.List.{All}
-use Rattle.std.proofs.lemmas.List.{length-map, length-take}
-use Rattle.std.proofs.lemmas.List.Elements.{All-map, All-take}
-use Rattle.word_core.specs.Letters.{IsOver}
-use Rattle.word_orders.specs.Specified.{made_cmp, letters_of}
-use Rattle.rule_reduce.specs.declared.fault.ReduceFault.TheVariants.{Memory}
-use Rattle.ambiguities.specs.Ambiguities.{IsAmbiguity}
-use Rattle.ambiguities.specs.declared.ambiguity.Ambiguity.{Ambiguity}
-use Rattle.ambiguities.specs.declared.waiting.Waiting.{Waiting}
-use Rattle.traced_completion.specs.Results.{Explains, each_in_turn}
-use Rattle.traced_completion.specs.Works.{first_of}
-use Rattle.traced_completion.specs.Reductions.{plain_first}
-use Rattle.traced_completion.specs.Pending.{IsNextStore, ambiguities_of}
-use Rattle.traced_completion.specs.PlainRun.{recorded}
-use Rattle.traced_completion.specs.Completions.{state_of}
+use Rattle.traced_completion.proofs.Prelude.{rules, ◌≡◌, List, ◌++◌, length, map, take, Ok, Err, sym, subst, arith, ap, ◌∙◌, All, length-map, length-take, All-map, All-take, IsOver, made_cmp, letters_of, Memory, IsAmbiguity, Ambiguity, Waiting, Explains, each_in_turn, first_of, plain_first, IsNextStore, ambiguities_of, recorded, state_of}
 use Rattle.traced_completion.proofs.Turns.{first_ends, second_goes, second_ends}
 use Rattle.traced_completion.proofs.completion.Completion.try_later_round.Goals as goal
 

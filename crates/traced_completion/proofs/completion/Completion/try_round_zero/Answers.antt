@@ -1,17 +1,4 @@
-use Rattle.std.proofs.Common.{rules, ◌≡◌, length, map, Ok, Err, sym, ap, subst, arith}
-use Rattle.std.specs.List.{All}
-use Rattle.word_core.specs.Letters.{IsOver}
-use Rattle.word_orders.specs.Specified.{made_cmp, letters_of}
-use Rattle.rule_reduce.specs.declared.fault.ReduceFault.TheVariants.{Memory}
-use Rattle.rule_making.specs.Making.{Recorded}
-use Rattle.ambiguities.specs.declared.waiting.Waiting.{Waiting}
-use Rattle.adjoint_rules.specs.Problem.{polynomials}
-use Rattle.adjoint_rules.proofs.Counted.{few_units_closed}
-use Rattle.traced_completion.specs.Works.{generator_work, InTurn, EndsWith}
-use Rattle.traced_completion.specs.UnitsFirst.{units_first}
-use Rattle.traced_completion.specs.PlainRun.{recorded}
-use Rattle.traced_completion.specs.Completions.{state_of}
-use Rattle.traced_completion.specs.Pending.{IsNextStore}
+use Rattle.traced_completion.proofs.Prelude.{rules, ◌≡◌, length, map, Ok, Err, sym, ap, subst, arith, All, IsOver, made_cmp, letters_of, Memory, Recorded, Waiting, polynomials, few_units_closed, generator_work, InTurn, EndsWith, units_first, recorded, state_of, IsNextStore}
 use Rattle.traced_completion.proofs.completion.Completion.try_round_zero.Goals as goal
 
 pub reduce_generators-requires-clause-units : goal.reduce_generators-requires-clause-units

@@ -1,8 +1,4 @@
-use Rattle.std.proofs.Common.{◌≡◌, ◌<◌, ℕ, List, [], length, get_or, refl, sym, ap, ◌∙◌}
-use Rattle.std.proofs.lemmas.List.{get_or_default}
-use Rattle.std.proofs.lemmas.Option.{slice_get_read}
-use Rattle.ambiguities.specs.declared.waiting.Waiting.{Waiting}
-use Rattle.traced_completion.specs.Blocks.{joined}
+use Rattle.traced_completion.proofs.Prelude.{◌≡◌, ◌<◌, ℕ, List, [], length, get_or, refl, sym, ap, ◌∙◌, get_or_default, slice_get_read, Waiting, joined}
 use Rattle.traced_completion.proofs.BlockLemmas.{found-block, found-item}
 use Rattle.traced_completion.proofs.pending.blocks.at_place.Goals as goal
 

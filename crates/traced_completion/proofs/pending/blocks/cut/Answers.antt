@@ -1,7 +1,4 @@
-use Rattle.std.proofs.Common.{◌≡◌, ◌+◌, ◌<◌, ◌≤◌, ℕ, List, [], length, take, get_or, sym, ap, subst, ◌∙◌, arith}
-use Rattle.std.specs.List.{All}
-use Rattle.ambiguities.specs.declared.waiting.Waiting.{Waiting}
-use Rattle.traced_completion.specs.Blocks.{joined}
+use Rattle.traced_completion.proofs.Prelude.{◌≡◌, ◌+◌, ◌<◌, ◌≤◌, ℕ, List, [], length, take, get_or, sym, ap, subst, ◌∙◌, arith, All, Waiting, joined}
 use Rattle.traced_completion.proofs.BlockLemmas.{further-block, whole-front, joined-split, nonempty-split, split-front}
 use Rattle.traced_completion.proofs.pending.blocks.cut.Goals as goal
 

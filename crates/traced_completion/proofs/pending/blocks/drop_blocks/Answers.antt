@@ -1,5 +1,4 @@
-use Rattle.std.proofs.Common.{rules, ◌≡◌, ◌-◌, ◌++◌, length, take, drop, ◌∙◌}
-use Rattle.std.proofs.lemmas.List.{take_at, length-drop}
+use Rattle.traced_completion.proofs.Prelude.{rules, ◌≡◌, ◌-◌, ◌++◌, length, take, drop, ◌∙◌, take_at, length-drop}
 use Rattle.traced_completion.proofs.pending.blocks.drop_blocks.Goals as goal
 
 pub returns : goal.returns

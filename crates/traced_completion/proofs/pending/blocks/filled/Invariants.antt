@@ -1,5 +1,4 @@
-use Rattle.std.proofs.Common.{◌≡◌, ◌+◌, ◌-◌, ◌≤◌, length, take}
-use Rattle.traced_completion.specs.Blocks.{joined}
+use Rattle.traced_completion.proofs.Prelude.{◌≡◌, ◌+◌, ◌-◌, ◌≤◌, length, take, joined}
 use Rattle.traced_completion.proofs.pending.blocks.filled.Given as goal
 
 -- the blocks that were passed have as many as aren't left

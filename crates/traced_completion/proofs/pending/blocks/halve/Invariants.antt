@@ -1,6 +1,4 @@
-use Rattle.std.proofs.Common.{◌≡◌, ◌<◌, ◌≤◌, length}
-use Rattle.std.specs.List.{All}
-use Rattle.traced_completion.specs.Blocks.{joined}
+use Rattle.traced_completion.proofs.Prelude.{◌≡◌, ◌<◌, ◌≤◌, length, All, joined}
 use Rattle.traced_completion.proofs.pending.blocks.halve.Given as goal
 
 -- the ambiguities are as they were

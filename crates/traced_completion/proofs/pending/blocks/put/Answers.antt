@@ -1,10 +1,4 @@
-use Rattle.std.proofs.Common.{rules, ◌≡◌, ◌<◌, ◌≤◌, ◌+◌, ◌-◌, ℕ, List, [], length, set, get_or, ap, subst, ◌∙◌}
-use Rattle.std.specs.List.{insert}
-use Rattle.std.specs.declared.cmp.Ordering.TheVariants.{Less}
-use Rattle.ambiguities.specs.declared.waiting.Waiting.{Waiting}
-use Rattle.std.proofs.lemmas.List.{get_or_default}
-use Rattle.ambiguities.specs.Order.{waiting_cmp}
-use Rattle.traced_completion.specs.Blocks.{IsUpTo, last_of}
+use Rattle.traced_completion.proofs.Prelude.{rules, ◌≡◌, ◌<◌, ◌≤◌, ◌+◌, ◌-◌, ℕ, List, [], length, set, get_or, ap, subst, ◌∙◌, insert, Less, Waiting, get_or_default, waiting_cmp, IsUpTo, last_of}
 use Rattle.traced_completion.proofs.pending.blocks.put.Goals as goal
 
 pub returns-clause-ok : goal.returns-clause-ok

@@ -1,14 +1,4 @@
-use Rattle.std.proofs.Common.{rules, ◌≡◌, ℕ, List, [], ◌∷◌, ◌++◌, length, drop, refl, sym, ap, subst, ◌∙◌, arith}
-use Rattle.std.specs.List.{All}
-use Rattle.std.specs.List.Sorted.{IsPermutation}
-use Rattle.std.specs.Vec.{vec_len}
-use Rattle.std.specs.Vec.Iter.{into_iter_items}
-use Rattle.std.proofs.lemmas.List.{append_assoc, append-nil}
-use Rattle.std.proofs.lemmas.List.Elements.{All-head, All-tail}
-use Rattle.std.proofs.lemmas.List.Sorted.{IsPermutation-refl}
-use Rattle.word_core.specs.Letters.{IsOver}
-use Rattle.ambiguities.specs.declared.waiting.Waiting.{Waiting}
-use Rattle.traced_completion.specs.Blocks.{IsPut, joined, restored, taken_out}
+use Rattle.traced_completion.proofs.Prelude.{rules, ◌≡◌, ℕ, List, [], ◌∷◌, ◌++◌, length, drop, refl, sym, ap, subst, ◌∙◌, arith, All, IsPermutation, vec_len, into_iter_items, append_assoc, append-nil, All-head, All-tail, IsPermutation-refl, IsOver, Waiting, IsPut, joined, restored, taken_out}
 use Rattle.traced_completion.proofs.BlockLemmas.{restored-more, put-taken_out, filled-more}
 use Rattle.traced_completion.proofs.pending.blocks.put_all.Goals as goal
 

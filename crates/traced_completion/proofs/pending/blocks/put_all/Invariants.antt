@@ -1,10 +1,4 @@
-use Rattle.std.proofs.Common.{◌≡◌, ◌+◌, ◌++◌, List, length}
-use Rattle.std.specs.List.{All}
-use Rattle.std.specs.Vec.{vec_capacity, vec_len}
-use Rattle.std.specs.Vec.Iter.{into_iter_items, into_iter_len}
-use Rattle.word_core.specs.Letters.{IsOver}
-use Rattle.ambiguities.specs.declared.waiting.Waiting.{Waiting}
-use Rattle.traced_completion.specs.Blocks.{IsFilled, restored}
+use Rattle.traced_completion.proofs.Prelude.{◌≡◌, ◌+◌, ◌++◌, List, length, All, vec_capacity, vec_len, into_iter_items, into_iter_len, IsOver, Waiting, IsFilled, restored}
 use Rattle.traced_completion.proofs.pending.blocks.put_all.Given as goal
 
 -- the ambiguities that were passed are put, and can be taken out again

@@ -1,10 +1,4 @@
-use Rattle.std.proofs.Common.{rules, ◌≡◌, ◌≤◌, ◌++◌, ◌∷◌, [], List, length, drop, sym, ap, subst, ◌∙◌}
-use Rattle.std.specs.List.{AllPairs}
-use Rattle.std.specs.List.Sorted.{IsPermutation}
-use Rattle.std.proofs.lemmas.List.Sorted.{IsPermutation-refl}
-use Rattle.ambiguities.specs.declared.waiting.Waiting.{Waiting}
-use Rattle.traced_completion.specs.Blocks.{IsUpTo}
-use Rattle.traced_completion.specs.Blocks.{joined}
+use Rattle.traced_completion.proofs.Prelude.{rules, ◌≡◌, ◌≤◌, ◌++◌, ◌∷◌, [], List, length, drop, sym, ap, subst, ◌∙◌, AllPairs, IsPermutation, IsPermutation-refl, Waiting, IsUpTo, joined}
 use Rattle.traced_completion.proofs.BlockLemmas.{pushed-behind, nothing-behind}
 use Rattle.traced_completion.proofs.pending.blocks.put_behind.Goals as goal
 

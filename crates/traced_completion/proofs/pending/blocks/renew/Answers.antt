@@ -1,10 +1,4 @@
-use Rattle.std.proofs.Common.{◌≡◌, ◌≤◌, ◌++◌, ℕ, List, length, take, drop, sym, ap, subst, ◌∙◌}
-use Rattle.std.specs.List.{All, AllPairs}
-use Rattle.std.specs.List.Sorted.{IsPermutation}
-use Rattle.word_core.specs.Letters.{IsOver}
-use Rattle.ambiguities.specs.declared.waiting.Waiting.{Waiting}
-use Rattle.traced_completion.specs.Blocks.{IsUpTo}
-use Rattle.traced_completion.specs.Blocks.{joined}
+use Rattle.traced_completion.proofs.Prelude.{◌≡◌, ◌≤◌, ◌++◌, ℕ, List, length, take, drop, sym, ap, subst, ◌∙◌, All, AllPairs, IsPermutation, IsOver, Waiting, IsUpTo, joined}
 use Rattle.traced_completion.proofs.BlockLemmas.{all-blocks, rest-behind}
 use Rattle.traced_completion.proofs.pending.blocks.renew.Goals as goal
 

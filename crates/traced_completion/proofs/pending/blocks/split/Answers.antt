@@ -1,7 +1,4 @@
-use Rattle.std.proofs.Common.{◌≡◌, suc, ◌+◌, List, [], ◌∷◌, ◌++◌, length, take, drop, set, get_or, sym, ap, ap₂, ◌∙◌, arith}
-use Rattle.std.specs.List.{insert}
-use Rattle.std.proofs.lemmas.List.{append_assoc, length-append, length-take-le, set_split, take_at, drop_at, get_or_default}
-use Rattle.ambiguities.specs.declared.waiting.Waiting.{Waiting}
+use Rattle.traced_completion.proofs.Prelude.{◌≡◌, suc, ◌+◌, List, [], ◌∷◌, ◌++◌, length, take, drop, set, get_or, sym, ap, ap₂, ◌∙◌, arith, insert, append_assoc, length-append, length-take-le, set_split, take_at, drop_at, get_or_default, Waiting}
 use Rattle.traced_completion.proofs.pending.blocks.split.Goals as goal
 
 pub returns-clause-ok : goal.returns-clause-ok

@@ -1,8 +1,4 @@
-use Rattle.std.proofs.Common.{rules, ◌≡◌, ◌≤◌, ◌<◌, ℕ, List, [], ◌∷◌, ◌++◌, length, set, get_or, sym, ap, ◌∙◌}
-use Rattle.std.specs.List.{remove}
-use Rattle.std.proofs.lemmas.List.{get_or_default, set_past}
-use Rattle.ambiguities.specs.declared.waiting.Waiting.{Waiting}
-use Rattle.traced_completion.specs.Blocks.{restored}
+use Rattle.traced_completion.proofs.Prelude.{rules, ◌≡◌, ◌≤◌, ◌<◌, ℕ, List, [], ◌∷◌, ◌++◌, length, set, get_or, sym, ap, ◌∙◌, remove, get_or_default, set_past, Waiting, restored}
 use Rattle.traced_completion.proofs.BlockLemmas.{restored-more}
 use Rattle.traced_completion.proofs.pending.blocks.take_out.Goals as goal
 

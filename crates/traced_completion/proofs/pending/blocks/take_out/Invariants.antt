@@ -1,5 +1,4 @@
-use Rattle.std.proofs.Common.{◌≡◌, length}
-use Rattle.traced_completion.specs.Blocks.{restored}
+use Rattle.traced_completion.proofs.Prelude.{◌≡◌, length, restored}
 use Rattle.traced_completion.proofs.pending.blocks.take_out.Given as goal
 
 -- without what is left to take out, the blocks are what they are to become

@@ -1,10 +1,4 @@
-use Rattle.std.proofs.Common.{◌≡◌, ℕ, ◌+◌, ◌-◌, ◌<◌, List, [], length, get_or, false, sym, ◌∙◌, subst, arith}
-use Rattle.std.specs.Ordering.{is_lt}
-use Rattle.std.specs.declared.cmp.Ordering.TheVariants.{Less}
-use Rattle.std.proofs.lemmas.List.{get_or_default}
-use Rattle.ambiguities.specs.declared.waiting.Waiting.{Waiting}
-use Rattle.ambiguities.specs.Order.{waiting_cmp}
-use Rattle.traced_completion.specs.Blocks.{IsUpTo, last_of}
+use Rattle.traced_completion.proofs.Prelude.{◌≡◌, ℕ, ◌+◌, ◌-◌, ◌<◌, List, [], length, get_or, false, sym, ◌∙◌, subst, arith, is_lt, Less, get_or_default, Waiting, waiting_cmp, IsUpTo, last_of}
 use Rattle.traced_completion.proofs.pending.finding.block_for.Goals as goal
 
 pub loop-low-preserved : goal.loop-low-preserved

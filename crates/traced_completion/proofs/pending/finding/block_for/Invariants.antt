@@ -1,8 +1,4 @@
-use Rattle.std.proofs.Common.{◌≡◌, ◌+◌, ◌-◌, ◌<◌, ◌≤◌, [], length, slice_index_or}
-use Rattle.std.specs.declared.cmp.Ordering.TheVariants.{Less}
-use Rattle.ambiguities.specs.declared.waiting.Waiting.{Waiting}
-use Rattle.ambiguities.specs.Order.{waiting_cmp}
-use Rattle.traced_completion.specs.Blocks.{IsUpTo, last_of}
+use Rattle.traced_completion.proofs.Prelude.{◌≡◌, ◌+◌, ◌-◌, ◌<◌, ◌≤◌, [], length, slice_index_or, Less, Waiting, waiting_cmp, IsUpTo, last_of}
 use Rattle.traced_completion.proofs.pending.finding.block_for.Given as goal
 
 -- the last one of the block before the lower end isn't above, and that of the upper end's is

@@ -1,10 +1,4 @@
-use Rattle.std.proofs.Common.{◌≡◌, ℕ, ◌+◌, ◌-◌, ◌<◌, ◌/◌, length, get_or, false, sym, ap, ◌∙◌, subst, arith}
-use Rattle.std.specs.Ordering.{is_lt}
-use Rattle.std.specs.declared.cmp.Ordering.TheVariants.{Less}
-use Rattle.std.proofs.lemmas.List.{get_or_default}
-use Rattle.ambiguities.specs.declared.waiting.Waiting.{Waiting}
-use Rattle.ambiguities.specs.Order.{waiting_cmp}
-use Rattle.traced_completion.specs.Blocks.{IsUpTo}
+use Rattle.traced_completion.proofs.Prelude.{◌≡◌, ℕ, ◌+◌, ◌-◌, ◌<◌, ◌/◌, length, get_or, false, sym, ap, ◌∙◌, subst, arith, is_lt, Less, get_or_default, Waiting, waiting_cmp, IsUpTo}
 use Rattle.traced_completion.proofs.pending.finding.first_above.Goals as goal
 
 pub loop-low-preserved : goal.loop-low-preserved

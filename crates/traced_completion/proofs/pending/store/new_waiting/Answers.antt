@@ -1,13 +1,4 @@
-use Rattle.std.proofs.Common.{rules, ◌≡◌, ◌≢◌, ◌↔◌, ◌≤◌, ◌+◌, length, sym, subst}
-use Rattle.std.specs.List.{All, AllPairs, Contains}
-use Rattle.std.proofs.lemmas.List.Elements.{All-weaker, All-contains_itself}
-use Rattle.std.proofs.lemmas.Result.{IfOk-weaker}
-use Rattle.ambiguities.specs.declared.ambiguity.Ambiguity.{Ambiguity}
-use Rattle.ambiguities.specs.Ambiguities.{IsAmbiguity}
-use Rattle.ambiguities.specs.Listed.{IsBefore, IsAmbiguityFrom}
-use Rattle.ambiguities.specs.Order.{AreInOrder}
-use Rattle.ambiguities.proofs.Ascending.{distinct-pairs}
-use Rattle.ambiguities.proofs.Comparing.{ambiguity_not_before_itself}
+use Rattle.traced_completion.proofs.Prelude.{rules, ◌≡◌, ◌≢◌, ◌↔◌, ◌≤◌, ◌+◌, length, sym, subst, All, AllPairs, Contains, All-weaker, All-contains_itself, IfOk-weaker, Ambiguity, IsAmbiguity, IsBefore, IsAmbiguityFrom, AreInOrder, distinct-pairs, ambiguity_not_before_itself}
 use Rattle.traced_completion.proofs.Renewing.{before-up_to}
 use Rattle.traced_completion.proofs.StoreLemmas.{nothing-new, new-in_order, new-over}
 use Rattle.traced_completion.proofs.pending.store.new_waiting.Goals as goal

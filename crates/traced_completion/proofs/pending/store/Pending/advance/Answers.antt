@@ -1,13 +1,4 @@
-use Rattle.std.proofs.Common.{rules, ◌≡◌, ◌+◌, ◌-◌, ◌++◌, List, length, drop, sym, ap, subst, ◌∙◌}
-use Rattle.std.specs.List.{All}
-use Rattle.std.specs.List.Sorted.{IsPermutation}
-use Rattle.std.proofs.lemmas.List.{length-append, length-drop}
-use Rattle.std.proofs.lemmas.List.Elements.{All-append, All-drop}
-use Rattle.std.proofs.lemmas.List.Sorted.{All-permutation, length_permutation}
-use Rattle.word_core.specs.Letters.{IsOver}
-use Rattle.ambiguities.specs.declared.waiting.Waiting.{Waiting}
-use Rattle.traced_completion.specs.Pending.{IsNextStore}
-use Rattle.traced_completion.specs.Blocks.{joined}
+use Rattle.traced_completion.proofs.Prelude.{rules, ◌≡◌, ◌+◌, ◌-◌, ◌++◌, List, length, drop, sym, ap, subst, ◌∙◌, All, IsPermutation, length-append, length-drop, All-append, All-drop, All-permutation, length_permutation, IsOver, Waiting, IsNextStore, joined}
 use Rattle.traced_completion.proofs.Renewing.{renewed-store}
 use Rattle.traced_completion.proofs.pending.store.Pending.advance.Goals as goal
 

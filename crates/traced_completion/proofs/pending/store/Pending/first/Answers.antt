@@ -1,7 +1,4 @@
-use Rattle.std.proofs.Common.{◌≡◌, List, [], ◌∷◌, ◌++◌, get_or, sym, ap₂, ◌∙◌}
-use Rattle.std.proofs.lemmas.List.{map_more}
-use Rattle.std.proofs.lemmas.Option.{get_or_from_slice_get, slice_get_within}
-use Rattle.ambiguities.specs.declared.waiting.Waiting.{Waiting}
+use Rattle.traced_completion.proofs.Prelude.{◌≡◌, List, [], ◌∷◌, ◌++◌, get_or, sym, ap₂, ◌∙◌, map_more, get_or_from_slice_get, slice_get_within, Waiting}
 use Rattle.traced_completion.proofs.pending.store.Pending.first.Goals as goal
 
 pub loop-place-preserved : goal.loop-place-preserved

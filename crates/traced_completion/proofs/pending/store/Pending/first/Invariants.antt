@@ -1,5 +1,4 @@
-use Rattle.std.proofs.Common.{◌≡◌, take}
-use Rattle.traced_completion.specs.Pending.{ambiguities_of}
+use Rattle.traced_completion.proofs.Prelude.{◌≡◌, take, ambiguities_of}
 use Rattle.traced_completion.proofs.pending.store.Pending.first.Given as goal
 
 -- the ones that were passed
