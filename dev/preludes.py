@@ -3,7 +3,8 @@
 
 `proofs/Prelude.antt` of a crate names each lemma and definition of std, of the crates below and of the crate's own definitions that its
 proofs take; a file of proofs takes them from there, and else only names of its crate's own proofs. A name with two meanings in a crate has
-the one that more files take in the prelude, and files with the other import that one themselves.
+one in the prelude, that which more files take when it gets there, and files with the other import that one themselves. So do the files that
+definitions stand on.
 
 Prints each file that takes a name past its prelude, and each name of a prelude that no file takes; the status is 1 where there is one.
 With --write the preludes and the imports are written anew.
@@ -16,7 +17,7 @@ import sys
 from collections import Counter, defaultdict
 from functools import lru_cache
 from pathlib import Path
-from typing import Dict, Iterator, List, NamedTuple, Optional, Tuple
+from typing import Dict, Iterator, List, NamedTuple, Optional, Set, Tuple
 
 TOP = Path(__file__).resolve().parents[1]
 CRATES = TOP / "crates"
@@ -37,6 +38,12 @@ class Item(NamedTuple):
         return self.name if self.given == self.name else f"{self.given} as {self.name}"
 
 
+@lru_cache(maxsize=None)
+def crates() -> List[str]:
+    """The crates, each after those that it stands on."""
+    return [re.split(r"[: ]", line)[0] for line in (TOP / "crates.txt").read_text(encoding="utf-8").splitlines() if line]
+
+
 def kit() -> Path:
     """The sources of std, which pass on names of their own; `rt` stands beside them."""
     command = shutil.which("rt")
@@ -54,28 +61,57 @@ def items(line: str) -> Tuple[bool, List[Item]]:
     return bool(found[1]), [Item(found[2], given, name or given) for given, _, name in parts]
 
 
+def lines_of(path: str) -> List[str]:
+    """The lines of the module of this path, or none where it is declared by code."""
+    inner = "/".join(path.split(".")[1:]) + ".antt"
+    file = next((it for it in (CRATES / inner, kit() / inner) if it.is_file()), None)
+    return file.read_text(encoding="utf-8").splitlines() if file else []
+
+
+@lru_cache(maxsize=None)
+def home(path: str) -> str:
+    """The module that the path means, where a crate passes on one of another crate as its own."""
+    start, _, rest = path.replace(".", "/", 2).partition(".")
+    listing = start.replace("/", ".") + ".Lib"
+    passed = (re.match(r"pub use (Rattle\.\S+)\.(\w+)$", line) for line in lines_of(listing))
+    module = rest.split(".")[0]
+    other = next((found[1] for found in passed if found and found[2] == module), None)
+    return home(f"{other}.{rest}") if other else path
+
+
 @lru_cache(maxsize=None)
 def passed_on(path: str) -> Dict[str, Meaning]:
     """The names that the module of this path passes on, with what they are."""
-    inner = "/".join(path.split(".")[1:]) + ".antt"
-    file = next((it for it in (CRATES / inner, kit() / inner) if it.is_file()), None)
-    lines = file.read_text(encoding="utf-8").splitlines() if file else []
-    return {it.name: (it.path, it.given) for is_public, found in map(items, lines) if is_public for it in found}
+    return {it.name: (it.path, it.given) for is_public, found in map(items, lines_of(path)) if is_public for it in found}
 
 
 def meaning(item: Item) -> Meaning:
     """The module and the name under which the item was defined."""
-    now: Meaning = (item.path, item.given)
-    while now[1] in passed_on(now[0]):
-        now = passed_on(now[0])[now[1]]
-    return now
+    path, name = home(item.path), item.given
+    while name in passed_on(path):
+        path, name = passed_on(path)[name]
+        path = home(path)
+    return path, name
+
+
+@lru_cache(maxsize=None)
+def cited() -> Set[str]:
+    """The modules of proofs that definitions stand on: whoever reads those reads these too, so they import by themselves what they take."""
+    found: Set[str] = set()
+    texts = [file.read_text(encoding="utf-8").splitlines() for file in CRATES.glob("*/specs/**/*.antt")]
+    while texts:
+        modules = {meaning(it)[0] for line in texts.pop() for it in items(line)[1]}
+        new = {path for path in modules if path.split(".")[2] == "proofs" and path.split(".")[1] in crates()} - found
+        texts += [lines_of(path) for path in new]
+        found |= new
+    return found
 
 
 class Room:
     """The proofs of a crate."""
 
-    def __init__(self, crate: str, order: List[str]) -> None:
-        self.crate, self.order = crate, order
+    def __init__(self, crate: str) -> None:
+        self.crate = crate
         self.folder = CRATES / crate / "proofs"
         self.prelude, self.path = self.folder / "Prelude.antt", f"Rattle.{crate}.proofs.Prelude"
         self.texts = {file: file.read_text(encoding="utf-8").splitlines() for file in self.files()}
@@ -83,7 +119,8 @@ class Room:
         self.chosen = self.choice()
 
     def files(self) -> Iterator[Path]:
-        return (file for file in sorted(self.folder.rglob("*.antt")) if file.name != "Lib.antt" and file != self.prelude)
+        own = (file for file in sorted(self.folder.rglob("*.antt")) if file.name != "Lib.antt" and file != self.prelude)
+        return (file for file in own if f"Rattle.{self.crate}.proofs.{file.stem}" not in cited())
 
     def taken(self, line: str) -> List[Item]:
         """What the line imports that a prelude may name, whether it takes it from there or not."""
@@ -102,9 +139,12 @@ class Room:
         old = {it.name: it for line in self.written() for it in items(line)[1]}
         chosen: Dict[str, Item] = {}
         for name, found in counts.items():
-            means = max(found, key=lambda it: (found[it], it))
-            again, found_by = old.get(name), ways[name, means]
-            chosen[name] = again if again and meaning(again) == means else max(found_by, key=lambda it: (found_by[it], it))
+            again = old.get(name)
+            if again and found[meaning(again)]:
+                chosen[name] = again
+            else:
+                found_by = ways[name, max(found, key=lambda it: (found[it], it))]
+                chosen[name] = max(found_by, key=lambda it: (found_by[it], it))
         return chosen
 
     def written(self) -> List[str]:
@@ -113,7 +153,7 @@ class Room:
     def rank(self, path: str) -> Tuple[int, int, str]:
         """Modules of std come first, then those of the crates below, then the crate's own."""
         crate = path.split(".")[1]
-        below = self.order.index(crate) if crate in self.order else -1
+        below = crates().index(crate) if crate in crates() else -1
         return (1 + (crate == self.crate) if below >= 0 else 0, below, path)
 
     def names(self) -> List[str]:
@@ -159,11 +199,9 @@ class Room:
 
 
 def main() -> int:
-    order = [re.split(r"[: ]", line)[0] for line in (TOP / "crates.txt").read_text(encoding="utf-8").splitlines() if line]
     changes: Dict[Path, List[str]] = {}
-    for crate in order:
-        if (CRATES / crate / "proofs").is_dir():
-            changes.update(Room(crate, order).changes())
+    for crate in (it for it in crates() if (CRATES / it / "proofs").is_dir()):
+        changes.update(Room(crate).changes())
     if sys.argv[1:] == ["--write"]:
         for file, lines in changes.items():
             file.write_text("".join(f"{line}\n" for line in lines), encoding="utf-8")

@@ -1,6 +1,5 @@
 -- Texts one after another, and texts of several parts: written blocks, comments and blocks of other kinds.
-use Rattle.block_text.proofs.Prelude.{◌≡◌, ◌≤◌, ◌<◌, ◌+◌, ◌==◌, ℕ, zero, suc, Bool, true, false, not, cond, ◌||◌, List, [], ◌∷◌, ◌++◌, arith, refl, sym, ap, ◌∙◌, subst, length, get_or, take, map, codes, IsTrue, All, AllZip, list_all, list_any, onto_first, slice_split, IsUtf8, lines, strip_carriage_return, and_parts, or_parts, flat_map-append, length-append, append-nil, append_assoc, All-nil, All-cons, All-head, All-tail, All-append, All-weaker, All-map, All-filter, slice_split_at, AllPass-from_list_all, bytes_eq-Decides, IsUtf8-append, IsUtf8-from_is_utf8, is_utf8-from_IsUtf8, is_line_end, goes_on, begins_comment, tokens_of, is_skipped, Line, OtherTokens, block_limit, is, is_end, content, end_line, Kind, Block, own, other_block, own_in, block_lines, IsBlock, TextBound, on_block, on_count, Keeps, bounds, is_other_head, HasBlocks, is_whole, is_inside, IsLineText, IsBodyLine, Part, block, comment, part_text, values_in, IsPart, AllZip-append, zip_length}
-use Rattle.std.proofs.Common.{flat_map}
+use Rattle.block_text.proofs.Prelude.{◌≡◌, ◌≤◌, ◌<◌, ◌+◌, ◌==◌, ℕ, zero, suc, Bool, true, false, not, cond, ◌||◌, List, [], ◌∷◌, ◌++◌, arith, refl, sym, ap, ◌∙◌, subst, length, get_or, take, map, codes, IsTrue, All, AllZip, list_all, list_any, onto_first, slice_split, IsUtf8, lines, strip_carriage_return, and_parts, or_parts, flat_map-append, length-append, append-nil, append_assoc, All-nil, All-cons, All-head, All-tail, All-append, All-weaker, All-map, All-filter, slice_split_at, AllPass-from_list_all, bytes_eq-Decides, IsUtf8-append, IsUtf8-from_is_utf8, is_utf8-from_IsUtf8, is_line_end, goes_on, begins_comment, tokens_of, is_skipped, Line, OtherTokens, block_limit, is, is_end, content, end_line, Kind, Block, own, other_block, own_in, block_lines, IsBlock, TextBound, on_block, on_count, Keeps, bounds, is_other_head, HasBlocks, is_whole, is_inside, IsLineText, IsBodyLine, Part, block, comment, part_text, values_in, IsPart, AllZip-append, zip_length, flat_map}
 use Rattle.block_text.specs.Back.{ended, other}
 use Rattle.block_text.proofs.ContentBack.{IsTextOf, no_text, content-append, text-append, text_of_line, text_of_tokens, whole_line, whole_append}
 use Rattle.block_text.proofs.Cuts.{part_is_line}

@@ -1,6 +1,6 @@
 -- What the lines that were read are: whole blocks and the first lines of one more.
-use Rattle.block_text.proofs.Prelude.{◌≡◌, ◌<◌, ◌⊎◌, ℕ, Bool, true, false, List, [], ◌∷◌, ◌++◌, Option, Some, None, Result, Ok, Err, arith, refl, sym, ap, ap₂, ◌∙◌, subst, length, map, nat_le, inl, inr, ⊤, All, AllZip, flat_map-append, map-append, All-nil, All-cons, All-push, All-append, All-map, All-weaker, Flaw, BadLine, Place, Progress, Line, OtherTokens, block_limit, is_end, end_line, Kind, Block, own, other, own_in, block_lines, IsBlock, IsOtherBlock, TextBound, on_block, on_count, AreBlocks, Keeps, bounds, flaw_of, is_other_head, GoesOn, Steps, progress, beginning, step, headed, finished, inside, AllZip-append, zip_length}
-use Rattle.std.proofs.Common.{length-append, leb-false, append_assoc, append-nil, flat_map}
+use Rattle.block_text.proofs.Prelude.{◌≡◌, ◌<◌, ◌⊎◌, ℕ, Bool, true, false, List, [], ◌∷◌, ◌++◌, Option, Some, None, Result, Ok, Err, arith, refl, sym, ap, ap₂, ◌∙◌, subst, length, map, nat_le, inl, inr, ⊤, All, AllZip, flat_map-append, map-append, All-nil, All-cons, All-push, All-append, All-map, All-weaker, Flaw, BadLine, Place, Progress, Line, OtherTokens, block_limit, is_end, end_line, Kind, Block, own, other, own_in, block_lines, IsBlock, IsOtherBlock, TextBound, on_block, on_count, AreBlocks, Keeps, bounds, flaw_of, is_other_head, GoesOn, Steps, progress, beginning, step, headed, finished, inside, AllZip-append, zip_length, flat_map}
+use Rattle.std.proofs.Common.{length-append, leb-false, append_assoc, append-nil}
 use Rattle.block_text.specs.declared.place.Place.TheVariants as at
 use Rattle.block_text.proofs.LineTrees.{end_is}
 use Rattle.block_text.proofs.Bounds.{before, listed}

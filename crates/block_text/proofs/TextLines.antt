@@ -1,6 +1,6 @@
 -- Texts whose blocks keep bounds are read.
-use Rattle.block_text.proofs.Prelude.{◌≡◌, ◌≤◌, ◌<◌, ◌+◌, ℕ, Bool, true, false, List, [], ◌∷◌, ◌++◌, Option, Some, None, Result, Ok, Err, arith, refl, sym, ap, ◌∙◌, subst, length, nat_le, All, AllZip, lt-leb, append_assoc, append-nil, All-head, All-tail, Flaw, BadLine, TooMany, Place, Progress, asked, Line, OtherTokens, block_limit, is_end, end_line, Kind, Block, own, other, own_in, block_lines, IsBlock, IsOtherBlock, TextBound, on_block, on_count, told_for, AreBlocks, Keeps, flaw_of, is_other_head, Steps, progress, beginning, step, AllZip-append, zip_length}
-use Rattle.std.proofs.Common.{leb-false, length-append, flat_map}
+use Rattle.block_text.proofs.Prelude.{◌≡◌, ◌≤◌, ◌<◌, ◌+◌, ℕ, Bool, true, false, List, [], ◌∷◌, ◌++◌, Option, Some, None, Result, Ok, Err, arith, refl, sym, ap, ◌∙◌, subst, length, nat_le, All, AllZip, lt-leb, append_assoc, append-nil, All-head, All-tail, Flaw, BadLine, TooMany, Place, Progress, asked, Line, OtherTokens, block_limit, is_end, end_line, Kind, Block, own, other, own_in, block_lines, IsBlock, IsOtherBlock, TextBound, on_block, on_count, told_for, AreBlocks, Keeps, flaw_of, is_other_head, Steps, progress, beginning, step, AllZip-append, zip_length, flat_map}
+use Rattle.std.proofs.Common.{leb-false, length-append}
 use Rattle.block_text.specs.declared.place.Place.TheVariants as at
 use Rattle.block_text.proofs.Owed.{read_inside, read_block, IsReader, told_for_none}
 use Rattle.block_text.proofs.Meets.{Meets, reads, passes, then_meets, meets-weaker}

@@ -1,6 +1,5 @@
 -- What an accepted proof shows.
-use Rattle.cancel_rules.proofs.Prelude.{ℕ, ℤ, List, [], ◌∷◌, ◌++◌, sym, ap, ◌∙◌, arith, ints, All-head, All-tail, coefficient_of, Quiver, generator_at, HasScale, IsTight, sums_agree, lemma_adds_up, Item, Cancellation, IsOfItem, AreOfItems, item_polynomial, item_polynomials, ItemPasses, ItemsPass, OfLemma, all_items, AcceptedCancellationLeads}
-use Rattle.std.specs.List.{All}
+use Rattle.cancel_rules.proofs.Prelude.{ℕ, ℤ, List, [], ◌∷◌, ◌++◌, sym, ap, ◌∙◌, arith, ints, All-head, All-tail, coefficient_of, Quiver, generator_at, HasScale, IsTight, sums_agree, lemma_adds_up, Item, Cancellation, IsOfItem, AreOfItems, item_polynomial, item_polynomials, ItemPasses, ItemsPass, OfLemma, all_items, AcceptedCancellationLeads, All}
 use Rattle.cancel_rules.specs.declared.cancellation.Item.TheVariants as item
 use Rattle.cancel_rules.proofs.Without.{put_back_stripped, words_left}
 

@@ -1,6 +1,5 @@
 -- Each polynomial is typed or not.
-use Rattle.cancel_rules.proofs.Prelude.{◌≡◌, ◌⊎◌, inl, inr, ℕ, ◌<◌, ◌≤◌, Bool, true, false, List, [], ◌∷◌, Option, Some, None, refl, sym, ap, subst, ◌∙◌, arith, cases_lt, All-nil, All-head, Term, Quiver, is_path, signature_of, IsTyped, HasSignature, signature_from_path, collected, coefficient_of-collected, descending-collected, nonzero-collected, distinct-descending, words_listed, typed_from_paths, each_decided}
-use Rattle.std.specs.List.{All}
+use Rattle.cancel_rules.proofs.Prelude.{◌≡◌, ◌⊎◌, inl, inr, ℕ, ◌<◌, ◌≤◌, Bool, true, false, List, [], ◌∷◌, Option, Some, None, refl, sym, ap, subst, ◌∙◌, arith, cases_lt, All-nil, All-head, Term, Quiver, is_path, signature_of, IsTyped, HasSignature, signature_from_path, collected, coefficient_of-collected, descending-collected, nonzero-collected, distinct-descending, words_listed, typed_from_paths, each_decided, All}
 
 module _ (q : Quiver) where
   -- each word is a path from u to v, or one isn't

@@ -1,6 +1,5 @@
 -- Blocks that keep bounds are read.
-use Rattle.cancellation_text.proofs.Prelude.{◌≡◌, ◌<◌, ◌≤◌, ◌+◌, ℕ, ℤ, false, List, [], ◌∷◌, ◌++◌, Some, None, Result, Ok, IsTrue, arith, refl, sym, ◌∙◌, subst, get_or, length, length-append, map, codes, add-zero, All, AllZip, lt-leb, append_assoc, append-nil, All-cons, All-head, All-tail, All-append, All-map, Letter, Declaration, CertRow, Lemma, LemmaRow, Left, Right, Item, Cancellation, Flaw, ◌>>=◌, is_number, number_within, number_limit, integer_limit, begins, integer_of, Line, claim_line, run, run-append, read_block, read_inside-run, Meets, reads, then_meets, meets-weaker, asked_meets, unless_meets, Size, RowTokens, row_limit, is_row, over_lemma, no_rows, ScaledTokens, row_line, denominator_line, goal_lines, IsWithin, IsScaledOf, lemma_of, lemma_row, GoesOn, lemma_row_takes, rows_go_on, behind_rows, integer_meets, scale_meets, RowsFit, with_rows, with_rows-append, rows_fit_parts, TakesRow, rows_meet, Opened, Stage, CalledTokens, CancelTokens, ItemTokens, lemma, cancel, CancellationTokens, called_line, cancel_line, item_lines, cancellation_lines, is_map_letter, known_letter, AreItems, IsItem, IsCancellationBlock, Bound, flaw_of, item_rows, rows_in, IsKnown, HasItemName, HasItemNumber, KeepsOne, IsItemOf, IsCancelOf, IsCancellationOf, called_tokens, letters_on, on_left, on_right, begun, resized, cancel_of, item_or_goal, next, finish, cancellation_steps}
-use Rattle.std.proofs.Common.{flat_map}
+use Rattle.cancellation_text.proofs.Prelude.{◌≡◌, ◌<◌, ◌≤◌, ◌+◌, ℕ, ℤ, false, List, [], ◌∷◌, ◌++◌, Some, None, Result, Ok, IsTrue, arith, refl, sym, ◌∙◌, subst, get_or, length, length-append, map, codes, add-zero, All, AllZip, lt-leb, append_assoc, append-nil, All-cons, All-head, All-tail, All-append, All-map, Letter, Declaration, CertRow, Lemma, LemmaRow, Left, Right, Item, Cancellation, Flaw, ◌>>=◌, is_number, number_within, number_limit, integer_limit, begins, integer_of, Line, claim_line, run, run-append, read_block, read_inside-run, Meets, reads, then_meets, meets-weaker, asked_meets, unless_meets, Size, RowTokens, row_limit, is_row, over_lemma, no_rows, ScaledTokens, row_line, denominator_line, goal_lines, IsWithin, IsScaledOf, lemma_of, lemma_row, GoesOn, lemma_row_takes, rows_go_on, behind_rows, integer_meets, scale_meets, RowsFit, with_rows, with_rows-append, rows_fit_parts, TakesRow, rows_meet, Opened, Stage, CalledTokens, CancelTokens, ItemTokens, lemma, cancel, CancellationTokens, called_line, cancel_line, item_lines, cancellation_lines, is_map_letter, known_letter, AreItems, IsItem, IsCancellationBlock, Bound, flaw_of, item_rows, rows_in, IsKnown, HasItemName, HasItemNumber, KeepsOne, IsItemOf, IsCancelOf, IsCancellationOf, called_tokens, letters_on, on_left, on_right, begun, resized, cancel_of, item_or_goal, next, finish, cancellation_steps, flat_map}
 use Rattle.cancel_rules.specs.declared.cancellation.Item.TheVariants as item
 use Rattle.cancellation_text.specs.declared.place.Stage.TheVariants as at
 use Rattle.cancellation_text.specs.Bounds as bound

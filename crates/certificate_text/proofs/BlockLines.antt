@@ -1,6 +1,6 @@
 -- Certificates that keep bounds are read.
-use Rattle.certificate_text.proofs.Prelude.{◌≡◌, ◌<◌, ◌≤◌, ◌+◌, ℕ, ℤ, pos, false, List, [], ◌∷◌, ◌++◌, Some, Result, Ok, Err, IsTrue, arith, refl, sym, subst, length, map, codes, add-zero, All, AllZip, option_map, lt-leb, append_assoc, append-nil, All-cons, All-head, All-tail, All-append, All-map, All-weaker, Declaration, CertRow, Lemma, Evidence, Format, Plain, Lemmas, Size, Opened, Stage, Flaw, ◌>>=◌, is_number, number_within, number_limit, integer_limit, begins, integer_of, Line, claim_line, is_end, RowTokens, row_limit, lemma_scale_of, goal_scale_of, is_value, is_row, row_values, over_lemma, no_rows, grown, ScaledTokens, LemmaTokens, PlainTokens, LemmasTokens, BlockTokens, row_line, denominator_line, lemma_lines, goal_lines, certificate_lines, IsBlock, IsPlainRow, AreLemmas, IsPlainBlock, IsLemmasBlock, Bound, flaw_of, IsWithin, HasNumbersOutside, rows_in, IsScaledOf, IsCertificateOf, KeepsOne, step, begun, finish, scaled, closed_by, resized, certificate_of, opened_of, lemma_of, lemma_row, certificate_steps, run, run-append, read_inside, read_block, read_inside-run, Meets, reads, then_meets, meets-weaker, asked_meets, unless_meets, AllZip-weaker}
-use Rattle.std.proofs.Common.{length-append, flat_map}
+use Rattle.certificate_text.proofs.Prelude.{◌≡◌, ◌<◌, ◌≤◌, ◌+◌, ℕ, ℤ, pos, false, List, [], ◌∷◌, ◌++◌, Some, Result, Ok, Err, IsTrue, arith, refl, sym, subst, length, map, codes, add-zero, All, AllZip, option_map, lt-leb, append_assoc, append-nil, All-cons, All-head, All-tail, All-append, All-map, All-weaker, Declaration, CertRow, Lemma, Evidence, Format, Plain, Lemmas, Size, Opened, Stage, Flaw, ◌>>=◌, is_number, number_within, number_limit, integer_limit, begins, integer_of, Line, claim_line, is_end, RowTokens, row_limit, lemma_scale_of, goal_scale_of, is_value, is_row, row_values, over_lemma, no_rows, grown, ScaledTokens, LemmaTokens, PlainTokens, LemmasTokens, BlockTokens, row_line, denominator_line, lemma_lines, goal_lines, certificate_lines, IsBlock, IsPlainRow, AreLemmas, IsPlainBlock, IsLemmasBlock, Bound, flaw_of, IsWithin, HasNumbersOutside, rows_in, IsScaledOf, IsCertificateOf, KeepsOne, step, begun, finish, scaled, closed_by, resized, certificate_of, opened_of, lemma_of, lemma_row, certificate_steps, run, run-append, read_inside, read_block, read_inside-run, Meets, reads, then_meets, meets-weaker, asked_meets, unless_meets, AllZip-weaker, flat_map}
+use Rattle.std.proofs.Common.{length-append}
 use Rattle.traced_rows.specs.declared.evidence.Evidence.TheVariants as evidence
 use Rattle.certificate_text.specs.declared.place.Stage.TheVariants as at
 use Rattle.certificate_text.specs.Blocks as tokens

@@ -1,6 +1,5 @@
 -- What is numbered is written one after another.
-use Rattle.certificate_text.proofs.Prelude.{◌≡◌, ◌<◌, ◌+◌, ℕ, suc, List, [], ◌∷◌, ◌++◌, arith, ap, sym, ◌∙◌, subst, length, take, get_or, All-get_or, append-nil, append_assoc, take_more, length-take-le, numbered_texts}
-use Rattle.std.proofs.Common.{All}
+use Rattle.certificate_text.proofs.Prelude.{◌≡◌, ◌<◌, ◌+◌, ℕ, suc, List, [], ◌∷◌, ◌++◌, arith, ap, sym, ◌∙◌, subst, length, take, get_or, All-get_or, append-nil, append_assoc, take_more, length-take-le, numbered_texts, All}
 
 module _ {X : Type 0} (text_of : ℕ → X → List ℕ) where
   -- one more after others

@@ -1,6 +1,5 @@
 -- The rules of a basis whose polynomials may be rules: they are rules, of these polynomials.
-use Rattle.closed_checker.proofs.Prelude.{◌≡◌, ◌<ℤ◌, ℕ, pos, List, [], ◌∷◌, ◌++◌, option_to_list, Option, Some, None, refl, ap, subst, All, option_map, All-nil, All-cons, All-head, All-tail, IsCoefficient, Term, IsOver, Compare, Poly, Rule, leading_term, IsRule, polynomials_of, leading-all, polynomials, MayBeRule, rules_from}
-use Rattle.std.proofs.Common.{IsSomeAnd}
+use Rattle.closed_checker.proofs.Prelude.{◌≡◌, ◌<ℤ◌, ℕ, pos, List, [], ◌∷◌, ◌++◌, option_to_list, Option, Some, None, refl, ap, subst, All, option_map, All-nil, All-cons, All-head, All-tail, IsCoefficient, Term, IsOver, Compare, Poly, Rule, leading_term, IsRule, polynomials_of, leading-all, polynomials, MayBeRule, rules_from, IsSomeAnd}
 
 module _ (compare : Compare) where
   abbrev rule_with : Poly → Term → Rule

@@ -1,6 +1,5 @@
 -- Each basis has exactly one outcome: it is closed, or one of its tests is the first that fails.
-use Rattle.closed_checker.proofs.Prelude.{◌≡◌, ◌≢◌, ◌⊎◌, inl, inr, ◌<◌, ◌≤◌, ℕ, ◌+◌, ◌-◌, Bool, true, false, List, [], ◌∷◌, length, take, get_or, slice_get, Some, Result, Ok, Err, IfErr, refl, sym, ap, ◌∙◌, subst, arith, int_eq, Decides-int_eq, get_or-take, length-take-le, slice_get-get_or, get_or_from_slice_get, Term, word_eq, word_eq-same, word_eq-true, IsDecided, decided_by, both_decided, le_decided, HasOneOutcome, PassUpTo, FailsFirst, FirstNot, not_each, one_test, then_test, item_test, each_test, tests_up_to, reworded, asked_rank, IsCanonical, Poly, Cause, ReduceFault, Ambiguity, IsBeforeByWord, CanBeListed, Problem, Basis, Part, ClosedRefusal, order_of, rules_of, rest_of, MayBeRule, NamesClaim, HasRules, LeavesZero, IsClosedBasis, ComesBefore, Reaches, LacksRule, IsCauseOf, Refuses, GeneratorsPass, AmbiguitiesPass, EachBasisIsJudged, BasisRefusalIsUnique, ClosedBasisIsNotRefused, Gives}
-use Rattle.std.proofs.Common.{All, Contains}
+use Rattle.closed_checker.proofs.Prelude.{◌≡◌, ◌≢◌, ◌⊎◌, inl, inr, ◌<◌, ◌≤◌, ℕ, ◌+◌, ◌-◌, Bool, true, false, List, [], ◌∷◌, length, take, get_or, slice_get, Some, Result, Ok, Err, IfErr, refl, sym, ap, ◌∙◌, subst, arith, int_eq, Decides-int_eq, get_or-take, length-take-le, slice_get-get_or, get_or_from_slice_get, Term, word_eq, word_eq-same, word_eq-true, IsDecided, decided_by, both_decided, le_decided, HasOneOutcome, PassUpTo, FailsFirst, FirstNot, not_each, one_test, then_test, item_test, each_test, tests_up_to, reworded, asked_rank, IsCanonical, Poly, Cause, ReduceFault, Ambiguity, IsBeforeByWord, CanBeListed, Problem, Basis, Part, ClosedRefusal, order_of, rules_of, rest_of, MayBeRule, NamesClaim, HasRules, LeavesZero, IsClosedBasis, ComesBefore, Reaches, LacksRule, IsCauseOf, Refuses, GeneratorsPass, AmbiguitiesPass, EachBasisIsJudged, BasisRefusalIsUnique, ClosedBasisIsNotRefused, Gives, All, Contains}
 use Rattle.std.proofs.Props as std
 use Rattle.cofactor_trace.specs.declared.halt.Cause.TheVariants as cause
 use Rattle.rule_reduce.specs.declared.fault.ReduceFault.TheVariants as halt

@@ -28,7 +28,8 @@ pub use Rattle.definitions.specs.Poly.{Term, coefficient_of, word_eq}
 pub use Rattle.definitions.specs.Quiver.{Quiver, is_path, leads, letters, source}
 pub use Rattle.definitions.specs.Soundness.{HasSignature}
 pub use Rattle.lists.proofs.Decided.{IsDecided, both_decided, decided_by, le_decided}
-pub use Rattle.lists.proofs.FirstFailure.{FailsFirst, FirstNot, HasOneOutcome, PassUpTo, each_test, item_test, not_each, one_test, reworded, tests_up_to, then_test}
+pub use Rattle.lists.proofs.FirstFailure.{FailsFirst, HasOneOutcome, PassUpTo, each_test, item_test, not_each, one_test, reworded, tests_up_to, then_test}
+pub use Rattle.lists.specs.First.{FirstNot}
 pub use Rattle.coef_int.specs.Range.{IsCoefficient}
 pub use Rattle.word_core.proofs.Places.{OccursAt-length, drop-OccursAt}
 pub use Rattle.word_core.specs.Canonical.{word_cmp}

@@ -1,6 +1,5 @@
 -- Whether a polynomial may be a rule is decided.
-use Rattle.closed_checker.proofs.Prelude.{inl, inr, ◌<◌, ◌<ℤ◌, ℕ, zero, suc, ℤ, pos, negsuc, List, [], ◌∷◌, length, Option, Some, None, arith, All, ints, All-nil, All-cons, All-tail, Term, IsDecided, decided_by, both_decided, Compare, IsContent, Poly, leading_term, one_content, has_content, MayBeRule}
-use Rattle.std.proofs.Common.{IsSomeAnd}
+use Rattle.closed_checker.proofs.Prelude.{inl, inr, ◌<◌, ◌<ℤ◌, ℕ, zero, suc, ℤ, pos, negsuc, List, [], ◌∷◌, length, Option, Some, None, arith, All, ints, All-nil, All-cons, All-tail, Term, IsDecided, decided_by, both_decided, Compare, IsContent, Poly, leading_term, one_content, has_content, MayBeRule, IsSomeAnd}
 
 -- content, sign and words
 primitive_decided : (p : List Term) → IsDecided (IsContent p (pos 1))

@@ -1,6 +1,5 @@
 -- the number of terms of a sum is the length of its table
-use Rattle.cofactor_checker.proofs.Prelude.{◌≡◌, ◌≢◌, ℕ, ℤ, pos, List, [], ◌∷◌, map, not, Bool, true, false, ◌||◌, Option, Some, None, unwrap_or, is_some, sym, refl, ap, ◌∙◌, get, keys, hash_map_len, IsUnique, AllByRecursion, IsDistinct, Greater, length-map, All-head, All-tail, All-weaker, is_member, int_eq, false_from_ne_true, Decides-int_eq, length-keys_of, IsDistinct-cons, length-from_same_keys, is_some-lookup, word_cmp, word_eq, coefficient_of, word_eq-true, coefficient_other, term_count, Table, coefficient_at, IsTable, collected, coefficient_of-collected, descending-collected, nonzero-collected, first_coefficient, Descends, word_eq-turned}
-use Rattle.std.specs.List.{All}
+use Rattle.cofactor_checker.proofs.Prelude.{◌≡◌, ◌≢◌, ℕ, ℤ, pos, List, [], ◌∷◌, map, not, Bool, true, false, ◌||◌, Option, Some, None, unwrap_or, is_some, sym, refl, ap, ◌∙◌, get, keys, hash_map_len, IsUnique, AllByRecursion, IsDistinct, Greater, length-map, All-head, All-tail, All-weaker, is_member, int_eq, false_from_ne_true, Decides-int_eq, length-keys_of, IsDistinct-cons, length-from_same_keys, is_some-lookup, word_cmp, word_eq, coefficient_of, word_eq-true, coefficient_other, term_count, Table, coefficient_at, IsTable, collected, coefficient_of-collected, descending-collected, nonzero-collected, first_coefficient, Descends, word_eq-turned, All}
 use Rattle.cofactor_checker.proofs.Words.{word_eq_equivalence}
 use Rattle.cofactor_checker.proofs.Descending.{apart_greater}
 

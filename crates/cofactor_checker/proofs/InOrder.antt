@@ -1,6 +1,5 @@
 -- the entries of the table, moved one after another into a map in the order of the words
-use Rattle.cofactor_checker.proofs.Prelude.{◌≡◌, ◌≢◌, ℕ, ℤ, pos, ◌+ℤ◌, List, [], ◌∷◌, Bool, true, false, cond, Option, Some, None, IfSome, unwrap_or, sym, refl, ap, ◌∙◌, subst, arith, ints, All-values_from_lookup, IsDistinct-head, IsDistinct-tail, +ℤ_idl, +ℤ_idr, BTreeMap, Updates, IsEmpty, is_at, All-nil, All-cons, All-head, All-tail, get, IsUnique, AllByRecursion, IsDistinct, keys_of, values_of, lookup, IsCoefficient, word_cmp, word_eq, coefficient_of, word_eq-true, coefficient_other, coefficient_in, first_coefficient, adds_from_update, running_from_update, word_eq-turned, IsRunning, Table, coefficient_at, IsTable}
-use Rattle.std.specs.List.{All}
+use Rattle.cofactor_checker.proofs.Prelude.{◌≡◌, ◌≢◌, ℕ, ℤ, pos, ◌+ℤ◌, List, [], ◌∷◌, Bool, true, false, cond, Option, Some, None, IfSome, unwrap_or, sym, refl, ap, ◌∙◌, subst, arith, ints, All-values_from_lookup, IsDistinct-head, IsDistinct-tail, +ℤ_idl, +ℤ_idr, BTreeMap, Updates, IsEmpty, is_at, All-nil, All-cons, All-head, All-tail, get, IsUnique, AllByRecursion, IsDistinct, keys_of, values_of, lookup, IsCoefficient, word_cmp, word_eq, coefficient_of, word_eq-true, coefficient_other, coefficient_in, first_coefficient, adds_from_update, running_from_update, word_eq-turned, IsRunning, Table, coefficient_at, IsTable, All}
 use Rattle.nc_polynomial.specs.Running.{Adds}
 use Rattle.cofactor_checker.proofs.Comparing.{terms_of}
 use Rattle.cofactor_checker.proofs.Words.{word_eq_equivalence}

@@ -1,6 +1,5 @@
 -- what an accepted certificate with lemmas shows
-use Rattle.cofactor_checker.proofs.Prelude.{◌≡◌, ℕ, ℤ, List, [], ◌∷◌, ◌++◌, map, int_div, refl, sym, ap, ap₂, ◌∙◌, arith, ◌∣◌, unsigned_abs, ints, All-head, All-tail, All-push, coefficient_of, poly_multiple, poly_sum, poly_between, collected, coefficient_of-collected, quotient_times, Lemma, LemmaRow, LemmaCertificate, lemma_sum, AddsUpTo, AreOfLemmas, IsShareOf, IsEvidenceOf, plain_sum, lemma_polynomial, lemma_polynomials, LemmaPasses, LemmasPass, goal_claim, all_polynomials, AcceptsLemmas}
-use Rattle.std.specs.List.{All}
+use Rattle.cofactor_checker.proofs.Prelude.{◌≡◌, ℕ, ℤ, List, [], ◌∷◌, ◌++◌, map, int_div, refl, sym, ap, ap₂, ◌∙◌, arith, ◌∣◌, unsigned_abs, ints, All-head, All-tail, All-push, coefficient_of, poly_multiple, poly_sum, poly_between, collected, coefficient_of-collected, quotient_times, Lemma, LemmaRow, LemmaCertificate, lemma_sum, AddsUpTo, AreOfLemmas, IsShareOf, IsEvidenceOf, plain_sum, lemma_polynomial, lemma_polynomials, LemmaPasses, LemmasPass, goal_claim, all_polynomials, AcceptsLemmas, All}
 use Rattle.cofactor_checker.proofs.Places.{stands_there}
 
 -- the rows over generators and lemmas are those over one list

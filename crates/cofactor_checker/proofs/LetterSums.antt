@@ -1,6 +1,5 @@
 -- Sums of rows over the letters of a quiver have words over these letters alone, and so do the polynomials of lemmas.
-use Rattle.cofactor_checker.proofs.Prelude.{ltb-true, lt-ltb, ◌≡◌, ◌≢◌, inl, inr, ℕ, zero, suc, ℤ, pos, ◌+ℤ◌, ◌*ℤ◌, Bool, true, false, List, [], ◌∷◌, ◌++◌, refl, sym, ap, ap₂, subst, ◌∙◌, get_or, ltb, and_parts, and_from, Decides-int_eq, All-head, All-tail, All-map, list_all-append, AllPass-from_list_all, list_all-from_AllPass, *ℤ-zero, AllByRecursion, list_all, int_eq, Term, word_eq, coefficient_of, poly_multiple, poly_between, Quiver, letters, source, leads, is_path, Row, generator_at, row_poly, row_sum, HasSignature, coefficient_of-append, coefficient_of-multiple, word_eq-true, coefficient_other, step, coefficient_of-between_zero, all-append, IsOver, collected, coefficient_of-collected, descending-collected, nonzero-collected, distinct-descending, words_listed, letter_count, quiver_of, letters-quiver_of, Lemma, Problem, polynomials, claims_have_signatures, generators_have_signatures, plain_rows, plain_sum, lemma_polynomial, lemma_polynomials, IsLeastIndivisible, LeavesRest, RefusesLemmas}
-use Rattle.std.specs.List.{All}
+use Rattle.cofactor_checker.proofs.Prelude.{ltb-true, lt-ltb, ◌≡◌, ◌≢◌, inl, inr, ℕ, zero, suc, ℤ, pos, ◌+ℤ◌, ◌*ℤ◌, Bool, true, false, List, [], ◌∷◌, ◌++◌, refl, sym, ap, ap₂, subst, ◌∙◌, get_or, ltb, and_parts, and_from, Decides-int_eq, All-head, All-tail, All-map, list_all-append, AllPass-from_list_all, list_all-from_AllPass, *ℤ-zero, AllByRecursion, list_all, int_eq, Term, word_eq, coefficient_of, poly_multiple, poly_between, Quiver, letters, source, leads, is_path, Row, generator_at, row_poly, row_sum, HasSignature, coefficient_of-append, coefficient_of-multiple, word_eq-true, coefficient_other, step, coefficient_of-between_zero, all-append, IsOver, collected, coefficient_of-collected, descending-collected, nonzero-collected, distinct-descending, words_listed, letter_count, quiver_of, letters-quiver_of, Lemma, Problem, polynomials, claims_have_signatures, generators_have_signatures, plain_rows, plain_sum, lemma_polynomial, lemma_polynomials, IsLeastIndivisible, LeavesRest, RefusesLemmas, All}
 use Rattle.cofactor_checker.specs.declared.refusal.Refusal.TheVariants as refusal
 
 module _ (q : Quiver) where

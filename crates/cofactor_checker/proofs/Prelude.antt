@@ -46,7 +46,8 @@ pub use Rattle.definitions.specs.Quiver.{Quiver, is_path, leads, letters, source
 pub use Rattle.definitions.specs.Representation.{Representation, Represents}
 pub use Rattle.definitions.specs.Soundness.{HasSignature, HasValueZero, IsSound, MakesZero}
 pub use Rattle.lists.proofs.Decided.{IsDecided, both_decided, decided_by, le_decided}
-pub use Rattle.lists.proofs.FirstFailure.{FailsFirst, FirstNot, HasOneOutcome, PassUpTo, each_decided, each_test, item_test, no_test, one_test, reworded, tests_up_to, then_test, value_test}
+pub use Rattle.lists.proofs.FirstFailure.{FailsFirst, HasOneOutcome, PassUpTo, each_decided, each_test, item_test, no_test, one_test, reworded, tests_up_to, then_test, value_test}
+pub use Rattle.lists.specs.First.{FirstNot}
 pub use Rattle.lists.specs.declared.stop.Stop.{Stop}
 pub use Rattle.coef_int.specs.Operations.{exact_value, first_overflow, product_of, sum_of}
 pub use Rattle.coef_int.specs.Range.{IsCoefficient, is_coefficient}

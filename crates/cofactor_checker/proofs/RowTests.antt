@@ -1,6 +1,5 @@
 -- The rows of a certificate, of a lemma or of a goal, one after another: exactly one outcome.
-use Rattle.cofactor_checker.proofs.Prelude.{◌≡◌, ◌⊎◌, inl, inr, ℕ, ◌+◌, ◌<◌, ◌≤◌, List, ◌++◌, length, map, take, Option, Some, None, slice_get, refl, sym, subst, ap, ◌∙◌, arith, length-map, slice_get-map, slice_get_within, Overflow, first_overflow, poly_multiple, Row, row_sum, CertRow, CertFrom, Lemma, LemmaRow, row_of, rows_of, IsDecided, decided_by, both_decided, le_decided, HasOneOutcome, PassUpTo, FailsFirst, one_test, value_test, then_test, item_test, tests_up_to, reworded, row_operations, term_count, sum_limit, IsNumberUpTo, RowPasses, RowsPass, Reaches, LacksGenerator, StopsAt, lacks, overflows, outgrows, memory, tell_generator, tell_lacking, plain_row, plain_rows, plain_sum, IsGenerator, IsLemma, LemmaRowsPass, RefusesLemmaRows, IsMemory, ReachesClaim, RefusesGoal, Refusal}
-use Rattle.std.proofs.Common.{option_map}
+use Rattle.cofactor_checker.proofs.Prelude.{◌≡◌, ◌⊎◌, inl, inr, ℕ, ◌+◌, ◌<◌, ◌≤◌, List, ◌++◌, length, map, take, Option, Some, None, slice_get, refl, sym, subst, ap, ◌∙◌, arith, length-map, slice_get-map, slice_get_within, Overflow, first_overflow, poly_multiple, Row, row_sum, CertRow, CertFrom, Lemma, LemmaRow, row_of, rows_of, IsDecided, decided_by, both_decided, le_decided, HasOneOutcome, PassUpTo, FailsFirst, one_test, value_test, then_test, item_test, tests_up_to, reworded, row_operations, term_count, sum_limit, IsNumberUpTo, RowPasses, RowsPass, Reaches, LacksGenerator, StopsAt, lacks, overflows, outgrows, memory, tell_generator, tell_lacking, plain_row, plain_rows, plain_sum, IsGenerator, IsLemma, LemmaRowsPass, RefusesLemmaRows, IsMemory, ReachesClaim, RefusesGoal, Refusal, option_map}
 use Rattle.definitions.specs.Poly.{Poly}
 use Rattle.traced_rows.specs.declared.evidence.CertFrom.TheVariants as cert
 use Rattle.cofactor_checker.specs.declared.refusal.Refusal.TheVariants as refusal

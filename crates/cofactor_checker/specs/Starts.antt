@@ -6,7 +6,7 @@ use Rattle.coef_int.specs.Operations.{first_overflow}
 use Rattle.definitions.specs.Poly.{Poly}
 use Rattle.definitions.specs.Combination.{generator_at}
 use Rattle.nc_polynomial.specs.Terms.{products}
-use Rattle.lists.proofs.FirstFailure.{FirstNot}
+use Rattle.lists.specs.First.{FirstNot}
 use Rattle.traced_rows.specs.declared.evidence.Lemma.{Lemma}
 use Rattle.cofactor_checker.specs.Rows.{IsNumberUpTo}
 use Rattle.cofactor_checker.specs.LemmaAcceptance.{HasScale, IsTight}

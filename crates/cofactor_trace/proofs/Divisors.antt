@@ -1,7 +1,6 @@
 -- Quotients, products and least common multiples of positive integers are positive; common divisors divide, and least common
 -- multiples are divided by, each number.
-use Rattle.cofactor_trace.proofs.Prelude.{◌≡◌, ◌<◌, ℕ, zero, suc, List, [], ◌∷◌, ◌/◌, ℤ, pos, negsuc, ◌<ℤ◌, ◌*ℤ◌, ◌*◌, refl, sym, ap, subst, subst₂, ◌∙◌, arith, *ℤ-zero, All, AllByRecursion, fold, ◌∣◌, unsigned_abs, ints, unsigned_abs-mul, dvd_refl, dvd_trans, dvd-zero, All-nil, All-cons, All-head, All-tail, dvd-mul_right, dvd_of_mul-dvd-mul_right, eq-zero_of_zero-dvd, mul-dvd-mul_right, mul_assoc, mul_comm, quotient_times, gcd_of, gcd_of-IsGcd, gcd_of-positive, gcd_of-scaled, MultiplesAreLeast, lcm_of, common_multiple}
-use Rattle.std.specs.Int.RustNames.{int_div}
+use Rattle.cofactor_trace.proofs.Prelude.{◌≡◌, ◌<◌, ℕ, zero, suc, List, [], ◌∷◌, ◌/◌, ℤ, pos, negsuc, ◌<ℤ◌, ◌*ℤ◌, ◌*◌, refl, sym, ap, subst, subst₂, ◌∙◌, arith, *ℤ-zero, All, AllByRecursion, fold, ◌∣◌, unsigned_abs, ints, unsigned_abs-mul, dvd_refl, dvd_trans, dvd-zero, All-nil, All-cons, All-head, All-tail, dvd-mul_right, dvd_of_mul-dvd-mul_right, eq-zero_of_zero-dvd, mul-dvd-mul_right, mul_assoc, mul_comm, quotient_times, gcd_of, gcd_of-IsGcd, gcd_of-positive, gcd_of-scaled, MultiplesAreLeast, lcm_of, common_multiple, int_div}
 
 -- a quotient by a divisor of a positive integer is positive
 pub quotient_positive : (y d : ℤ) → pos 0 <ℤ y → pos 0 <ℤ d → unsigned_abs d ∣ unsigned_abs y → pos 0 <ℤ int_div y d

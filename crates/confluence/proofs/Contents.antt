@@ -1,6 +1,5 @@
 -- Each polynomial has a content, and can be divided by it.
-use Rattle.confluence.proofs.Prelude.{◌≡◌, ◌≢◌, ◌<◌, ◌<ℤ◌, ℕ, zero, suc, ℤ, pos, negsuc, List, [], ◌∷◌, length, map, refl, ap, ap₂, arith, All, ◌∣◌, unsigned_abs, ints, dvd-zero, dvd_trans, All-nil, All-cons, All-head, All-tail, All-weaker, gcd_of, gcd_of-IsGcd, Term, poly_multiple, IsContent, quotient_times, content-zero}
-use Rattle.std.specs.Int.RustNames.{int_div}
+use Rattle.confluence.proofs.Prelude.{◌≡◌, ◌≢◌, ◌<◌, ◌<ℤ◌, ℕ, zero, suc, ℤ, pos, negsuc, List, [], ◌∷◌, length, map, refl, ap, ap₂, arith, All, ◌∣◌, unsigned_abs, ints, dvd-zero, dvd_trans, All-nil, All-cons, All-head, All-tail, All-weaker, gcd_of, gcd_of-IsGcd, Term, poly_multiple, IsContent, quotient_times, content-zero, int_div}
 
 pub record HasContent (p : List Term) : Type 0 where
   pub content : ℤ

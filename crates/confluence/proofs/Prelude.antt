@@ -1,9 +1,9 @@
 -- What the proofs here take from std, from the crates below and from this crate's definitions, each name once.
-pub use Rattle.std.proofs.Common.{Bool, Contains, Err, IsSomeAnd, IsTrue, List, None, Ok, Option, Result, Some, [], ap, append-nil, append_assoc, ap₂, arith, cond, drop, false, get_or, inl, inr, int_div, length, map, nat_lt, neg_ℤ, negsuc, not, pos, refl, slice_get, subst, suc, sym, take, true, true≢false, zero, ℕ, ℤ, ◌&&◌, ◌*ℤ◌, ◌*◌, ◌++◌, ◌+ℤ◌, ◌+◌, ◌-◌, ◌/◌, ◌<ℤ◌, ◌<◌, ◌∙◌, ◌∷◌, ◌≡◌, ◌≢◌, ◌≤◌, ◌⊎◌}
+pub use Rattle.std.proofs.Common.{Bool, Contains, Err, IsSomeAnd, List, None, Ok, Option, Result, Some, [], ap, append-nil, append_assoc, ap₂, arith, cond, drop, false, get_or, inl, inr, int_div, length, map, nat_lt, neg_ℤ, negsuc, not, pos, refl, slice_get, subst, suc, sym, take, true, true≢false, zero, ℕ, ℤ, ◌&&◌, ◌*ℤ◌, ◌*◌, ◌++◌, ◌+ℤ◌, ◌+◌, ◌-◌, ◌/◌, ◌<ℤ◌, ◌<◌, ◌∙◌, ◌∷◌, ◌≡◌, ◌≢◌, ◌≤◌, ◌⊎◌}
 pub use Rattle.std.proofs.Math.IntN.{*ℤ-zero, *ℤ_comm, +ℤ_assoc, +ℤ_idl, +ℤ_idr, +ℤ_invr, zero-*ℤ}
 pub use Rattle.std.proofs.Math.Nat.{mul-pos, pos_of_dvd_of_pos}
 pub use Rattle.std.proofs.lemmas.Bool.{and_from, and_parts, cases_lt, false_from_ne_true}
-pub use Rattle.std.proofs.lemmas.Bool.Decides.{Decides-int_eq, Decides-ltb}
+pub use Rattle.std.proofs.lemmas.Bool.Decides.{Decides-int_eq}
 pub use Rattle.std.proofs.lemmas.Int.{ints}
 pub use Rattle.std.proofs.lemmas.List.{append_cancel_left, drop_at, get_or_append_left, get_or_past, length-append, nil_from_length, take-append-drop, take_at}
 pub use Rattle.std.proofs.lemmas.List.Elements.{All-append, All-cons, All-contains, All-from_get_or, All-from_recursion, All-get_or, All-head, All-map, All-nil, All-push, All-tail, All-take, All-weaker}
@@ -15,9 +15,8 @@ pub use Rattle.std.specs.Int.{IsNonNegative, ◌∣◌}
 pub use Rattle.std.specs.Int.RustNames.{unsigned_abs}
 pub use Rattle.std.specs.List.{All, AllByRecursion, list_all}
 pub use Rattle.std.specs.Option.{option_map}
-pub use Rattle.std.specs.Ordering.{int_eq, is_lt}
-pub use Rattle.std.specs.declared.cmp.Ordering.{Ordering}
-pub use Rattle.std.specs.declared.cmp.Ordering.TheVariants.{Equal, Greater, Less}
+pub use Rattle.std.specs.Ordering.{int_eq}
+pub use Rattle.std.specs.declared.cmp.Ordering.TheVariants.{Greater}
 pub use Rattle.definitions.proofs.Coefficients.{coefficient_of-append, coefficient_of-multiple}
 pub use Rattle.definitions.proofs.Integers.{*ℤ-+ℤ, *ℤ-neg_ℤ, *ℤ_assoc, *ℤ_zero, +ℤ-*ℤ}
 pub use Rattle.definitions.proofs.Linear.{word_eq-same, word_eq-true}
@@ -90,7 +89,7 @@ pub use Rattle.ambiguities.proofs.Multiples.{coefficient_of-around, leading_coef
 pub use Rattle.ambiguities.proofs.Numbers.{rule_at-first, rule_at-last}
 pub use Rattle.ambiguities.proofs.Signatures.{s_polynomials_are_typed}
 pub use Rattle.ambiguities.specs.Ambiguities.{IsAmbiguity, MeetsAs, joined_word, lead_at, overlap_word_of}
-pub use Rattle.ambiguities.specs.Resolved.{ComesBelow, IsResolved, Resolved, is_below, is_over, s_sum}
+pub use Rattle.ambiguities.specs.Resolved.{ComesBelow, IsResolved, Resolved, is_below, s_sum}
 pub use Rattle.ambiguities.specs.SPolynomials.{first_row, leading_at, row_multiple, s_polynomial_of, s_rows_of, second_row}
 pub use Rattle.ambiguities.specs.declared.ambiguity.Ambiguity.{Ambiguity}
 pub use Rattle.ambiguities.specs.declared.ambiguity.Kind.{Kind}

@@ -1,5 +1,15 @@
 -- The test of an order says when a word is below another.
-use Rattle.confluence.proofs.Prelude.{◌≡◌, ◌<◌, ℕ, true, List, [], ◌∷◌, ◌&&◌, refl, ap, IsTrue, nat_lt, and_parts, and_from, Decides-ltb, All-cons, All-head, All-nil, All-tail, is_lt, Ordering, Less, Equal, Greater, IsOver, Compare, IsBelow, is_over, is_below}
+use Rattle.std.proofs.Common.{◌≡◌, ◌<◌, ℕ, true, List, [], ◌∷◌, ◌&&◌, refl, ap, IsTrue, nat_lt}
+use Rattle.std.proofs.lemmas.Bool.{and_parts, and_from}
+use Rattle.std.proofs.lemmas.Bool.Decides.{Decides-ltb}
+use Rattle.std.proofs.lemmas.List.Elements.{All-cons, All-head, All-nil, All-tail}
+use Rattle.std.specs.Ordering.{is_lt}
+use Rattle.std.specs.declared.cmp.Ordering.{Ordering}
+use Rattle.std.specs.declared.cmp.Ordering.TheVariants.{Less, Equal, Greater}
+use Rattle.word_core.specs.Letters.{IsOver}
+use Rattle.word_orders.specs.Admissible.{Compare}
+use Rattle.word_orders.specs.Orders.{IsBelow}
+use Rattle.ambiguities.specs.Resolved.{is_over, is_below}
 
 pub over_from_test : (letters : ℕ) (w : List ℕ) → is_over letters w ≡ true → IsOver letters w
 over_from_test letters [] e = All-nil (λ a. a < letters)

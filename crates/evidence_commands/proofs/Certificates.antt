@@ -1,6 +1,5 @@
 -- Certificates are judged, and what an accepted one means.
-use Rattle.evidence_commands.proofs.Prelude.{◌≡◌, ◌<ℤ◌, ℕ, pos, List, [], ◌∷◌, ◌++◌, length, get_or, codes, refl, sym, ap, arith, IsTrue, list_all, length-append, append-nil, Structure, PreadditiveLaws, IsSound, IsEvidenceSound, Declaration, Lemma, LemmaRow, Evidence, Plain, Lemmas, denominator_of, is_named, IsMemory, IsNumberUpTo, row_count, IsRanged, all_polynomials, IsReadableEvidence, ShowsClaim, EvidenceAddsUp, accepted_evidence_adds_up, evidence_is_judged, evidence_refusal_is_unique, accepted_evidence_is_not_refused, proved_means, Problem, polynomials, IsCheckableLemma, IsCheckableEvidence, each_text_is_read, evidence_is_unique, first_fault_is_unique, evidence_has_no_fault, claim_number, IsAccepted, named_text, AcceptedMeans, certificates}
-use Rattle.std.specs.List.{flat_map}
+use Rattle.evidence_commands.proofs.Prelude.{◌≡◌, ◌<ℤ◌, ℕ, pos, List, [], ◌∷◌, ◌++◌, length, get_or, codes, refl, sym, ap, arith, IsTrue, list_all, length-append, append-nil, Structure, PreadditiveLaws, IsSound, IsEvidenceSound, Declaration, Lemma, LemmaRow, Evidence, Plain, Lemmas, denominator_of, is_named, IsMemory, IsNumberUpTo, row_count, IsRanged, all_polynomials, IsReadableEvidence, ShowsClaim, EvidenceAddsUp, accepted_evidence_adds_up, evidence_is_judged, evidence_refusal_is_unique, accepted_evidence_is_not_refused, proved_means, Problem, polynomials, IsCheckableLemma, IsCheckableEvidence, each_text_is_read, evidence_is_unique, first_fault_is_unique, evidence_has_no_fault, claim_number, IsAccepted, named_text, AcceptedMeans, certificates, flat_map}
 use Rattle.traced_rows.specs.declared.evidence.Format.TheVariants as format
 use Rattle.evidence_commands.proofs.Causes.{told, refusal_text, caused}
 use Rattle.evidence_commands.proofs.QuietBlocks.{nothing_is_quiet}

@@ -1,6 +1,5 @@
 -- The power of one term whose coefficient is 1 or -1: no product is too large.
-use Rattle.expressions.proofs.Prelude.{◌≡◌, ◌≢◌, ◌⊎◌, inl, inr, ℕ, zero, suc, ◌+◌, ◌-◌, ◌*◌, ◌%◌, ◌<◌, ◌≤◌, ◌^◌, ℤ, pos, negsuc, ◌*ℤ◌, Bool, true, false, nat_lt, [], ◌∷◌, length, replicate, Result, Ok, refl, sym, ap, ap₂, subst, ◌∙◌, arith, ltb-true, ltb-false, IsCoefficient, Poly, Term, PolyFault, Explains, size_fault, IsCanonical, one-*ℤ, product_from, product_poly, repeated_word}
-use Rattle.std.proofs.Common.{unsigned_abs}
+use Rattle.expressions.proofs.Prelude.{◌≡◌, ◌≢◌, ◌⊎◌, inl, inr, ℕ, zero, suc, ◌+◌, ◌-◌, ◌*◌, ◌%◌, ◌<◌, ◌≤◌, ◌^◌, ℤ, pos, negsuc, ◌*ℤ◌, Bool, true, false, nat_lt, [], ◌∷◌, length, replicate, Result, Ok, refl, sym, ap, ap₂, subst, ◌∙◌, arith, ltb-true, ltb-false, IsCoefficient, Poly, Term, PolyFault, Explains, size_fault, IsCanonical, one-*ℤ, product_from, product_poly, repeated_word, unsigned_abs}
 use Rattle.expressions.proofs.RepeatedWords.{length-repeated}
 use Rattle.expressions.proofs.TermPowers.{short-alone, term-too_long, term-next, canonical-next}
 

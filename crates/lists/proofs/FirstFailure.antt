@@ -1,6 +1,5 @@
 -- Tests in order, and the first that fails: exactly one outcome.
-use Rattle.lists.proofs.Prelude.{◌≡◌, ◌⊎◌, inl, inr, ℕ, zero, suc, ◌+◌, ◌<◌, ◌≤◌, List, [], ◌∷◌, length, take, Option, Some, None, slice_get, get_or, refl, sym, subst, ap, ◌∙◌, arith, cases_lt, cases_order, All-nil, All-cons, All-head, All-tail, slice_get_within, slice_get_cases, get_or_from_slice_get}
-use Rattle.std.proofs.Common.{All}
+use Rattle.lists.proofs.Prelude.{◌≡◌, ◌⊎◌, inl, inr, ℕ, zero, suc, ◌+◌, ◌<◌, ◌≤◌, List, [], ◌∷◌, length, take, Option, Some, None, slice_get, get_or, refl, sym, subst, ap, ◌∙◌, arith, cases_lt, cases_order, All-nil, All-cons, All-head, All-tail, slice_get_within, slice_get_cases, get_or_from_slice_get, All, FirstNot}
 use Rattle.lists.proofs.Decided.{IsDecided}
 
 -- It passes, or is refused for one thing. Some refusals, such as want of memory, may come at any time.
@@ -19,14 +18,6 @@ pub record FailsFirst {E : Type 0} (P : ℕ → Type 0) (R : ℕ → E → Type 
   pub inside : number < n
   pub earlier : PassUpTo P number
   pub fails : R number e
-
--- The first item of which something doesn't hold.
-pub record FirstNot {X : Type 0} (P : X → Type 0) (items : List X) : Type 0 where
-  pub before : ℕ
-  pub item : X
-  pub there : slice_get items before ≡ Some item
-  pub earlier : All P (take before items)
-  pub fails : P item → ⊥
 
 first_not : {X : Type 0} (P : X → Type 0) (items : List X) → ((i : ℕ) (x : X) → slice_get items i ≡ Some x → IsDecided (P x)) → All P items ⊎ FirstNot P items
 first_not P [] test = inl (All-nil P)

@@ -5,3 +5,4 @@ pub use Rattle.std.proofs.lemmas.List.Elements.{All-cons, All-head, All-nil, All
 pub use Rattle.std.proofs.lemmas.Option.{get_or_from_slice_get, slice_get_cases, slice_get_within}
 pub use Rattle.std.proofs.lemmas.Slice.Zip.{AllZip-long}
 pub use Rattle.std.specs.List.{All, AllByRecursion, AllZip}
+pub use Rattle.lists.specs.First.{FirstNot}

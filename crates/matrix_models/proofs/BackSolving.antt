@@ -1,6 +1,5 @@
 -- The values that pivots and preferences give, and that they are the greedy solution.
-use Rattle.matrix_models.proofs.Prelude.{◌≡◌, ℕ, zero, suc, ◌+◌, ◌*◌, ◌%◌, ◌<◌, ◌≤◌, List, [], ◌∷◌, ◌++◌, length, get_or, Option, Some, None, ◌⊎◌, inl, inr, sym, refl, ap, ap₂, subst, ◌∙◌, arith, zero-mul, one-mul, cases_eq, cases_lt, none-some, get_or_past, get_or_push, get_or_append_left, length_push, All-push, total, total_same, MeetsAll, IsPivot, ArePivots}
-use Rattle.std.specs.List.{All}
+use Rattle.matrix_models.proofs.Prelude.{◌≡◌, ℕ, zero, suc, ◌+◌, ◌*◌, ◌%◌, ◌<◌, ◌≤◌, List, [], ◌∷◌, ◌++◌, length, get_or, Option, Some, None, ◌⊎◌, inl, inr, sym, refl, ap, ap₂, subst, ◌∙◌, arith, zero-mul, one-mul, cases_eq, cases_lt, none-some, get_or_past, get_or_push, get_or_append_left, length_push, All-push, total, total_same, MeetsAll, IsPivot, ArePivots, All}
 
 -- The values of the unknowns before `to`: one with no pivot has its preferred value, and one with a pivot the value that its
 -- pivot asks for with the values before it.

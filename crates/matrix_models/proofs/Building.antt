@@ -1,7 +1,6 @@
 -- A matrix that is built entry by entry.
-use Rattle.matrix_models.proofs.Prelude.{◌≡◌, ℕ, ◌+◌, ◌*◌, ◌/◌, ◌%◌, ◌<◌, List, ◌∷◌, [], ◌++◌, length, map, ap, ap₂, sym, refl, subst, ◌∙◌, arith, zero-mul, range_with_len, map-range_with_len_more, All-nil, All-push, div-mul-add, mod-mul-add, Matrix, matrix_of}
+use Rattle.matrix_models.proofs.Prelude.{◌≡◌, ℕ, ◌+◌, ◌*◌, ◌/◌, ◌%◌, ◌<◌, List, ◌∷◌, [], ◌++◌, length, map, ap, ap₂, sym, refl, subst, ◌∙◌, arith, zero-mul, range_with_len, map-range_with_len_more, All-nil, All-push, div-mul-add, mod-mul-add, Matrix, matrix_of, All}
 use Rattle.std.proofs.Common.{length-append}
-use Rattle.std.specs.List.{All}
 
 -- So many entries, row by row: they are below the modulus, and are those of each function that agrees with the answers.
 pub record AreBuilt (m rows columns : ℕ) (Answers : ℕ → ℕ → ℕ → Type 0) (place : ℕ) (entries : List ℕ) : Type 0 where

@@ -1,6 +1,5 @@
 -- Lists of entries that are made row by row, and the matrices that they make.
-use Rattle.model_candidates.proofs.Prelude.{◌≡◌, ℕ, ◌+◌, ◌*◌, ◌<◌, ◌≤◌, [], ◌++◌, List, length, get_or, map, ◌⊎◌, inl, inr, refl, sym, ap, subst, ◌∙◌, arith, add-mul, one-mul, range_with_len, cases_lt, length-append, get_or_append_left, get_or-append-add, All-append, All-from_get_or, All-nil, get_or-map-range_with_len, length-map-range_with_len, Matrix, entry_at, IsMatrix, same_matrix}
-use Rattle.std.proofs.Common.{All}
+use Rattle.model_candidates.proofs.Prelude.{◌≡◌, ℕ, ◌+◌, ◌*◌, ◌<◌, ◌≤◌, [], ◌++◌, List, length, get_or, map, ◌⊎◌, inl, inr, refl, sym, ap, subst, ◌∙◌, arith, add-mul, one-mul, range_with_len, cases_lt, length-append, get_or_append_left, get_or-append-add, All-append, All-from_get_or, All-nil, get_or-map-range_with_len, length-map-range_with_len, Matrix, entry_at, IsMatrix, same_matrix, All}
 use Rattle.matrix_models.specs.Matrix.{IsSide}
 
 -- Numbers below m that are the entries f in so many rows, row by row.

@@ -19,7 +19,8 @@ pub use Rattle.definitions.specs.Quiver.{IsQuiver, IsTyped, Quiver, is_path, let
 pub use Rattle.definitions.specs.Representation.{Representation, Represents, StarRepresents, value_at}
 pub use Rattle.definitions.specs.Soundness.{HasValueZero, HasValueZeroAt}
 pub use Rattle.lists.proofs.Decided.{IsDecided, both_decided, decided_by, le_decided, lt_decided}
-pub use Rattle.lists.proofs.FirstFailure.{FailsFirst, FirstNot, HasOneOutcome, PassUpTo, each_decided, each_test, found_test, not_each, one_test, reworded, tests_up_to, then_test, where_test}
+pub use Rattle.lists.proofs.FirstFailure.{FailsFirst, HasOneOutcome, PassUpTo, each_decided, each_test, found_test, not_each, one_test, reworded, tests_up_to, then_test, where_test}
+pub use Rattle.lists.specs.First.{FirstNot}
 pub use Rattle.representations.proofs.TypedTerms.{words_are_paths}
 pub use Rattle.representations.specs.Listed.{IsRepresentation, IsValue, listed}
 pub use Rattle.nc_polynomial.specs.Shape.{IsCanonical}

@@ -1,6 +1,5 @@
 -- While a claim that follows below a word is open, fewer pairs were treated than are enough for the word.
-use Rattle.outcome_laws.proofs.Prelude.{◌≡◌, ◌⊎◌, inl, inr, ◌≤◌, ◌<◌, ◌-◌, ℕ, zero, suc, List, [], ◌∷◌, ◌++◌, length, take, min, Some, refl, sym, ap, ◌∙◌, subst, arith, append-nil, All, Less, cases_lt, length-map, length-take, All-head, Term, word_cmp, IsOver, word_cmp-cases, word_cmp-less_trans, word_cmp-length, Compare, asked_cmp, letter_count, quiver_of, Rule, IsRule, rule_at, leading-all, rule_at-all, Ambiguity, IsAmbiguity, overlap_word_of, Problem, claim_at, AreApart, NothingPendingBelow, ambiguity_more, overlap_word-more, overlap_in_play, round_limit, Budget, Waiting, AreAllPending, ambiguities_of, went, Setting, RunState, taken_count, setting_of, contains-first, pending-over, IsOpen, done_after, IsKeptState, asked_rank, open_run, letters_in_play, enough_pairs, IsShownBelow, OpenRunsTreatFew}
-use Rattle.std.proofs.Common.{Contains}
+use Rattle.outcome_laws.proofs.Prelude.{◌≡◌, ◌⊎◌, inl, inr, ◌≤◌, ◌<◌, ◌-◌, ℕ, zero, suc, List, [], ◌∷◌, ◌++◌, length, take, min, Some, refl, sym, ap, ◌∙◌, subst, arith, append-nil, All, Less, cases_lt, length-map, length-take, All-head, Term, word_cmp, IsOver, word_cmp-cases, word_cmp-less_trans, word_cmp-length, Compare, asked_cmp, letter_count, quiver_of, Rule, IsRule, rule_at, leading-all, rule_at-all, Ambiguity, IsAmbiguity, overlap_word_of, Problem, claim_at, AreApart, NothingPendingBelow, ambiguity_more, overlap_word-more, overlap_in_play, round_limit, Budget, Waiting, AreAllPending, ambiguities_of, went, Setting, RunState, taken_count, setting_of, contains-first, pending-over, IsOpen, done_after, IsKeptState, asked_rank, open_run, letters_in_play, enough_pairs, IsShownBelow, OpenRunsTreatFew, Contains}
 use Rattle.outcome_laws.proofs.RunsKept.{BeginsWith}
 use Rattle.outcome_laws.proofs.WholeRuns.{first_is_least_pending}
 use Rattle.outcome_laws.proofs.OpenRuns.{open_not_below}

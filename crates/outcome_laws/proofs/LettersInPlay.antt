@@ -1,6 +1,5 @@
 -- The generators of a problem have letters in play, and so have the overlap words of the rules of its runs.
-use Rattle.outcome_laws.proofs.Prelude.{◌≡◌, ◌⊎◌, inl, inr, refl, sym, ap, subst, ℕ, Bool, true, false, cond, List, [], ◌∷◌, ◌∙◌, arith, ltb, ltb-true, All, AllZip, AllByRecursion, filter, list_all, range_with_len, and_parts, All-nil, All-cons, All-head, All-tail, All-from_recursion, Term, SamePolynomial, letter_count, quiver_of, AreInPlay, words_with_coefficients, Problem, polynomials, numbers, is_in_play, generators_in, Words, generator_words, IsGenerator, letters_in_play, contains-none, contains-cases, contains-first, contains-rest}
-use Rattle.std.proofs.Common.{Contains}
+use Rattle.outcome_laws.proofs.Prelude.{◌≡◌, ◌⊎◌, inl, inr, refl, sym, ap, subst, ℕ, Bool, true, false, cond, List, [], ◌∷◌, ◌∙◌, arith, ltb, ltb-true, All, AllZip, AllByRecursion, filter, list_all, range_with_len, and_parts, All-nil, All-cons, All-head, All-tail, All-from_recursion, Term, SamePolynomial, letter_count, quiver_of, AreInPlay, words_with_coefficients, Problem, polynomials, numbers, is_in_play, generators_in, Words, generator_words, IsGenerator, letters_in_play, contains-none, contains-cases, contains-first, contains-rest, Contains}
 use Rattle.outcome_laws.proofs.Turns.{contains_number}
 use Rattle.outcome_laws.proofs.ProblemPolynomials.{any_letter, generators_are}
 use Rattle.outcome_laws.proofs.Squares.{AllIn}

@@ -1,6 +1,5 @@
 -- Each rest other than zero can be made a rule.
-use Rattle.outcome_laws.proofs.Prelude.{◌≡◌, ◌<◌, ◌<ℤ◌, ℤ, pos, Bool, true, false, cond, List, [], ◌∷◌, length, Some, refl, ap, arith, option_map, unsigned_abs, length-map, Term, poly_multiple, Compare, IsCanonical, DividesEach, Poly, canonical_back, Made, Rule, greatest_from, leading_term, Rest, leads_negative, negated_rows, IsMadeFrom, signed, signed_nonzero, negative_divides, HasContent, has_content, positive_content, quotient, multiple_of_quotient}
-use Rattle.std.specs.Int.RustNames.{int_div}
+use Rattle.outcome_laws.proofs.Prelude.{◌≡◌, ◌<◌, ◌<ℤ◌, ℤ, pos, Bool, true, false, cond, List, [], ◌∷◌, length, Some, refl, ap, arith, option_map, unsigned_abs, length-map, Term, poly_multiple, Compare, IsCanonical, DividesEach, Poly, canonical_back, Made, Rule, greatest_from, leading_term, Rest, leads_negative, negated_rows, IsMadeFrom, signed, signed_nonzero, negative_divides, HasContent, has_content, positive_content, quotient, multiple_of_quotient, int_div}
 
 pub record HasRule (compare : Compare) (rest : Rest) : Type 0 where
   pub rule : Rule

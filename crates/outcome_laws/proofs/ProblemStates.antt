@@ -1,6 +1,5 @@
 -- The run of a problem satisfies the premises of the laws of runs.
-use Rattle.outcome_laws.proofs.Prelude.{◌⊎◌, inl, inr, ℕ, suc, List, ◌++◌, Result, Ok, arith, refl, length-map, All-contains, Compare, IsAdmissible, asked_cmp, asked_rank, asked_cmp-admissible, letter_count, quiver_of, generator_at, Ambiguity, IsAmbiguity, Problem, polynomials, IsReached, rules_are_inside, listed_or_not, resolved_where_closed, resolved_below_pending, Budget, Rule, ReduceFault, Recorded, Setting, RunState, recorded, setting_of, IsRunState, IsKeptState, done_after, IsTreatedOrPending, StatesAreKept, GeneratorsAreReached}
-use Rattle.std.proofs.Common.{Contains}
+use Rattle.outcome_laws.proofs.Prelude.{◌⊎◌, inl, inr, ℕ, suc, List, ◌++◌, Result, Ok, arith, refl, length-map, All-contains, Compare, IsAdmissible, asked_cmp, asked_rank, asked_cmp-admissible, letter_count, quiver_of, generator_at, Ambiguity, IsAmbiguity, Problem, polynomials, IsReached, rules_are_inside, listed_or_not, resolved_where_closed, resolved_below_pending, Budget, Rule, ReduceFault, Recorded, Setting, RunState, recorded, setting_of, IsRunState, IsKeptState, done_after, IsTreatedOrPending, StatesAreKept, GeneratorsAreReached, Contains}
 use Rattle.outcome_laws.proofs.LettersInPlay.{problem_play, generators_in_play}
 use Rattle.outcome_laws.proofs.ProblemPolynomials.{turns_in_range, all_have_turns}
 use Rattle.outcome_laws.proofs.RoundEnds.{Takes, ZeroTurns, LaterTurns, taken_by, Treats}

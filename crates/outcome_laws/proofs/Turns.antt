@@ -1,6 +1,5 @@
 -- Round 0 takes each generator.
-use Rattle.outcome_laws.proofs.Prelude.{◌≡◌, ◌⊎◌, inl, inr, ◌≤◌, ◌<◌, ◌+◌, ◌-◌, ℕ, suc, length, get_or, ◌∙◌, arith, cases_lt, All-append, All-from_get_or, Contains-append_left, Contains-append_right, length-range_with_len, get_or-range_with_len, All, range_with_len, units_first, EachGeneratorHasItsTurn}
-use Rattle.std.proofs.Common.{Contains}
+use Rattle.outcome_laws.proofs.Prelude.{◌≡◌, ◌⊎◌, inl, inr, ◌≤◌, ◌<◌, ◌+◌, ◌-◌, ℕ, suc, length, get_or, ◌∙◌, arith, cases_lt, All-append, All-from_get_or, Contains-append_left, Contains-append_right, length-range_with_len, get_or-range_with_len, All, range_with_len, units_first, EachGeneratorHasItsTurn, Contains}
 
 pub contains_number : (a n k : ℕ) → a ≤ k → k < a + n → Contains (range_with_len a n) k
 contains_number a n k above below =

@@ -1,6 +1,5 @@
 -- The invariant of whole runs, and what is pending.
-use Rattle.outcome_laws.proofs.Prelude.{◌≡◌, inl, inr, zero, suc, List, [], ◌∷◌, refl, sym, ap, ◌∙◌, subst, arith, tied_itself, Less, Compare, Rule, Ambiguity, overlap_word_of, Waiting, IsWaitingBefore, NothingPending, AreAllPending, closed, RunsAreKept, ClosedIsNothingPending, FirstIsLeastPending}
-use Rattle.std.proofs.Common.{Contains}
+use Rattle.outcome_laws.proofs.Prelude.{◌≡◌, inl, inr, zero, suc, List, [], ◌∷◌, refl, sym, ap, ◌∙◌, subst, arith, tied_itself, Less, Compare, Rule, Ambiguity, overlap_word_of, Waiting, IsWaitingBefore, NothingPending, AreAllPending, closed, RunsAreKept, ClosedIsNothingPending, FirstIsLeastPending, Contains}
 use Rattle.outcome_laws.proofs.RoundEnds.{later_ends}
 use Rattle.outcome_laws.proofs.Walks.{nothing_kept, run}
 

@@ -14,7 +14,6 @@ pub use Rattle.std.proofs.lemmas.Option.{get_or_from_slice_get, slice_get_within
 pub use Rattle.std.proofs.lemmas.Slice.Zip.{AllZip-long}
 pub use Rattle.std.proofs.lemmas.Str.{IsUtf8-from_is_utf8, chars-encodes, is_utf8-from_IsUtf8, scalars-chars}
 pub use Rattle.std.specs.Fmt.{digit_glyph, digits_onto, signed_decimal}
-unfoldable pub use Rattle.std.specs.Fmt.{digits}
 pub use Rattle.std.specs.Int.{◌∣◌}
 pub use Rattle.std.specs.Int.RustNames.{unsigned_abs}
 pub use Rattle.std.specs.List.{All, flat_map, list_all, range_with_len}
@@ -169,6 +168,7 @@ pub use Rattle.outcome_laws.specs.Meanings.{IsOutcomeAt}
 pub use Rattle.model_checker.specs.Models.{HaveMatrices, Refutes}
 pub use Rattle.model_checker.specs.Representations.{map_at}
 pub use Rattle.model_candidates.specs.Candidates.{Breaks, IsCandidate, is_declared_map, matrix_by, model_by, naming, place_by}
+unfoldable pub use Rattle.model_candidates.specs.Candidates.{digits}
 pub use Rattle.model_search.proofs.SearchAnswers.{breaking_candidates_refute}
 pub use Rattle.report_readback.specs.Answered.{AcceptsOf, DerivedEvidenceIsAnswered, IsAnsweredWithinLimits, PassesLimit, RefusesOf, ReportedEvidenceIsAnswered}
 pub use Rattle.report_readback.specs.ModelsReadBack.{IsReadAsModels, ReportsReadBackAsModels, refuted_in}

@@ -1,7 +1,6 @@
 -- A candidate that breaks a claim is a model that can be written.
-use Rattle.report_readback.proofs.Prelude.{◌≡◌, ◌<◌, ◌≤◌, ◌&&◌, ℕ, Bool, true, false, cond, nat_eq, nat_le, List, Option, Some, None, refl, sym, ap, ◌∙◌, subst, arith, length, get_or, IsTrue, list_all, and_parts, leb-true, get_or-map-range_with_len, IsQuiver, letters, star, Named, Map, Declaration, object_count, letter_count, letter_name, named_in, quiver_of, IsDeclared, ObjectsFirst, is_found, identity_is, letters-quiver_of, Shape, Problem, posed_quiver, map_after_objects, map_before_adjoint, Matrix, Model, HaveMatrices, map_at, is_declared_map, matrix_by, place_by, model_by, IsCandidate, naming, Breaks, breaking_candidates_refute, is_named, Comes, letter_is_spelled, HasMap, IsPlaced, IsWritableModel}
+use Rattle.report_readback.proofs.Prelude.{◌≡◌, ◌<◌, ◌≤◌, ◌&&◌, ℕ, Bool, true, false, cond, nat_eq, nat_le, List, Option, Some, None, refl, sym, ap, ◌∙◌, subst, arith, length, get_or, IsTrue, list_all, and_parts, leb-true, get_or-map-range_with_len, IsQuiver, letters, star, Named, Map, Declaration, object_count, letter_count, letter_name, named_in, quiver_of, IsDeclared, ObjectsFirst, is_found, identity_is, letters-quiver_of, Shape, Problem, posed_quiver, map_after_objects, map_before_adjoint, Matrix, Model, HaveMatrices, map_at, is_declared_map, matrix_by, place_by, model_by, IsCandidate, naming, Breaks, breaking_candidates_refute, is_named, Comes, letter_is_spelled, HasMap, IsPlaced, IsWritableModel, digits}
 use Rattle.quiver.specs.declared.named.Named.TheVariants.{Object}
-use Rattle.model_candidates.specs.Candidates.{digits}
 
 -- declared maps have names
 module _ (ds : List Declaration) (declared : IsDeclared ds) (first : ObjectsFirst ds) (quiver : IsQuiver (quiver_of ds)) (names : IsTrue (list_all is_named ds)) where

@@ -1,6 +1,5 @@
 -- Tables of marks, and the numbers that are marked.
-use Rattle.statement_names.proofs.Prelude.{◌≡◌, ℕ, zero, suc, ◌+◌, ◌<◌, ◌≤◌, Bool, false, cond, ◌||◌, List, [], ◌∷◌, ◌++◌, length, get_or, replicate, refl, ap, ap₂, sym, subst, ◌∙◌, arith, add-one, range_with_len, length-replicate, filter-append, get_or-replicate_default, Marks, numbers_that}
-use Rattle.std.proofs.Common.{filter}
+use Rattle.statement_names.proofs.Prelude.{◌≡◌, ℕ, zero, suc, ◌+◌, ◌<◌, ◌≤◌, Bool, false, cond, ◌||◌, List, [], ◌∷◌, ◌++◌, length, get_or, replicate, refl, ap, ap₂, sym, subst, ◌∙◌, arith, add-one, range_with_len, length-replicate, filter-append, get_or-replicate_default, Marks, numbers_that, filter}
 
 -- the numbers that pass a test
 range_more : (a n : ℕ) → range_with_len a (n + 1) ≡ range_with_len a n ++ (a + n) ∷ []

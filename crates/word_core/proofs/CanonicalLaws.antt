@@ -1,6 +1,20 @@
 -- The canonical order is admissible.
-use Rattle.word_core.proofs.Prelude.{◌≡◌, ◌⊎◌, inl, inr, ◌<◌, ◌≤◌, ◌++◌, ◌+◌, ◌*◌, ◌^◌, ℕ, suc, List, [], ◌∷◌, length, refl, sym, ap, ap₂, ◌∙◌, arith, pow-zero, pow-suc, suc-mul, mul-add-lt, mul-le, nat_tests, tied_itself, nat_cmp_total, nat_list_cmp_total, ranked, length-append, All-head, All-tail, nat_cmp, ordering_then, slice_cmp, Ordering, Less, Equal, Greater, word_cmp, word_cmp_total, IsOver, IsAdmissible, number_of, rank_of}
+use Rattle.std.proofs.Common.{◌≡◌, ◌⊎◌, inl, inr, ◌<◌, ◌≤◌, ◌++◌, ◌+◌, ◌*◌, ◌^◌, ℕ, suc, List, [], ◌∷◌, length, refl, sym, ap, ap₂, ◌∙◌, arith}
+use Rattle.std.proofs.Math.Nat.{pow-zero, pow-suc, suc-mul}
+use Rattle.std.proofs.lemmas.Nat.{mul-add-lt, mul-le}
+use Rattle.std.proofs.lemmas.Bool.Decides.{nat_tests}
+use Rattle.std.proofs.lemmas.Cmp.{tied_itself, nat_cmp_total, nat_list_cmp_total, ranked}
+use Rattle.std.proofs.lemmas.List.{length-append}
+use Rattle.std.proofs.lemmas.List.Elements.{All-head, All-tail}
+use Rattle.std.specs.Ordering.{nat_cmp, ordering_then}
+use Rattle.std.specs.Cmp.Lexicographic.{slice_cmp}
+use Rattle.std.specs.declared.cmp.Ordering.{Ordering}
+use Rattle.std.specs.declared.cmp.Ordering.TheVariants.{Less, Equal, Greater}
+use Rattle.word_core.specs.Canonical.{word_cmp, word_cmp_total}
+use Rattle.word_core.specs.Letters.{IsOver}
 use Rattle.word_core.proofs.Order.{word_cmp-same, word_cmp-shorter}
+use Rattle.word_core.specs.Admissible.{IsAdmissible}
+use Rattle.word_core.specs.Rank.{number_of, rank_of}
 
 -- the same letters on either side change nothing, where the words are equally long
 slice_cmp-front : (l u v : List ℕ) → slice_cmp nat_cmp (l ++ u) (l ++ v) ≡ slice_cmp nat_cmp u v

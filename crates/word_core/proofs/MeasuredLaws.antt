@@ -1,6 +1,16 @@
 -- An order stays admissible where a number that adds up over the letters is compared first.
-use Rattle.word_core.proofs.Prelude.{◌≡◌, ◌⊎◌, inl, inr, ◌<◌, ◌++◌, ◌+◌, ℕ, Bool, cond, List, [], ◌∷◌, refl, sym, ap, ap₂, ◌∙◌, arith, nat_cmp_total, on_total, then_total, ranked, sum_by-append, sum_by, count_by, nat_cmp, ordering_then, Ordering, Less, Equal, Greater, word_cmp, word_cmp_total, Compare, IsAdmissible, rank_of, measured_cmp, weight_cmp, weight_rank, block_cmp, block_rank}
+use Rattle.std.proofs.Common.{◌≡◌, ◌⊎◌, inl, inr, ◌<◌, ◌++◌, ◌+◌, ℕ, Bool, cond, List, [], ◌∷◌, refl, sym, ap, ap₂, ◌∙◌, arith}
+use Rattle.std.proofs.lemmas.Cmp.{nat_cmp_total, on_total, then_total, ranked}
+use Rattle.std.proofs.lemmas.List.Sums.{sum_by-append}
+use Rattle.std.specs.List.{sum_by, count_by}
+use Rattle.std.specs.Ordering.{nat_cmp, ordering_then}
+use Rattle.std.specs.declared.cmp.Ordering.{Ordering}
+use Rattle.std.specs.declared.cmp.Ordering.TheVariants.{Less, Equal, Greater}
+use Rattle.word_core.specs.Canonical.{word_cmp, word_cmp_total}
 use Rattle.word_core.proofs.Order.{word_cmp-same}
+use Rattle.word_core.specs.Admissible.{Compare, IsAdmissible}
+use Rattle.word_core.specs.Rank.{rank_of}
+use Rattle.word_core.specs.Measured.{measured_cmp, weight_cmp, weight_rank, block_cmp, block_rank}
 use Rattle.word_core.proofs.CanonicalLaws.{nat_cmp-shifted, word_cmp-around, word_cmp-least, word_cmp-ranked}
 
 module _ (measure : List ℕ → ℕ) (adds : (u v : List ℕ) → measure (u ++ v) ≡ measure u + measure v) where

@@ -1,5 +1,13 @@
 -- The canonical order of words is total, agrees with equality, and never puts a longer word below a shorter one.
-use Rattle.word_core.proofs.Prelude.{◌≡◌, ◌⊎◌, inl, inr, ℕ, ◌<◌, ◌≤◌, List, length, refl, ap, ◌∙◌, arith, nat_tests, ranked, tied_itself, exact_bytes, nat_cmp, ordering_then, ordering_reverse, slice_cmp, Ordering, Less, Equal, Greater, word_cmp, word_cmp_total}
+use Rattle.std.proofs.Common.{◌≡◌, ◌⊎◌, inl, inr, ℕ, ◌<◌, ◌≤◌, List, length, refl, ap, ◌∙◌, arith}
+use Rattle.std.proofs.lemmas.Bool.Decides.{nat_tests}
+use Rattle.std.proofs.lemmas.Cmp.{ranked, tied_itself}
+use Rattle.std.proofs.lemmas.Map.Lookups.{exact_bytes}
+use Rattle.std.specs.Ordering.{nat_cmp, ordering_then, ordering_reverse}
+use Rattle.std.specs.Cmp.Lexicographic.{slice_cmp}
+use Rattle.std.specs.declared.cmp.Ordering.{Ordering}
+use Rattle.std.specs.declared.cmp.Ordering.TheVariants.{Less, Equal, Greater}
+use Rattle.word_core.specs.Canonical.{word_cmp, word_cmp_total}
 
 -- agrees with equality
 pub word_cmp-same : (u v : List ℕ) → word_cmp u v ≡ Equal → u ≡ v

@@ -1,6 +1,5 @@
 -- The listed places are those at which an end of the left word is a beginning of the right one.
-use Rattle.word_core.proofs.Prelude.{◌≡◌, ◌≢◌, ◌⊎◌, inl, inr, ℕ, zero, suc, ◌+◌, ◌-◌, ◌<◌, ◌≤◌, Bool, true, false, List, [], ◌∷◌, ◌++◌, length, take, drop, cond, sym, refl, subst, ap, ◌∙◌, ◌↔◌, arith, nat_eq, drop-append_seam, take-append_seam, eqb_tells, Decides-and, Decides-ltb, Decides-eqb, Decides-like, length-append, length-drop, length-take-le, take-append-drop, All-filter, All-contains, All-from_get_or, Contains-append_right, filter_passes, get_or-range_with_len, length-range_with_len, slice_eq-Decides, Decides, All, Contains, range_with_len, overlaps_at, overlap_places, OverlapsAt}
-use Rattle.std.specs.List.{filter}
+use Rattle.word_core.proofs.Prelude.{◌≡◌, ◌≢◌, ◌⊎◌, inl, inr, ℕ, zero, suc, ◌+◌, ◌-◌, ◌<◌, ◌≤◌, Bool, true, false, List, [], ◌∷◌, ◌++◌, length, take, drop, cond, sym, refl, subst, ap, ◌∙◌, ◌↔◌, arith, nat_eq, drop-append_seam, take-append_seam, eqb_tells, Decides-and, Decides-ltb, Decides-eqb, Decides-like, length-append, length-drop, length-take-le, take-append-drop, All-filter, All-contains, All-from_get_or, Contains-append_right, filter_passes, get_or-range_with_len, length-range_with_len, slice_eq-Decides, Decides, All, Contains, range_with_len, overlaps_at, overlap_places, OverlapsAt, filter}
 
 module _ (left right : List ℕ) (place : ℕ) where
   -- the letters from the place on are fewer than those of the right word, which begins with them

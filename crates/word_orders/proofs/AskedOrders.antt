@@ -1,6 +1,14 @@
 -- Each order that can be asked for is admissible, over any letters.
-use Rattle.word_orders.proofs.Prelude.{ℕ, List, OrderSpec, IsAdmissible, is_listed, weight_of, weight_rank, block_rank, rank_of, asked_cmp, word_cmp-admissible, weight_cmp-admissible, block_cmp-admissible}
+use Rattle.std.proofs.Common.{ℕ, List}
+use Rattle.word_orders.specs.declared.any.OrderSpec.{OrderSpec}
 use Rattle.word_orders.specs.declared.any.OrderSpec.TheVariants as asked
+use Rattle.word_orders.specs.Admissible.{IsAdmissible}
+use Rattle.word_orders.specs.Lists.{is_listed, weight_of}
+use Rattle.word_orders.specs.Measured.{weight_rank, block_rank}
+use Rattle.word_orders.specs.Rank.{rank_of}
+use Rattle.word_orders.specs.Specified.{asked_cmp}
+use Rattle.word_core.proofs.CanonicalLaws.{word_cmp-admissible}
+use Rattle.word_core.proofs.MeasuredLaws.{weight_cmp-admissible, block_cmp-admissible}
 
 -- the ranks of words in the order that is asked for
 abbrev pub asked_rank : ℕ → OrderSpec → List ℕ → List ℕ

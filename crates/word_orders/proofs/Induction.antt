@@ -1,5 +1,12 @@
 -- Induction along an admissible order, by the ranks of the words.
-use Rattle.word_orders.proofs.Prelude.{◌≡◌, ◌<◌, ℕ, zero, suc, List, [], ◌∷◌, length, refl, sym, subst, ap, ◌∙◌, arith, ranked, nat_cmp, ordering_then, slice_cmp, Ordering, Less, Equal, Greater, Compare, IsAdmissible, IsBelow}
+use Rattle.std.proofs.Common.{◌≡◌, ◌<◌, ℕ, zero, suc, List, [], ◌∷◌, length, refl, sym, subst, ap, ◌∙◌, arith}
+use Rattle.std.proofs.lemmas.Cmp.{ranked}
+use Rattle.std.specs.Ordering.{nat_cmp, ordering_then}
+use Rattle.std.specs.Cmp.Lexicographic.{slice_cmp}
+use Rattle.std.specs.declared.cmp.Ordering.{Ordering}
+use Rattle.std.specs.declared.cmp.Ordering.TheVariants.{Less, Equal, Greater}
+use Rattle.word_orders.specs.Admissible.{Compare, IsAdmissible}
+use Rattle.word_orders.specs.Orders.{IsBelow}
 
 -- what holds of a number when it holds of all lower ones holds of all
 strong : (P : ℕ → Type 0) → ((n : ℕ) → ((m : ℕ) → m < n → P m) → P n) → (n : ℕ) → P n

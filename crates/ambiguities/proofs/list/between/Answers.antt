@@ -1,5 +1,4 @@
-use Rattle.ambiguities.proofs.Prelude.{rules, ◌≡◌, ◌↔◌, ◌≤◌, ◌<◌, List, IfOk, length, sym, subst, All, IfOk-weaker, Rule, Ambiguity, IsBefore, ListsExactly, IsAmbiguityFrom}
-use Rattle.std.proofs.Common.{Contains}
+use Rattle.ambiguities.proofs.Prelude.{rules, ◌≡◌, ◌↔◌, ◌≤◌, ◌<◌, List, IfOk, length, sym, subst, All, IfOk-weaker, Rule, Ambiguity, IsBefore, ListsExactly, IsAmbiguityFrom, Contains}
 use Rattle.ambiguities.proofs.Leads.{short_leads, nonempty_leads}
 use Rattle.ambiguities.proofs.list.between.Goals as goal
 

@@ -1,5 +1,4 @@
-use Rattle.ambiguities.proofs.Prelude.{rules, always_returns_same, ranks_by, IfOk-weaker, key_cmp}
-use Rattle.std.proofs.Common.{is_lt}
+use Rattle.ambiguities.proofs.Prelude.{rules, always_returns_same, ranks_by, IfOk-weaker, key_cmp, is_lt}
 use Rattle.ambiguities.proofs.Keyed.{key_cmp-total}
 use Rattle.ambiguities.proofs.sorting.sort_keys.Goals as goal
 

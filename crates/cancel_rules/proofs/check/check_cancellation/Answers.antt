@@ -1,6 +1,5 @@
-use Rattle.cancel_rules.proofs.Prelude.{rules, ◌≡◌, ◌<◌, List, None, Err, sym, subst, to_z, of_z, first_overflow, products, letters, Declaration, letter_count, quiver_of, letters-quiver_of, polynomials, ReachesClaim, RefusesGoal, Side, Cancellation, Common, declared_for, row_total, claim_named, all_items, CancelBegins, HasItems, AcceptsCancellation, RefusesCancellation, IsReadableCancellation}
+use Rattle.cancel_rules.proofs.Prelude.{rules, ◌≡◌, ◌<◌, List, None, Err, sym, subst, to_z, of_z, first_overflow, products, letters, Declaration, letter_count, quiver_of, letters-quiver_of, polynomials, ReachesClaim, RefusesGoal, Side, Cancellation, Common, declared_for, row_total, claim_named, all_items, CancelBegins, HasItems, AcceptsCancellation, RefusesCancellation, IsReadableCancellation, All}
 use mir.Syntax.{w128}
-use Rattle.std.specs.List.{All}
 use Rattle.cancel_rules.specs.declared.cancellation.Side.TheVariants as side
 use Rattle.cancel_rules.proofs.Outcomes.{refuses_from_beginning, refuses_from_items, refuses_from_goal, err_told, memory_told}
 use Rattle.cancel_rules.proofs.Shown.{accepted_cancellation_leads}

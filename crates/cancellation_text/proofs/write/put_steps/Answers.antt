@@ -1,5 +1,4 @@
-use Rattle.cancellation_text.proofs.Prelude.{rules, ◌≡◌, ◌++◌, OnOk, ap, sym, subst, ◌∙◌, append_assoc, take_all, goal_text, next_put, holds_there, IsItemOver, item_text, items_text, steps_text}
-use Rattle.std.proofs.Common.{All}
+use Rattle.cancellation_text.proofs.Prelude.{rules, ◌≡◌, ◌++◌, OnOk, ap, sym, subst, ◌∙◌, append_assoc, take_all, goal_text, next_put, holds_there, IsItemOver, item_text, items_text, steps_text, All}
 use Rattle.cancellation_text.proofs.write.put_steps.Goals as goal
 use Rattle.cancellation_text.proofs.write.put_steps.Goals.{in-Lemma+in_ok-put_lemma-in-Lemma, in-Cancel+in_ok-put_cancel-in-Cancel}
 

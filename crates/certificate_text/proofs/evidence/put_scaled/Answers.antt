@@ -1,5 +1,4 @@
-use Rattle.certificate_text.proofs.Prelude.{◌≡◌, ◌++◌, OnOk, rules, sym, subst, codes, signed_decimal, flat_map, lemma_row_text, IsLemmaRowOver, four_put}
-use Rattle.std.proofs.Common.{All}
+use Rattle.certificate_text.proofs.Prelude.{◌≡◌, ◌++◌, OnOk, rules, sym, subst, codes, signed_decimal, flat_map, lemma_row_text, IsLemmaRowOver, four_put, All}
 use Rattle.certificate_text.proofs.evidence.put_scaled.Goals as goal
 
 pub returns : goal.returns

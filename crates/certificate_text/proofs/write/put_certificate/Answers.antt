@@ -1,5 +1,4 @@
-use Rattle.certificate_text.proofs.Prelude.{◌≡◌, ◌++◌, OnOk, rules, sym, subst, codes, flat_map, IsRowOver, opening_text, row_text, three_put}
-use Rattle.std.proofs.Common.{All}
+use Rattle.certificate_text.proofs.Prelude.{◌≡◌, ◌++◌, OnOk, rules, sym, subst, codes, flat_map, IsRowOver, opening_text, row_text, three_put, All}
 use Rattle.certificate_text.proofs.write.put_certificate.Goals as goal
 
 pub put_rows-requires : goal.put_rows-requires

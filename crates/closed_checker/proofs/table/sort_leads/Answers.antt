@@ -1,5 +1,4 @@
-use Rattle.closed_checker.proofs.Prelude.{rules, nat_cmp, slice_cmp, nat_list_cmp_total, always_returns_same, ranks_by, IfOk-weaker, Lead}
-use Rattle.std.proofs.Common.{is_lt}
+use Rattle.closed_checker.proofs.Prelude.{rules, nat_cmp, slice_cmp, nat_list_cmp_total, always_returns_same, ranks_by, IfOk-weaker, Lead, is_lt}
 use Rattle.closed_checker.proofs.table.sort_leads.Goals as goal
 
 pub returns-clause-sorted : goal.returns-clause-sorted

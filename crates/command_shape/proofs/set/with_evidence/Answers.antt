@@ -1,5 +1,4 @@
-use Rattle.command_shape.proofs.Prelude.{◌≡◌, ◌∙◌, List, IfOk, ap, sym, subst, take, get_or, take_more, fold_push, App, app_of, EvidenceCommand, Check, with_evidence}
-use Rattle.std.specs.List.{fold}
+use Rattle.command_shape.proofs.Prelude.{◌≡◌, ◌∙◌, List, IfOk, ap, sym, subst, take, get_or, take_more, fold_push, App, app_of, EvidenceCommand, Check, with_evidence, fold}
 use Rattle.command_shape.proofs.set.with_evidence.Goals as goal
 
 -- one command more

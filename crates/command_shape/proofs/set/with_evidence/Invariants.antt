@@ -1,5 +1,4 @@
-use Rattle.command_shape.proofs.Prelude.{◌≡◌, IfOk, false, take, App, app_of, fields_of, with_evidence}
-use Rattle.std.specs.List.{fold}
+use Rattle.command_shape.proofs.Prelude.{◌≡◌, IfOk, false, take, App, app_of, fields_of, with_evidence, fold}
 use Rattle.command_shape.proofs.set.with_evidence.Given as goal
 
 -- the commands so far are below it

@@ -1,5 +1,4 @@
-use Rattle.model_candidates.proofs.Prelude.{◌≡◌, ◌+◌, ◌-◌, ◌*◌, ◌<◌, ◌++◌, ◌∷◌, [], ℕ, List, length, map, sym, ap, ap₂, subst, ◌∙◌, arith, range_with_len, map-range_with_len_more, LinearRow, equation_of, Add, AreAgainst, add-both, against-behind, against-before, equation_of-row_of, length-row_of, row_of-below, row_with, rows_with}
-use Rattle.std.proofs.Common.{All}
+use Rattle.model_candidates.proofs.Prelude.{◌≡◌, ◌+◌, ◌-◌, ◌*◌, ◌<◌, ◌++◌, ◌∷◌, [], ℕ, List, length, map, sym, ap, ap₂, subst, ◌∙◌, arith, range_with_len, map-range_with_len_more, LinearRow, equation_of, Add, AreAgainst, add-both, against-behind, against-before, equation_of-row_of, length-row_of, row_of-below, row_with, rows_with, All}
 use Rattle.model_candidates.proofs.FactorRows.{row_is_equation}
 use Rattle.model_candidates.proofs.Ranges.{map_range_split}
 use Rattle.model_candidates.proofs.factor_rows.add_rows.Goals as goal

@@ -1,5 +1,4 @@
-use Rattle.model_candidates.proofs.Prelude.{◌≡◌, Some, IfSome, sym, ap, subst, ◌∙◌, quiver_of, posed_quiver, IsCandidate, model_by, AreEntryValues}
-use Rattle.std.specs.Option.{option_map}
+use Rattle.model_candidates.proofs.Prelude.{◌≡◌, Some, IfSome, sym, ap, subst, ◌∙◌, quiver_of, posed_quiver, IsCandidate, model_by, AreEntryValues, option_map}
 use Rattle.model_candidates.proofs.NumberedShapes.{posed_shape, shape_numbered, one_shape}
 use Rattle.model_candidates.proofs.one_candidate.candidate_by.Goals as goal
 

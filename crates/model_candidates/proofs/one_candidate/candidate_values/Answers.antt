@@ -1,5 +1,4 @@
-use Rattle.model_candidates.proofs.Prelude.{ℕ, ◌+◌, ◌*◌, ◌%◌, List, map, not, Some, IfNone, IfSome, IfOk, sym, ap, subst, ◌∙◌, arith, range_with_len, IfOk-weaker, quiver_of, posed_quiver, IsCandidate, IsGreedy, IsSolution, digit, model_by, word_of_stream, AreEntryValues}
-use Rattle.std.specs.Option.{option_map}
+use Rattle.model_candidates.proofs.Prelude.{ℕ, ◌+◌, ◌*◌, ◌%◌, List, map, not, Some, IfNone, IfSome, IfOk, sym, ap, subst, ◌∙◌, arith, range_with_len, IfOk-weaker, quiver_of, posed_quiver, IsCandidate, IsGreedy, IsSolution, digit, model_by, word_of_stream, AreEntryValues, option_map}
 use Rattle.model_candidates.proofs.CandidateModels.{modulus_of_shape}
 use Rattle.model_candidates.proofs.NumberedShapes.{digits_are_values, draws_are_values, one_shape, plan_fits, posed_shape, shape_numbered}
 use Rattle.model_candidates.proofs.TestedValues.{drawn_candidate, greedy_are_values}

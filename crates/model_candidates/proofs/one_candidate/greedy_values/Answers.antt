@@ -1,5 +1,4 @@
-use Rattle.model_candidates.proofs.Prelude.{◌≡◌, ◌<◌, IfNone, IfSome, length, sym, ap, ap₂, subst, ◌∙◌, HasNoSolution, StandFor, IsGreedy, model_by, filled, picked, set_count, IsZeroAtSignature, system_for, quiver_of}
-use Rattle.std.proofs.Common.{All}
+use Rattle.model_candidates.proofs.Prelude.{◌≡◌, ◌<◌, IfNone, IfSome, length, sym, ap, ap₂, subst, ◌∙◌, HasNoSolution, StandFor, IsGreedy, model_by, filled, picked, set_count, IsZeroAtSignature, system_for, quiver_of, All}
 use Rattle.matrix_models.specs.Greedy as of_system
 use Rattle.model_candidates.proofs.DrawnEntries.{flag_of_each}
 use Rattle.model_candidates.proofs.GivenValues.{AreGiven}

@@ -1,5 +1,4 @@
-use Rattle.model_candidates.proofs.Prelude.{◌<◌, length, sym, ap, subst, ◌∙◌, IfOk-weaker, AreGreedyFor}
-use Rattle.std.proofs.Common.{All}
+use Rattle.model_candidates.proofs.Prelude.{◌<◌, length, sym, ap, subst, ◌∙◌, IfOk-weaker, AreGreedyFor, All}
 use Rattle.model_candidates.proofs.one_candidate.solution_by.Goals as goal
 
 pub values-requires-clause-size : goal.values-requires-clause-size

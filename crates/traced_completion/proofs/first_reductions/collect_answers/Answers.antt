@@ -1,5 +1,4 @@
-use Rattle.traced_completion.proofs.Prelude.{rules, ◌≡◌, ◌++◌, [], ◌∷◌, Ok, Err, length, sym, ap, subst, ◌∙◌, arith, into_iter_items, nil_from_length, append-nil, Explains}
-use Rattle.std.specs.Result.{MatchResult}
+use Rattle.traced_completion.proofs.Prelude.{rules, ◌≡◌, ◌++◌, [], ◌∷◌, Ok, Err, length, sym, ap, subst, ◌∙◌, arith, into_iter_items, nil_from_length, append-nil, Explains, MatchResult}
 use Rattle.traced_completion.proofs.InOrder.{join, values, join-nil, value-next, explains-itself}
 use Rattle.traced_completion.proofs.first_reductions.collect_answers.Goals as goal
 

@@ -1,5 +1,4 @@
-use Rattle.word_core.proofs.Prelude.{◌≡◌, ◌↔◌, ℕ, List, IfOk, rules, subst, sym, IfOk-weaker, overlap_places, OverlapsAt}
-use Rattle.std.proofs.Common.{Contains}
+use Rattle.word_core.proofs.Prelude.{◌≡◌, ◌↔◌, ℕ, List, IfOk, rules, subst, sym, IfOk-weaker, overlap_places, OverlapsAt, Contains}
 use Rattle.word_core.proofs.Overlaps.{overlap_places-tells}
 use Rattle.word_core.proofs.word.Word.overlaps.Goals as goal
 
