@@ -4,7 +4,7 @@
 `proofs/Prelude.antt` of a crate names each lemma and definition of std, of the crates below and of the crate's own definitions that its
 proofs take; a file of proofs takes them from there, and else only names of its crate's own proofs. A name with two meanings in a crate has
 one in the prelude, that which more files take when it gets there, and files with the other import that one themselves. So do the files that
-definitions stand on.
+definitions and clauses stand on.
 
 Prints each file that takes a name past its prelude, and each name of a prelude that no file takes; the status is 1 where there is one.
 With --write the preludes and the imports are written anew.
@@ -21,7 +21,7 @@ from typing import Dict, Iterator, List, NamedTuple, Optional, Set, Tuple
 
 TOP = Path(__file__).resolve().parents[1]
 CRATES = TOP / "crates"
-IMPORT = re.compile(r"^((?:unfoldable )?pub )?use (Rattle\.[^{ ]+)\.\{(.*)\}$")
+IMPORT = re.compile(r"^((?:unfoldable )?pub |ghost )?use (Rattle\.[^{ ]+)\.\{(.*)\};?$")
 # The definitions that a proof opens.
 OPENED = re.compile(r"^\s*unfolding (.*)$", re.M)
 COMMENT = "-- What the proofs here take from std, from the crates below and from this crate's definitions, each name once."
@@ -96,9 +96,12 @@ def meaning(item: Item) -> Meaning:
 
 @lru_cache(maxsize=None)
 def cited() -> Set[str]:
-    """The modules of proofs that definitions stand on: whoever reads those reads these too, so they import by themselves what they take."""
+    """The modules of proofs that definitions and clauses stand on: whoever reads those reads these too, so they import by themselves what
+    they take, and lead to no module that is made for proofs.
+    """
     found: Set[str] = set()
-    texts = [file.read_text(encoding="utf-8").splitlines() for file in CRATES.glob("*/specs/**/*.antt")]
+    files = [*CRATES.glob("*/specs/**/*.antt"), *CRATES.glob("*/src/**/*.rt")]
+    texts = [file.read_text(encoding="utf-8").splitlines() for file in files]
     while texts:
         modules = {meaning(it)[0] for line in texts.pop() for it in items(line)[1]}
         new = {path for path in modules if path.split(".")[2] == "proofs" and path.split(".")[1] in crates()} - found
@@ -114,19 +117,25 @@ class Room:
         self.crate = crate
         self.folder = CRATES / crate / "proofs"
         self.prelude, self.path = self.folder / "Prelude.antt", f"Rattle.{crate}.proofs.Prelude"
-        self.texts = {file: file.read_text(encoding="utf-8").splitlines() for file in self.files()}
-        self.opened = {name for lines in self.texts.values() for names in OPENED.findall("\n".join(lines)) for name in names.split()}
+        every = {file: file.read_text(encoding="utf-8").splitlines() for file in self.files()}
+        self.apart = {file: lines for file, lines in every.items() if f"Rattle.{crate}.proofs.{file.stem}" in cited()}
+        self.texts = {file: lines for file, lines in every.items() if file not in self.apart}
+        self.opened = {(it.name, meaning(it)) for lines in self.texts.values() for it in self.opened_in(lines)}
         self.chosen = self.choice()
 
     def files(self) -> Iterator[Path]:
-        own = (file for file in sorted(self.folder.rglob("*.antt")) if file.name != "Lib.antt" and file != self.prelude)
-        return (file for file in own if f"Rattle.{self.crate}.proofs.{file.stem}" not in cited())
+        return (file for file in sorted(self.folder.rglob("*.antt")) if file.name != "Lib.antt" and file != self.prelude)
 
     def taken(self, line: str) -> List[Item]:
         """What the line imports that a prelude may name, whether it takes it from there or not."""
         is_public, found = items(line)
         own = f"Rattle.{self.crate}.proofs."
         return [] if is_public else [it for it in found if it.path == self.path or not it.path.startswith(own)]
+
+    def opened_in(self, lines: List[str]) -> Iterator[Item]:
+        """What the file imports of the definitions that its proofs open."""
+        names = {name for found in OPENED.findall("\n".join(lines)) for name in found.split()}
+        return (it for line in lines for it in self.taken(line) if it.name in names)
 
     def choice(self) -> Dict[str, Item]:
         """The item that each name of the prelude stands for."""
@@ -160,7 +169,7 @@ class Room:
         """The lines of the prelude."""
         groups: Dict[Tuple[str, bool], List[Item]] = defaultdict(list)
         for item in self.chosen.values():
-            groups[item.path, item.name in self.opened].append(item)
+            groups[item.path, (item.name, meaning(item)) in self.opened].append(item)
         order = sorted(groups, key=lambda it: (*self.rank(it[0]), it[1]))
         words = {it: "unfoldable pub use" if it[1] else "pub use" for it in order}
         lines = [f"{words[it]} {it[0]}.{{{', '.join(map(str, sorted(groups[it])))}}}" for it in order]
@@ -185,10 +194,23 @@ class Room:
             out.insert(place or 0, f"use {self.path}.{{{', '.join(got)}}}")
         return out
 
+    def direct(self, lines: List[str]) -> List[str]:
+        """The lines of a file that takes nothing from the prelude."""
+        given = {it.name: it for line in self.written() for it in items(line)[1]}
+        out: List[str] = []
+        for line in lines:
+            found = [it for it in items(line)[1] if it.path == self.path]
+            groups: Dict[str, List[Item]] = defaultdict(list)
+            for it in found:
+                groups[given[it.name].path].append(given[it.name])
+            out += [f"use {path}.{{{', '.join(map(str, groups[path]))}}}" for path in sorted(groups, key=self.rank)] or [line]
+        return out
+
     def changes(self) -> Dict[Path, List[str]]:
         """The files that are to be written anew, with their lines."""
         new = {file: self.imports(lines) for file, lines in self.texts.items()}
-        changed = {file: lines for file, lines in new.items() if lines != self.texts[file]}
+        new.update((file, self.direct(lines)) for file, lines in self.apart.items())
+        changed = {file: lines for file, lines in new.items() if lines != self.texts.get(file, self.apart.get(file))}
         if self.names() != self.written():
             changed[self.prelude] = self.names()
         listing = self.folder / "Lib.antt"

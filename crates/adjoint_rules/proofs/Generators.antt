@@ -1,5 +1,24 @@
 -- What the generators of a problem mean: they are typed, star representations make them zero, and they say the same as those of the definition.
-use Rattle.adjoint_rules.proofs.Prelude.{◌≡◌, ℕ, ◌<◌, ℤ, List, [], ◌∷◌, sym, refl, ap₂, ◌∙◌, All, AllByRecursion, AllZip, All-head, All-tail, Structure, PreadditiveLaws, SamePolynomial, Quiver, IsQuiver, IsTyped, Representation, Represents, StarRepresents, HasSignature, HasValueZero, MakesZero, IsStarSound, Same_sym, Same_trans, linear_same, group_at, value_at-linear, word_at, word_at_is_arrow, generators_typed, Object, Poly, canonical_unique, Sig, Declaration, object_count, quiver_of, is_quiver, Parts, polynomials, numbers, IsTypedOf, HasObjects, IsPosed, IsClosed, generators_in, GeneratorsAreUnique}
+use Rattle.std.proofs.Common.{◌≡◌, ℕ, ◌<◌, ℤ, List, [], ◌∷◌, sym, refl, ap₂, ◌∙◌}
+use Rattle.std.proofs.lemmas.List.Elements.{All-head, All-tail}
+use Rattle.std.specs.List.{All, AllByRecursion, AllZip}
+use Rattle.definitions.proofs.Coefficients.{Same_sym, Same_trans}
+use Rattle.definitions.proofs.Linear.{linear_same}
+use Rattle.definitions.proofs.Typed.{generators_typed}
+use Rattle.definitions.proofs.Values.{group_at, value_at-linear, word_at, word_at_is_arrow}
+use Rattle.definitions.specs.Category.{Structure, PreadditiveLaws}
+use Rattle.definitions.specs.Poly.{SamePolynomial}
+use Rattle.definitions.specs.Quiver.{Quiver, IsQuiver, IsTyped}
+use Rattle.definitions.specs.Representation.{Representation, Represents, StarRepresents}
+use Rattle.definitions.specs.Soundness.{HasSignature, HasValueZero, MakesZero, IsStarSound}
+use Rattle.word_core.specs.declared.letter.Object.{Object}
+use Rattle.nc_polynomial.proofs.Unique.{canonical_unique}
+use Rattle.nc_polynomial.specs.declared.poly.Poly.{Poly}
+use Rattle.quiver.proofs.Identities.{is_quiver}
+use Rattle.quiver.specs.Declarations.{Declaration, object_count, quiver_of}
+use Rattle.quiver.specs.declared.named.Sig.{Sig}
+use Rattle.adjoint_rules.specs.Problem.{polynomials, numbers, IsTypedOf, HasObjects, IsPosed, IsClosed, generators_in, GeneratorsAreUnique}
+use Rattle.adjoint_rules.specs.declared.parts.Parts.{Parts}
 
 -- what holds of each polynomial holds of each of others that are the same
 along : (P : List (ℤ × List ℕ) → Type 0) → ((r p : List (ℤ × List ℕ)) → SamePolynomial r p → P p → P r) → (rs ps : List (List (ℤ × List ℕ))) → AllZip SamePolynomial rs ps → AllByRecursion P ps → AllByRecursion P rs

@@ -12,32 +12,23 @@ pub use Rattle.std.specs.Ordering.{is_gt, nat_cmp}
 pub use Rattle.std.specs.Prelude.{IsTrue, if◌then◌else◌, nat_eq, nat_le, pos}
 pub use Rattle.definitions.proofs.Adjoints.{adjoint_word-adjoint_word, adjoint_word-append, coefficient_of-adjoint_poly}
 pub use Rattle.definitions.proofs.Coefficients.{SamePolynomial-poly_eq, Same_refl, Same_sym, Same_trans, poly_eq-true}
-pub use Rattle.definitions.proofs.Linear.{linear_same}
 pub use Rattle.definitions.proofs.StarSound.{all-append}
-pub use Rattle.definitions.proofs.Typed.{generators_typed}
-pub use Rattle.definitions.proofs.Values.{group_at, value_at-linear, word_at, word_at_is_arrow}
-pub use Rattle.definitions.specs.Category.{PreadditiveLaws, Structure}
 pub use Rattle.definitions.specs.Generators.{adjoint_poly, adjoint_word, generators_of, left_unit, letter_units, new_adjoint, right_unit, units}
 pub use Rattle.definitions.specs.Poly.{SamePolynomial, Term, coefficient_of, poly_eq, poly_multiple}
-pub use Rattle.definitions.specs.Quiver.{IsQuiver, IsTyped, Quiver, letters, source, star, target}
-pub use Rattle.definitions.specs.Representation.{Representation, Represents, StarRepresents}
-pub use Rattle.definitions.specs.Soundness.{HasSignature, HasValueZero, IsStarSound, MakesZero}
+pub use Rattle.definitions.specs.Quiver.{IsQuiver, Quiver, letters, source, star, target}
 pub use Rattle.lists.proofs.Zips.{AllZip-append}
 pub use Rattle.word_core.specs.declared.letter.Letter.{Letter}
 pub use Rattle.word_core.specs.declared.letter.Object.{Object}
 pub use Rattle.nc_polynomial.proofs.Shapes.{shaped-negated}
-pub use Rattle.nc_polynomial.proofs.Unique.{canonical_unique}
 pub use Rattle.nc_polynomial.specs.Adjoint.{IsInvolution, numbers_of}
 pub use Rattle.nc_polynomial.specs.Shape.{IsCanonical}
 pub use Rattle.nc_polynomial.specs.Terms.{negated}
 pub use Rattle.nc_polynomial.specs.declared.poly.Poly.{Poly}
 pub use Rattle.quiver.proofs.Counts.{few_letters, length-letter_table, letters-quiver_of}
-pub use Rattle.quiver.proofs.Identities.{is_quiver}
 pub use Rattle.quiver.proofs.Letters.{in_range_from_table, letter_is, star-quiver_of}
 pub use Rattle.quiver.specs.Declarations.{Declaration, IsDeclared, LetterEntry, arrow, letter_at, letter_count, letter_table, object, object_count, quiver_of}
-pub use Rattle.quiver.specs.declared.named.Sig.{Sig}
 pub use Rattle.adjoint_rules.specs.Laws.{AdjointsAreAnInvolution}
 pub use Rattle.adjoint_rules.specs.Limits.{generator_limit}
 pub use Rattle.adjoint_rules.specs.Parts.{adjoints_in, units_in}
-pub use Rattle.adjoint_rules.specs.Problem.{GeneratorsAreUnique, HasObjects, IsClosed, IsPosed, IsTypedOf, generators_in, is_in_play, numbers, polynomials}
+pub use Rattle.adjoint_rules.specs.Problem.{IsClosed, IsPosed, generators_in, is_in_play, numbers, polynomials}
 pub use Rattle.adjoint_rules.specs.declared.parts.Parts.{Parts}

@@ -1,5 +1,17 @@
 -- The S-polynomial is the sum of its rows.
-use Rattle.ambiguities.proofs.Prelude.{◌≡◌, List, [], Ok, sym, subst, append-nil, Term, SamePolynomial, poly_sum, poly_multiple, poly_between, combined, and_then, sized-value, Row, origin_poly, Rule, polynomials_of, Ambiguity, first_row, second_row, row_multiple, s_polynomial_of, SPolynomialsBalance}
+use Rattle.std.proofs.Common.{◌≡◌, List, [], Ok, sym, subst}
+use Rattle.std.proofs.lemmas.List.{append-nil}
+use Rattle.definitions.specs.Poly.{Term, SamePolynomial, poly_sum, poly_multiple, poly_between}
+use Rattle.traced_rows.specs.Traces.{origin_poly}
+use Rattle.traced_rows.specs.declared.Row.{Row}
+use Rattle.nc_polynomial.proofs.Chains.{sized-value}
+use Rattle.nc_polynomial.specs.Arithmetic.{combined}
+use Rattle.nc_polynomial.specs.Product.{and_then}
+use Rattle.rule_reduce.specs.RuleLists.{polynomials_of}
+use Rattle.rule_reduce.specs.declared.rule.Rule.{Rule}
+use Rattle.ambiguities.specs.Laws.{SPolynomialsBalance}
+use Rattle.ambiguities.specs.SPolynomials.{first_row, second_row, row_multiple, s_polynomial_of}
+use Rattle.ambiguities.specs.declared.ambiguity.Ambiguity.{Ambiguity}
 use Rattle.ambiguities.proofs.Multiples.{passed, combined_value}
 
 module _ (rules : List Rule) (a : Ambiguity) where

@@ -1,5 +1,30 @@
 -- The leading words of the two multiples cancel, and all other words are below them.
-use Rattle.ambiguities.proofs.Prelude.{◌≡◌, ◌≢◌, ◌⊎◌, inl, inr, ◌<◌, ℕ, zero, suc, ℤ, pos, negsuc, ◌+ℤ◌, ◌*ℤ◌, ◌<ℤ◌, List, ◌++◌, take, Ok, refl, sym, ap, ap₂, ◌∙◌, subst, get_or, All, *ℤ-zero, All-take, All-map, Less, Term, coefficient_of, poly_multiple, poly_between, coefficient_of-append, coefficient_of-multiple, IsOver, Compare, IsAdmissible, IsBelow, IsOver-append, IsOver-front, IsOver-back, IsShaped, distinct-descending, words_listed, recursion_from_IsDescending, Rule, IsRule, IsAtMost, leading-greatest, leading-all, rule_at-all, rule_at-polynomial, words_with_coefficients, Kind, Overlap, Inclusion, Ambiguity, IsAmbiguity, joined_word, overlap_word_of, first_row, second_row, s_polynomial_of, EachOfRow, LeadingWordsCancel, all_two}
+use Rattle.std.proofs.Common.{◌≡◌, ◌≢◌, ◌⊎◌, inl, inr, ◌<◌, ℕ, zero, suc, ℤ, pos, negsuc, ◌+ℤ◌, ◌*ℤ◌, ◌<ℤ◌, List, ◌++◌, take, Ok, refl, sym, ap, ap₂, ◌∙◌, subst, get_or}
+use Rattle.std.proofs.Math.IntN.{*ℤ-zero}
+use Rattle.std.proofs.lemmas.List.Elements.{All-take, All-map}
+use Rattle.std.specs.List.{All}
+use Rattle.std.specs.declared.cmp.Ordering.TheVariants.{Less}
+use Rattle.definitions.proofs.Coefficients.{coefficient_of-append, coefficient_of-multiple}
+use Rattle.definitions.specs.Poly.{Term, coefficient_of, poly_multiple, poly_between}
+use Rattle.word_core.specs.Letters.{IsOver}
+use Rattle.traced_rows.proofs.Lists.{all_two}
+use Rattle.nc_polynomial.proofs.Distinct.{distinct-descending, words_listed}
+use Rattle.nc_polynomial.proofs.Shapes.{recursion_from_IsDescending}
+use Rattle.nc_polynomial.specs.Shape.{IsShaped}
+use Rattle.word_orders.proofs.Over.{IsOver-append, IsOver-front, IsOver-back}
+use Rattle.word_orders.specs.Admissible.{Compare, IsAdmissible}
+use Rattle.word_orders.specs.Orders.{IsBelow}
+use Rattle.rule_reduce.proofs.AtMost.{IsAtMost, leading-greatest, leading-all}
+use Rattle.rule_reduce.proofs.Numbers.{rule_at-all, rule_at-polynomial}
+use Rattle.rule_reduce.proofs.WordsKept.{words_with_coefficients}
+use Rattle.rule_reduce.specs.RuleLists.{IsRule}
+use Rattle.rule_reduce.specs.declared.rule.Rule.{Rule}
+use Rattle.ambiguities.specs.Ambiguities.{IsAmbiguity, joined_word, overlap_word_of}
+use Rattle.ambiguities.specs.Laws.{EachOfRow, LeadingWordsCancel}
+use Rattle.ambiguities.specs.SPolynomials.{first_row, second_row, s_polynomial_of}
+use Rattle.ambiguities.specs.declared.ambiguity.Ambiguity.{Ambiguity}
+use Rattle.ambiguities.specs.declared.ambiguity.Kind.{Kind}
+use Rattle.ambiguities.specs.declared.ambiguity.Kind.TheVariants.{Overlap, Inclusion}
 use Rattle.ambiguities.proofs.Joined.{overlap_word-is, first_splits, second_splits, leading_at-is}
 use Rattle.ambiguities.proofs.Cancelling.{factors_cancel}
 use Rattle.ambiguities.proofs.Multiples.{coefficient_of-around, leading_coefficient}

@@ -1,5 +1,12 @@
 -- The factors of the two rules make their leading coefficients equal.
-use Rattle.ambiguities.proofs.Prelude.{◌≡◌, ℕ, suc, ◌*◌, ◌/◌, ℤ, pos, negsuc, neg_ℤ, ◌+ℤ◌, ◌*ℤ◌, ◌<ℤ◌, int_div, sym, ap, ◌∙◌, arith, ints, *ℤ_comm, div-mul_cancel, mul_comm, mul_assoc, IsGcd, *ℤ-neg_ℤ, gcd_within, gcd_of, gcd_within-IsGcd}
+use Rattle.std.proofs.Common.{◌≡◌, ℕ, suc, ◌*◌, ◌/◌, ℤ, pos, negsuc, neg_ℤ, ◌+ℤ◌, ◌*ℤ◌, ◌<ℤ◌, int_div, sym, ap, ◌∙◌, arith}
+use Rattle.std.proofs.Math.IntN.{*ℤ_comm}
+use Rattle.std.proofs.Math.Nat.{div-mul_cancel, mul_comm, mul_assoc}
+use Rattle.std.proofs.lemmas.Int.{ints}
+use Rattle.std.specs.Int.{IsGcd}
+use Rattle.definitions.proofs.Integers.{*ℤ-neg_ℤ}
+use Rattle.coef_int.proofs.Divisors.{gcd_within-IsGcd}
+use Rattle.coef_int.specs.Divisor.{gcd_within, gcd_of}
 
 -- (b / g) a = (a / g) b
 crossed : (a b g : ℕ) → IsGcd a b g → (b / g) * a ≡ b * (a / g)

@@ -1,5 +1,18 @@
 -- Both leading words occur in the overlap word.
-use Rattle.ambiguities.proofs.Prelude.{◌≡◌, ℕ, ◌+◌, ◌≤◌, List, [], ◌++◌, length, take, drop, Some, refl, sym, ap, ap₂, ◌∙◌, subst, arith, same_Some, append-nil, append_assoc, take_at, OccursAt, OverlapsAt, OccursAt-length, Rule, rule_at, split_at, Kind, Overlap, Inclusion, Ambiguity, MeetsAs, IsAmbiguity, lead_at, joined_word, overlap_word_of, leading_at, first_row, second_row}
+use Rattle.std.proofs.Common.{◌≡◌, ℕ, ◌+◌, ◌≤◌, List, [], ◌++◌, length, take, drop, Some, refl, sym, ap, ap₂, ◌∙◌, subst, arith}
+use Rattle.std.proofs.lemmas.List.{append-nil, append_assoc, take_at}
+use Rattle.std.proofs.lemmas.Option.{same_Some}
+use Rattle.word_core.proofs.Places.{OccursAt-length}
+use Rattle.word_core.specs.Occurrence.{OccursAt}
+use Rattle.word_core.specs.Overlap.{OverlapsAt}
+use Rattle.rule_reduce.proofs.WordsKept.{split_at}
+use Rattle.rule_reduce.specs.RuleLists.{rule_at}
+use Rattle.rule_reduce.specs.declared.rule.Rule.{Rule}
+use Rattle.ambiguities.specs.Ambiguities.{MeetsAs, IsAmbiguity, lead_at, joined_word, overlap_word_of}
+use Rattle.ambiguities.specs.SPolynomials.{leading_at, first_row, second_row}
+use Rattle.ambiguities.specs.declared.ambiguity.Ambiguity.{Ambiguity}
+use Rattle.ambiguities.specs.declared.ambiguity.Kind.{Kind}
+use Rattle.ambiguities.specs.declared.ambiguity.Kind.TheVariants.{Overlap, Inclusion}
 
 pub record HasBoth (w p q : List ℕ) (place : ℕ) : Type 0 where
   pub first : OccursAt w p 0

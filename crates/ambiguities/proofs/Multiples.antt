@@ -1,5 +1,25 @@
 -- The polynomial of a rule between two words, and the sum of two multiples.
-use Rattle.ambiguities.proofs.Prelude.{◌≡◌, ℕ, ℤ, pos, ◌+ℤ◌, cond, List, [], ◌∷◌, ◌++◌, Some, Result, Ok, Err, refl, sym, ap, ap₂, ◌∙◌, subst, get_or, All, is_eq, All-nil, All-cons, Term, word_eq, coefficient_of, SamePolynomial, poly_sum, poly_multiple, poly_between, Same_trans, SamePolynomial-append, coefficient_other, PolyFault, scaled, products, added, sums, and_then, combined, IsShaped, word_cmp-around, finished-value, no_error, AreDistinct, distinct-descending, first_coefficient, recursion_from_IsDescending, SamePolynomial-added, SamePolynomial-scaled, word_eq-cmp, word_eq-turned, Compare, leading_term, leading-all}
+use Rattle.std.proofs.Common.{◌≡◌, ℕ, ℤ, pos, ◌+ℤ◌, cond, List, [], ◌∷◌, ◌++◌, Some, Result, Ok, Err, refl, sym, ap, ap₂, ◌∙◌, subst, get_or}
+use Rattle.std.proofs.lemmas.List.Elements.{All-nil, All-cons}
+use Rattle.std.specs.List.{All}
+use Rattle.std.specs.Ordering.{is_eq}
+use Rattle.definitions.proofs.Coefficients.{Same_trans, SamePolynomial-append}
+use Rattle.definitions.proofs.Linear.{coefficient_other}
+use Rattle.definitions.specs.Poly.{Term, word_eq, coefficient_of, SamePolynomial, poly_sum, poly_multiple, poly_between}
+use Rattle.nc_polynomial.proofs.Around.{word_cmp-around}
+use Rattle.nc_polynomial.proofs.Chains.{finished-value, no_error}
+use Rattle.nc_polynomial.proofs.Distinct.{AreDistinct, distinct-descending, first_coefficient}
+use Rattle.nc_polynomial.proofs.Shapes.{recursion_from_IsDescending}
+use Rattle.nc_polynomial.proofs.Values.{SamePolynomial-added, SamePolynomial-scaled}
+use Rattle.nc_polynomial.proofs.Words.{word_eq-cmp, word_eq-turned}
+use Rattle.nc_polynomial.specs.Arithmetic.{combined}
+use Rattle.nc_polynomial.specs.Product.{and_then}
+use Rattle.nc_polynomial.specs.Shape.{IsShaped}
+use Rattle.nc_polynomial.specs.Terms.{scaled, products, added, sums}
+use Rattle.nc_polynomial.specs.declared.fault.PolyFault.{PolyFault}
+use Rattle.word_orders.specs.Admissible.{Compare}
+use Rattle.rule_reduce.proofs.AtMost.{leading-all}
+use Rattle.rule_reduce.specs.Leading.{leading_term}
 
 -- the first of two calls went well, and so did the second on what it gave
 pub record Passed (r : Result (List Term) PolyFault) (next : List Term → Result (List Term) PolyFault) (p : List Term) : Type 0 where

@@ -1,5 +1,9 @@
 -- The numbers of rules.
-use Rattle.ambiguities.proofs.Prelude.{◌≡◌, ℕ, zero, suc, ◌<◌, ◌≤◌, List, length, Option, Some, None, ◌⊎◌, inl, inr, sym, ◌∙◌, arith, cases_lt, Rule, rule_at, rule_at-past}
+use Rattle.std.proofs.Common.{◌≡◌, ℕ, zero, suc, ◌<◌, ◌≤◌, List, length, Option, Some, None, ◌⊎◌, inl, inr, sym, ◌∙◌, arith}
+use Rattle.std.proofs.lemmas.Bool.{cases_lt}
+use Rattle.rule_reduce.proofs.Numbers.{rule_at-past}
+use Rattle.rule_reduce.specs.RuleLists.{rule_at}
+use Rattle.rule_reduce.specs.declared.rule.Rule.{Rule}
 
 -- a rule has a number from 1 to the number of rules
 pub rule_at-first : (rules : List Rule) (n : ℕ) (g : Rule) → rule_at rules n ≡ Some g → 0 < n

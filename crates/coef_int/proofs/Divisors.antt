@@ -1,5 +1,12 @@
 -- The greatest common divisor is that of the division with remainder.
-use Rattle.coef_int.proofs.Prelude.{◌≡◌, ℕ, zero, suc, ◌<◌, ◌+◌, ◌*◌, ◌/◌, ◌%◌, ℤ, pos, ◌<ℤ◌, refl, sym, subst, ap, ◌∙◌, arith, ◌∣◌, IsGcd, unsigned_abs, ints, IsGcd-from_mod, IsGcd-from_zero, same_from_IsGcd, div-add-mod, dvd-add_iff_right, dvd-mul_right_of_dvd, pos_of_dvd_of_pos, gcd_within, gcd_of, DivisorsAreGreatest}
+use Rattle.std.proofs.Common.{◌≡◌, ℕ, zero, suc, ◌<◌, ◌+◌, ◌*◌, ◌/◌, ◌%◌, ℤ, pos, ◌<ℤ◌, refl, sym, subst, ap, ◌∙◌, arith}
+use Rattle.std.proofs.Math.Nat.{div-add-mod, dvd-add_iff_right, dvd-mul_right_of_dvd, pos_of_dvd_of_pos}
+use Rattle.std.proofs.lemmas.Int.{ints}
+use Rattle.std.proofs.lemmas.Nat.Gcd.{IsGcd-from_mod, IsGcd-from_zero, same_from_IsGcd}
+use Rattle.std.specs.Int.{◌∣◌, IsGcd}
+use Rattle.std.specs.Int.RustNames.{unsigned_abs}
+use Rattle.coef_int.specs.Divisor.{gcd_within, gcd_of}
+use Rattle.coef_int.specs.Laws.{DivisorsAreGreatest}
 
 pub gcd_within-IsGcd : (n a b : ℕ) → b < n → IsGcd a b (gcd_within n a b)
 gcd_within-IsGcd zero a b enough = absurd (omega arith)

@@ -1,5 +1,15 @@
 -- What comes from rules below a word, as sums of rows, and back.
-use Rattle.confluence.proofs.Prelude.{ℕ, List, [], ◌∷◌, ◌++◌, arith, All, All-nil, All-cons, All-tail, Word, Term, coefficient_of, RowsAreBelow, Compare, IsAdmissible, Order, order_from_laws, below_less, less_below, Rule, IsRule, polynomials_of, is_below, ComesBelow}
+use Rattle.std.proofs.Common.{ℕ, List, [], ◌∷◌, ◌++◌, arith}
+use Rattle.std.proofs.lemmas.List.Elements.{All-nil, All-cons, All-tail}
+use Rattle.std.specs.List.{All}
+use Rattle.definitions.specs.Combination.{RowsAreBelow}
+use Rattle.definitions.specs.Poly.{Word, Term, coefficient_of}
+use Rattle.word_orders.proofs.Orders.{order_from_laws, below_less, less_below}
+use Rattle.word_orders.specs.Admissible.{Compare, IsAdmissible}
+use Rattle.word_orders.specs.Orders.{Order}
+use Rattle.rule_reduce.specs.RuleLists.{IsRule, polynomials_of}
+use Rattle.rule_reduce.specs.declared.rule.Rule.{Rule}
+use Rattle.ambiguities.specs.Resolved.{is_below, ComesBelow}
 use Rattle.definitions.specs.Combination.{Row}
 use Rattle.confluence.proofs.Led.{IsAskedRow, Comes}
 use Rattle.confluence.proofs.Tests.{below_from_test, test_from_below}

@@ -1,5 +1,10 @@
 -- A sum of rows over resolved rules is zero, or a row ends at its greatest word.
-use Rattle.confluence.proofs.Prelude.{◌≡◌, ◌≢◌, ℕ, ◌<◌, ◌⊎◌, inl, inr, refl, arith, sym, ap, ◌∙◌, ◌++◌, Bool, true, false, ℤ, pos, ◌+ℤ◌, ◌*ℤ◌, neg_ℤ, append_cancel_left, +ℤ_invr, Word, word_eq, coefficient_of, poly_between, word_eq-true, word_eq-same, Order}
+use Rattle.std.proofs.Common.{◌≡◌, ◌≢◌, ℕ, ◌<◌, ◌⊎◌, inl, inr, refl, arith, sym, ap, ◌∙◌, ◌++◌, Bool, true, false, ℤ, pos, ◌+ℤ◌, ◌*ℤ◌, neg_ℤ}
+use Rattle.std.proofs.Math.IntN.{+ℤ_invr}
+use Rattle.std.proofs.lemmas.List.{append_cancel_left}
+use Rattle.definitions.proofs.Linear.{word_eq-true, word_eq-same}
+use Rattle.definitions.specs.Poly.{Word, word_eq, coefficient_of, poly_between}
+use Rattle.word_orders.specs.Orders.{Order}
 use Rattle.confluence.proofs.Spans.{Coefs, Span, nothing, single, span_same}
 use Rattle.confluence.proofs.Shifts.{span_bind}
 use Rattle.confluence.proofs.Places.{first, second, two_places}

@@ -1,5 +1,10 @@
 -- Where two rows of one top word differ by lower rows, a sum of rows has a top word of a row.
-use Rattle.confluence.proofs.Prelude.{◌≡◌, ◌≢◌, ℕ, ◌*◌, ◌<◌, ◌⊎◌, inl, inr, refl, arith, subst, sym, ap, ◌∙◌, ℤ, pos, ◌+ℤ◌, ◌*ℤ◌, neg_ℤ, ints, mul-pos, *ℤ_comm, +ℤ_assoc, zero-*ℤ, *ℤ-zero, +ℤ_idl, +ℤ_idr, +ℤ-*ℤ, *ℤ-+ℤ, *ℤ_assoc, *ℤ-neg_ℤ, Word}
+use Rattle.std.proofs.Common.{◌≡◌, ◌≢◌, ℕ, ◌*◌, ◌<◌, ◌⊎◌, inl, inr, refl, arith, subst, sym, ap, ◌∙◌, ℤ, pos, ◌+ℤ◌, ◌*ℤ◌, neg_ℤ}
+use Rattle.std.proofs.Math.IntN.{*ℤ_comm, +ℤ_assoc, zero-*ℤ, *ℤ-zero, +ℤ_idl, +ℤ_idr}
+use Rattle.std.proofs.Math.Nat.{mul-pos}
+use Rattle.std.proofs.lemmas.Int.{ints}
+use Rattle.definitions.proofs.Integers.{+ℤ-*ℤ, *ℤ-+ℤ, *ℤ_assoc, *ℤ-neg_ℤ}
+use Rattle.definitions.specs.Poly.{Word}
 use Rattle.confluence.proofs.Integers.{*ℤ_cancel, nonzero_or}
 use Rattle.confluence.proofs.Spans.{Coefs, Span, nothing, more, part, single, span_same, span_scale, span_add, mul_swap}
 use Rattle.confluence.proofs.Shifts.{span_bind}

@@ -1,5 +1,12 @@
 -- The factors of the two rows of an S-polynomial.
-use Rattle.confluence.proofs.Prelude.{◌≡◌, ℕ, suc, ◌<◌, ◌≤◌, ◌*◌, ◌/◌, ℤ, pos, negsuc, ◌<ℤ◌, int_div, refl, arith, ints, le-div, le_of_dvd, pos_of_dvd_of_pos, ◌∣◌, gcd_within, gcd_of, gcd_within-IsGcd}
+use Rattle.std.proofs.Common.{◌≡◌, ℕ, suc, ◌<◌, ◌≤◌, ◌*◌, ◌/◌, ℤ, pos, negsuc, ◌<ℤ◌, int_div, refl, arith}
+use Rattle.std.proofs.Math.Nat.{pos_of_dvd_of_pos}
+use Rattle.std.proofs.lemmas.Int.{ints}
+use Rattle.std.proofs.lemmas.Nat.{le-div}
+use Rattle.std.proofs.lemmas.Nat.Gcd.{le_of_dvd}
+use Rattle.std.specs.Int.{◌∣◌}
+use Rattle.coef_int.proofs.Divisors.{gcd_within-IsGcd}
+use Rattle.coef_int.specs.Divisor.{gcd_within, gcd_of}
 
 pub record Factors (k l : ℤ) : Type 0 where
   pub one : ℕ

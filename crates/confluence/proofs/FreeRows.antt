@@ -1,5 +1,12 @@
 -- Rows with any words, and the rows over rules among them whose words are in range.
-use Rattle.confluence.proofs.Prelude.{◌≡◌, ◌≢◌, ℕ, ◌⊎◌, inl, inr, refl, subst, sym, ap, ◌∙◌, List, ◌++◌, ℤ, pos, ◌+ℤ◌, ◌*ℤ◌, *ℤ-zero, coefficient_of, poly_between, Word, Term, generator_at, InRationalIdeal, Order, polynomials_of, Rule, between-between}
+use Rattle.std.proofs.Common.{◌≡◌, ◌≢◌, ℕ, ◌⊎◌, inl, inr, refl, subst, sym, ap, ◌∙◌, List, ◌++◌, ℤ, pos, ◌+ℤ◌, ◌*ℤ◌}
+use Rattle.std.proofs.Math.IntN.{*ℤ-zero}
+use Rattle.definitions.specs.Combination.{generator_at, InRationalIdeal}
+use Rattle.definitions.specs.Poly.{coefficient_of, poly_between, Word, Term}
+use Rattle.traced_rows.proofs.Between.{between-between}
+use Rattle.word_orders.specs.Orders.{Order}
+use Rattle.rule_reduce.specs.RuleLists.{polynomials_of}
+use Rattle.rule_reduce.specs.declared.rule.Rule.{Rule}
 use Rattle.confluence.proofs.Led.{led_at, HasLed, IsLed, has_decided, poly_at}
 use Rattle.confluence.proofs.Integers.{nonzero_or}
 use Rattle.confluence.proofs.Spans.{Coefs, Span, single, span_same, nothing}

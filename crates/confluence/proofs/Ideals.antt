@@ -1,5 +1,12 @@
 -- What is in the rational ideal of polynomials that are in a rational ideal themselves.
-use Rattle.confluence.proofs.Prelude.{◌≡◌, ◌⊎◌, inl, inr, ◌≤◌, ℕ, zero, suc, List, [], length, refl, ap, ◌∙◌, arith, All, cases_lt, get_or_past, All-get_or, All-from_get_or, Word, Term, coefficient_of, poly_between, generator_at, InRationalIdeal, IdealsStayInside}
+use Rattle.std.proofs.Common.{◌≡◌, ◌⊎◌, inl, inr, ◌≤◌, ℕ, zero, suc, List, [], length, refl, ap, ◌∙◌, arith}
+use Rattle.std.proofs.lemmas.Bool.{cases_lt}
+use Rattle.std.proofs.lemmas.List.{get_or_past}
+use Rattle.std.proofs.lemmas.List.Elements.{All-get_or, All-from_get_or}
+use Rattle.std.specs.List.{All}
+use Rattle.definitions.specs.Combination.{generator_at, InRationalIdeal}
+use Rattle.definitions.specs.Poly.{Word, Term, coefficient_of, poly_between}
+use Rattle.confluence.specs.ZeroRests.{IdealsStayInside}
 use Rattle.confluence.proofs.Spans.{Coefs, Span, nothing, span_same}
 use Rattle.confluence.proofs.Shifts.{shift, span_bind, span_shift, coefficient_of-between}
 use Rattle.confluence.proofs.SumRows.{Numbered}

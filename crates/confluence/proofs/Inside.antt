@@ -1,5 +1,25 @@
 -- What is in the rational ideal of the generators.
-use Rattle.confluence.proofs.Prelude.{◌≡◌, inl, inr, ◌≤◌, ◌<◌, ℕ, zero, suc, ◌+ℤ◌, ◌*ℤ◌, List, [], ◌∷◌, length, slice_get, Some, refl, ap, ◌∙◌, subst, arith, All, slice_get_cases, All-contains, All-tail, Term, coefficient_of, poly_between, generator_at, InRationalIdeal, coefficient_of-append, coefficient_of-multiple, Compare, Origin, Row, Made, origin_poly, traced_poly, traced_sum, Rule, State, rule_at, polynomials_of, rule_at-polynomial, rule_at-first, rule_at-last, IsZero, IsReduced, IsEarlier, AreRecorded, IsReached, AreAllDone, RulesAreInside, ZeroIsInside}
+use Rattle.std.proofs.Common.{◌≡◌, inl, inr, ◌≤◌, ◌<◌, ℕ, zero, suc, ◌+ℤ◌, ◌*ℤ◌, List, [], ◌∷◌, length, slice_get, Some, refl, ap, ◌∙◌, subst, arith}
+use Rattle.std.proofs.lemmas.List.Elements.{All-contains, All-tail}
+use Rattle.std.proofs.lemmas.Option.{slice_get_cases}
+use Rattle.std.specs.List.{All}
+use Rattle.definitions.proofs.Coefficients.{coefficient_of-append, coefficient_of-multiple}
+use Rattle.definitions.specs.Combination.{generator_at, InRationalIdeal}
+use Rattle.definitions.specs.Poly.{Term, coefficient_of, poly_between}
+use Rattle.traced_rows.specs.Traces.{origin_poly, traced_poly, traced_sum}
+use Rattle.traced_rows.specs.declared.Made.{Made}
+use Rattle.traced_rows.specs.declared.Origin.{Origin}
+use Rattle.traced_rows.specs.declared.Row.{Row}
+use Rattle.word_orders.specs.Admissible.{Compare}
+use Rattle.rule_reduce.proofs.Numbers.{rule_at-polynomial}
+use Rattle.rule_reduce.specs.RuleLists.{rule_at, polynomials_of}
+use Rattle.rule_reduce.specs.declared.rule.Rule.{Rule}
+use Rattle.rule_reduce.specs.declared.state.State.{State}
+use Rattle.ambiguities.proofs.Numbers.{rule_at-first, rule_at-last}
+use Rattle.confluence.specs.Conclusions.{AreAllDone, RulesAreInside, ZeroIsInside}
+use Rattle.confluence.specs.Kept.{AreRecorded, IsReached}
+use Rattle.confluence.specs.Reductions.{IsZero, IsReduced}
+use Rattle.confluence.specs.Rests.{IsEarlier}
 use Rattle.traced_rows.specs.declared.Origin.TheVariants as origin
 use Rattle.confluence.proofs.Integers.{positive_nat}
 use Rattle.confluence.proofs.Spans.{Span, nothing, part, single, span_same, span_add, span_scale}

@@ -1,5 +1,12 @@
 -- Rules as the proofs about an order take them, and sums of rows over them.
-use Rattle.confluence.proofs.Prelude.{◌≡◌, ◌≢◌, ◌⊎◌, inl, inr, ◌<◌, ℕ, zero, suc, ℤ, pos, List, [], ◌∷◌, ◌++◌, Option, Some, None, refl, ap, unsigned_abs, All, coefficient_of, generator_at, IsCombination, Order, Rule, rule_at, polynomials_of}
+use Rattle.std.proofs.Common.{◌≡◌, ◌≢◌, ◌⊎◌, inl, inr, ◌<◌, ℕ, zero, suc, ℤ, pos, List, [], ◌∷◌, ◌++◌, Option, Some, None, refl, ap}
+use Rattle.std.specs.Int.RustNames.{unsigned_abs}
+use Rattle.std.specs.List.{All}
+use Rattle.definitions.specs.Combination.{generator_at, IsCombination}
+use Rattle.definitions.specs.Poly.{coefficient_of}
+use Rattle.word_orders.specs.Orders.{Order}
+use Rattle.rule_reduce.specs.RuleLists.{rule_at, polynomials_of}
+use Rattle.rule_reduce.specs.declared.rule.Rule.{Rule}
 use Rattle.definitions.specs.Combination.{Row}
 
 -- a polynomial, with its leading word and the coefficient there

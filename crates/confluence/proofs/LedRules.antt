@@ -1,5 +1,25 @@
 -- Rules of an order with the leading term apart, and rows over them.
-use Rattle.confluence.proofs.Prelude.{◌≡◌, ◌≢◌, ℕ, zero, suc, ◌⊎◌, inl, inr, refl, arith, sym, ap, ◌∙◌, List, [], ◌∷◌, ◌++◌, Bool, true, false, cond, not, ◌&&◌, true≢false, ℤ, pos, ◌+ℤ◌, subst, ◌*ℤ◌, ◌<ℤ◌, neg_ℤ, ◌<◌, negsuc, get_or, Some, and_parts, Decides-int_eq, +ℤ_idl, +ℤ_idr, int_eq, coefficient_of, Word, Term, word_eq, poly_between, Order, Rule, word_eq-true, word_eq-same, ints, between-same, between-nothing, All, unsigned_abs, IsOver, Compare, IsAdmissible, order_from_laws, over_range, below_less, IsRule, rule_at, IsAtMost, leading-greatest, leading-all, rule_at-all, words_with_coefficients, leading_coefficient}
+use Rattle.std.proofs.Common.{◌≡◌, ◌≢◌, ℕ, zero, suc, ◌⊎◌, inl, inr, refl, arith, sym, ap, ◌∙◌, List, [], ◌∷◌, ◌++◌, Bool, true, false, cond, not, ◌&&◌, true≢false, ℤ, pos, ◌+ℤ◌, subst, ◌*ℤ◌, ◌<ℤ◌, neg_ℤ, ◌<◌, negsuc, get_or, Some}
+use Rattle.std.proofs.Math.IntN.{+ℤ_idl, +ℤ_idr}
+use Rattle.std.proofs.lemmas.Bool.{and_parts}
+use Rattle.std.proofs.lemmas.Bool.Decides.{Decides-int_eq}
+use Rattle.std.proofs.lemmas.Int.{ints}
+use Rattle.std.specs.Int.RustNames.{unsigned_abs}
+use Rattle.std.specs.List.{All}
+use Rattle.std.specs.Ordering.{int_eq}
+use Rattle.definitions.proofs.Linear.{word_eq-true, word_eq-same}
+use Rattle.definitions.specs.Poly.{coefficient_of, Word, Term, word_eq, poly_between}
+use Rattle.word_core.specs.Letters.{IsOver}
+use Rattle.traced_rows.proofs.Between.{between-same, between-nothing}
+use Rattle.word_orders.proofs.Orders.{order_from_laws, over_range, below_less}
+use Rattle.word_orders.specs.Admissible.{Compare, IsAdmissible}
+use Rattle.word_orders.specs.Orders.{Order}
+use Rattle.rule_reduce.proofs.AtMost.{IsAtMost, leading-greatest, leading-all}
+use Rattle.rule_reduce.proofs.Numbers.{rule_at-all}
+use Rattle.rule_reduce.proofs.WordsKept.{words_with_coefficients}
+use Rattle.rule_reduce.specs.RuleLists.{IsRule, rule_at}
+use Rattle.rule_reduce.specs.declared.rule.Rule.{Rule}
+use Rattle.ambiguities.proofs.Multiples.{leading_coefficient}
 use Rattle.confluence.proofs.Led.{Led, led_at, HasLed, IsLed, IsAtMostOf, led_of, led_at-is}
 use Rattle.confluence.proofs.TermWords.{AllWords}
 use Rattle.confluence.proofs.Spans.{Coefs, Span, single, span_add, part}

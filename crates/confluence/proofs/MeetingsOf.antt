@@ -1,5 +1,24 @@
 -- Ambiguities of rules with the words around their leading words, and the two rows of their S-polynomials.
-use Rattle.confluence.proofs.Prelude.{◌≡◌, ◌≢◌, ℕ, pos, ◌+ℤ◌, ◌*ℤ◌, ◌<ℤ◌, List, [], ◌∷◌, ◌++◌, length, take, Some, refl, sym, ap, ap₂, ◌∙◌, subst, append_assoc, append-nil, All, +ℤ_idr, take_at, append_cancel_left, Word, Term, coefficient_of, poly_between, generator_at, IsOver, Compare, IsAdmissible, IsBelow, Rule, IsRule, rule_at, polynomials_of, rule_at-all, rule_at-polynomial, Overlap, Inclusion, Ambiguity, IsAmbiguity, overlap_word_of, leading_at, first_row, second_row, s_sum, over_overlap_word, multiple_at_most, coefficient_at_bound, cancelled, factors_cancel, overlap_word-is, first_splits, second_splits, leading_at-is}
+use Rattle.std.proofs.Common.{◌≡◌, ◌≢◌, ℕ, pos, ◌+ℤ◌, ◌*ℤ◌, ◌<ℤ◌, List, [], ◌∷◌, ◌++◌, length, take, Some, refl, sym, ap, ap₂, ◌∙◌, subst, append_assoc, append-nil}
+use Rattle.std.proofs.Math.IntN.{+ℤ_idr}
+use Rattle.std.proofs.lemmas.List.{take_at, append_cancel_left}
+use Rattle.std.specs.List.{All}
+use Rattle.definitions.specs.Combination.{generator_at}
+use Rattle.definitions.specs.Poly.{Word, Term, coefficient_of, poly_between}
+use Rattle.word_core.specs.Letters.{IsOver}
+use Rattle.word_orders.specs.Admissible.{Compare, IsAdmissible}
+use Rattle.word_orders.specs.Orders.{IsBelow}
+use Rattle.rule_reduce.proofs.Numbers.{rule_at-all, rule_at-polynomial}
+use Rattle.rule_reduce.specs.RuleLists.{IsRule, rule_at, polynomials_of}
+use Rattle.rule_reduce.specs.declared.rule.Rule.{Rule}
+use Rattle.ambiguities.proofs.Bounds.{over_overlap_word, multiple_at_most, coefficient_at_bound, cancelled}
+use Rattle.ambiguities.proofs.Cancelling.{factors_cancel}
+use Rattle.ambiguities.proofs.Joined.{overlap_word-is, first_splits, second_splits, leading_at-is}
+use Rattle.ambiguities.specs.Ambiguities.{IsAmbiguity, overlap_word_of}
+use Rattle.ambiguities.specs.Resolved.{s_sum}
+use Rattle.ambiguities.specs.SPolynomials.{leading_at, first_row, second_row}
+use Rattle.ambiguities.specs.declared.ambiguity.Ambiguity.{Ambiguity}
+use Rattle.ambiguities.specs.declared.ambiguity.Kind.TheVariants.{Overlap, Inclusion}
 use Rattle.confluence.proofs.Factors.{Factors, factors}
 use Rattle.confluence.proofs.Places.{SomeLetters, some_length}
 use Rattle.confluence.proofs.RowSums.{traced-cons}

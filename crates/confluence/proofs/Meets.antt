@@ -1,5 +1,13 @@
 -- Two rows at places of one word differ, with multipliers, by lower rows.
-use Rattle.confluence.proofs.Prelude.{◌≡◌, ◌≢◌, ℕ, ◌<◌, ◌⊎◌, inl, inr, refl, arith, subst, sym, ap, ◌∙◌, List, [], ◌∷◌, ◌++◌, length, Bool, true, false, cond, ℤ, pos, negsuc, ◌+ℤ◌, ◌*ℤ◌, neg_ℤ, append_assoc, append-nil, ints, length-append, nil_from_length, *ℤ_comm, *ℤ-zero, +ℤ_idl, +ℤ_idr, Order, *ℤ-+ℤ, Word, Term, word_eq, coefficient_of, poly_between, word_eq-true, word_eq-same, between-between}
+use Rattle.std.proofs.Common.{◌≡◌, ◌≢◌, ℕ, ◌<◌, ◌⊎◌, inl, inr, refl, arith, subst, sym, ap, ◌∙◌, List, [], ◌∷◌, ◌++◌, length, Bool, true, false, cond, ℤ, pos, negsuc, ◌+ℤ◌, ◌*ℤ◌, neg_ℤ, append_assoc, append-nil}
+use Rattle.std.proofs.Math.IntN.{*ℤ_comm, *ℤ-zero, +ℤ_idl, +ℤ_idr}
+use Rattle.std.proofs.lemmas.Int.{ints}
+use Rattle.std.proofs.lemmas.List.{length-append, nil_from_length}
+use Rattle.definitions.proofs.Integers.{*ℤ-+ℤ}
+use Rattle.definitions.proofs.Linear.{word_eq-true, word_eq-same}
+use Rattle.definitions.specs.Poly.{Word, Term, word_eq, coefficient_of, poly_between}
+use Rattle.traced_rows.proofs.Between.{between-between}
+use Rattle.word_orders.specs.Orders.{Order}
 use Rattle.confluence.proofs.Integers.{neg_ℤ-*ℤ}
 use Rattle.confluence.proofs.TermWords.{map_words, AllWords, all_words_map}
 use Rattle.confluence.proofs.Spans.{Coefs, Span, nothing, more, span_same, span_scale, span_add, mul_swap}

@@ -1,5 +1,10 @@
 -- Rows with a bound for their top words, and rows over polynomials that come from such rows.
-use Rattle.confluence.proofs.Prelude.{◌≡◌, ◌≢◌, ◌⊎◌, inl, inr, refl, subst, sym, ap, ◌∙◌, List, [], ◌∷◌, ◌++◌, Bool, true, false, cond, pos, ◌+ℤ◌, ◌*ℤ◌, *ℤ-zero, +ℤ_idl, Word, Term, word_eq, coefficient_of, poly_between, word_eq-true, Order, coefficient_of-around}
+use Rattle.std.proofs.Common.{◌≡◌, ◌≢◌, ◌⊎◌, inl, inr, refl, subst, sym, ap, ◌∙◌, List, [], ◌∷◌, ◌++◌, Bool, true, false, cond, pos, ◌+ℤ◌, ◌*ℤ◌}
+use Rattle.std.proofs.Math.IntN.{*ℤ-zero, +ℤ_idl}
+use Rattle.definitions.proofs.Linear.{word_eq-true}
+use Rattle.definitions.specs.Poly.{Word, Term, word_eq, coefficient_of, poly_between}
+use Rattle.word_orders.specs.Orders.{Order}
+use Rattle.ambiguities.proofs.Multiples.{coefficient_of-around}
 use Rattle.confluence.proofs.Integers.{*ℤ_cancel}
 use Rattle.confluence.proofs.TermWords.{AllWords, all_words_map}
 use Rattle.confluence.proofs.Spans.{Coefs, Span, nothing, more, part, span_same}

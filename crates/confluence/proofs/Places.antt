@@ -1,5 +1,6 @@
 -- Two words at places of one word: apart, overlapping, or one in the other.
-use Rattle.confluence.proofs.Prelude.{◌≡◌, ℕ, refl, subst, sym, ap, ◌∙◌, [], ◌∷◌, ◌++◌, append-nil, length, ◌<◌, arith, Word}
+use Rattle.std.proofs.Common.{◌≡◌, ℕ, refl, subst, sym, ap, ◌∙◌, [], ◌∷◌, ◌++◌, append-nil, length, ◌<◌, arith}
+use Rattle.definitions.specs.Poly.{Word}
 
 -- a word with letters
 pub data SomeLetters : Word → Type 0 where

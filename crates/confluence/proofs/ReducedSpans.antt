@@ -1,5 +1,22 @@
 -- What was reduced, as rows over the rules.
-use Rattle.confluence.proofs.Prelude.{◌≡◌, ◌≢◌, ℕ, pos, ◌+ℤ◌, ◌*ℤ◌, List, [], ◌∷◌, ◌++◌, refl, sym, ap, ◌∙◌, subst, arith, ◌⊎◌, inl, inr, neg_ℤ, length, All-tail, All-weaker, All, Word, Term, coefficient_of, poly_between, generator_at, coefficient_of-append, coefficient_of-multiple, Origin, Row, origin_poly, traced_poly, traced_sum, IsByRule, Compare, IsAdmissible, Order, IsBelow, order_from_laws, below_less, Rule, State, IsRule, polynomials_of, IsAtMostOf, IsZero, IsReduced}
+use Rattle.std.proofs.Common.{◌≡◌, ◌≢◌, ℕ, pos, ◌+ℤ◌, ◌*ℤ◌, List, [], ◌∷◌, ◌++◌, refl, sym, ap, ◌∙◌, subst, arith, ◌⊎◌, inl, inr, neg_ℤ, length}
+use Rattle.std.proofs.lemmas.List.Elements.{All-tail, All-weaker}
+use Rattle.std.specs.List.{All}
+use Rattle.definitions.proofs.Coefficients.{coefficient_of-append, coefficient_of-multiple}
+use Rattle.definitions.specs.Combination.{generator_at}
+use Rattle.definitions.specs.Poly.{Word, Term, coefficient_of, poly_between}
+use Rattle.traced_rows.specs.Traces.{origin_poly, traced_poly, traced_sum}
+use Rattle.traced_rows.specs.declared.Origin.{Origin}
+use Rattle.traced_rows.specs.declared.Row.{Row}
+use Rattle.word_orders.proofs.Orders.{order_from_laws, below_less}
+use Rattle.word_orders.specs.Admissible.{Compare, IsAdmissible}
+use Rattle.word_orders.specs.Orders.{Order, IsBelow}
+use Rattle.rule_reduce.specs.KeptWords.{IsAtMostOf}
+use Rattle.rule_reduce.specs.Laws.{IsByRule}
+use Rattle.rule_reduce.specs.RuleLists.{IsRule, polynomials_of}
+use Rattle.rule_reduce.specs.declared.rule.Rule.{Rule}
+use Rattle.rule_reduce.specs.declared.state.State.{State}
+use Rattle.confluence.specs.Reductions.{IsZero, IsReduced}
 use Rattle.traced_rows.specs.declared.Origin.TheVariants as origin
 use Rattle.confluence.proofs.Spans.{Span, nothing, more, Coefs, span_same}
 use Rattle.confluence.proofs.SumRows.{Numbered, span_from_numbered}

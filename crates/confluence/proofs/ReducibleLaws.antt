@@ -1,5 +1,17 @@
 -- Sums of rows over resolved rules have a reducible greatest word.
-use Rattle.confluence.proofs.Prelude.{◌≡◌, ◌≢◌, ◌⊎◌, inl, inr, ℕ, pos, List, ◌++◌, length, sym, ap, ◌∙◌, subst, All, Word, Term, coefficient_of, OccursAt-between, OccursAt, Compare, IsAdmissible, Order, IsBelow, order_from_laws, over_range, less_below, Rule, IsRule, polynomials_of, overlap_word_of, IsNonzero, IsReducible, HasReducibleGreatest, ReducibleBelow, ReducibleInIdeal}
+use Rattle.std.proofs.Common.{◌≡◌, ◌≢◌, ◌⊎◌, inl, inr, ℕ, pos, List, ◌++◌, length, sym, ap, ◌∙◌, subst}
+use Rattle.std.specs.List.{All}
+use Rattle.definitions.specs.Poly.{Word, Term, coefficient_of}
+use Rattle.word_core.proofs.Places.{OccursAt-between}
+use Rattle.word_core.specs.Occurrence.{OccursAt}
+use Rattle.word_orders.proofs.Orders.{order_from_laws, over_range, less_below}
+use Rattle.word_orders.specs.Admissible.{Compare, IsAdmissible}
+use Rattle.word_orders.specs.Orders.{Order, IsBelow}
+use Rattle.rule_reduce.specs.RuleLists.{IsRule, polynomials_of}
+use Rattle.rule_reduce.specs.declared.rule.Rule.{Rule}
+use Rattle.ambiguities.specs.Ambiguities.{overlap_word_of}
+use Rattle.confluence.specs.Reducible.{IsReducible, HasReducibleGreatest, ReducibleBelow, ReducibleInIdeal}
+use Rattle.confluence.specs.Reductions.{IsNonzero}
 use Rattle.confluence.proofs.Led.{led_at-is}
 use Rattle.confluence.proofs.LedRules.{leds_are, ordered}
 use Rattle.confluence.proofs.Spans.{Coefs, Span}

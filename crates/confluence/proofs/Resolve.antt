@@ -1,5 +1,7 @@
 -- Bounds for the words of rows.
-use Rattle.confluence.proofs.Prelude.{◌≢◌, inl, refl, List, pos, coefficient_of, Word, Term, Order}
+use Rattle.std.proofs.Common.{◌≢◌, inl, refl, List, pos}
+use Rattle.definitions.specs.Poly.{coefficient_of, Word, Term}
+use Rattle.word_orders.specs.Orders.{Order}
 use Rattle.confluence.proofs.Meets.{Allowed}
 use Rattle.confluence.proofs.Outside.{at_most_of}
 use Rattle.confluence.proofs.LedRules.{Bounded, bounded_from}

@@ -1,5 +1,16 @@
 -- Rules whose ambiguities are resolved, as two rows at places of one word take them.
-use Rattle.confluence.proofs.Prelude.{◌≡◌, List, [], ◌++◌, ℕ, Some, refl, subst, sym, ap, ap₂, ◌∙◌, pos, ◌+ℤ◌, ◌*ℤ◌, neg_ℤ, All, Word, coefficient_of, poly_between, Compare, IsAdmissible, Order, order_from_laws, Rule, IsRule, rule_at, Ambiguity, IsAmbiguity, overlap_word_of, leading_at, first_row, second_row, s_sum, IsResolved}
+use Rattle.std.proofs.Common.{◌≡◌, List, [], ◌++◌, ℕ, Some, refl, subst, sym, ap, ap₂, ◌∙◌, pos, ◌+ℤ◌, ◌*ℤ◌, neg_ℤ}
+use Rattle.std.specs.List.{All}
+use Rattle.definitions.specs.Poly.{Word, coefficient_of, poly_between}
+use Rattle.word_orders.proofs.Orders.{order_from_laws}
+use Rattle.word_orders.specs.Admissible.{Compare, IsAdmissible}
+use Rattle.word_orders.specs.Orders.{Order}
+use Rattle.rule_reduce.specs.RuleLists.{IsRule, rule_at}
+use Rattle.rule_reduce.specs.declared.rule.Rule.{Rule}
+use Rattle.ambiguities.specs.Ambiguities.{IsAmbiguity, overlap_word_of}
+use Rattle.ambiguities.specs.Resolved.{s_sum, IsResolved}
+use Rattle.ambiguities.specs.SPolynomials.{leading_at, first_row, second_row}
+use Rattle.ambiguities.specs.declared.ambiguity.Ambiguity.{Ambiguity}
 use Rattle.confluence.proofs.Integers.{neg_ℤ-*ℤ}
 use Rattle.confluence.proofs.Spans.{Coefs, Span, span_same, single}
 use Rattle.confluence.proofs.Shifts.{span_bind}

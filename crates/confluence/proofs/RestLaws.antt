@@ -1,5 +1,31 @@
 -- What reductions by resolved rules leave; what is reduced to zero is in the rational ideal, and its ambiguity is resolved.
-use Rattle.confluence.proofs.Prelude.{◌≡◌, ◌≢◌, ◌⊎◌, inl, inr, ℕ, pos, negsuc, List, sym, subst, arith, ◌∙◌, All, ints, Word, Term, coefficient_of, SamePolynomial, IsOver, OccursNowhere, Compare, IsAdmissible, Order, order_from_laws, below_less, Rule, State, polynomials_of, IsRule, IsIrreducible, IsAtMostOf, reductions_balance, rests_are_irreducible, words_stay_below, multipliers_are_positive, rule_at-all, rows_are_by_rules, words_with_coefficients, HasLettersBelow, IsNonzero, IsZero, IsReduced, NormalFormsAreReduced, IsReducible, HasReducibleGreatest, RestsBelowAreZero, RestsOfIdealAreZero, Ambiguity, IsAmbiguity, overlap_word_of, s_sum, IsResolved, ZeroRestsAreInside, ZeroRestsAreResolved}
+use Rattle.std.proofs.Common.{◌≡◌, ◌≢◌, ◌⊎◌, inl, inr, ℕ, pos, negsuc, List, sym, subst, arith, ◌∙◌}
+use Rattle.std.proofs.lemmas.Int.{ints}
+use Rattle.std.specs.List.{All}
+use Rattle.definitions.specs.Poly.{Word, Term, coefficient_of, SamePolynomial}
+use Rattle.word_core.specs.Letters.{IsOver}
+use Rattle.word_core.specs.Occurrence.{OccursNowhere}
+use Rattle.word_orders.proofs.Orders.{order_from_laws, below_less}
+use Rattle.word_orders.specs.Admissible.{Compare, IsAdmissible}
+use Rattle.word_orders.specs.Orders.{Order}
+use Rattle.rule_reduce.proofs.Balance.{reductions_balance}
+use Rattle.rule_reduce.proofs.Irreducible.{rests_are_irreducible}
+use Rattle.rule_reduce.proofs.KeptWordLaws.{words_stay_below}
+use Rattle.rule_reduce.proofs.Multipliers.{multipliers_are_positive}
+use Rattle.rule_reduce.proofs.Numbers.{rule_at-all}
+use Rattle.rule_reduce.proofs.RowsByRules.{rows_are_by_rules}
+use Rattle.rule_reduce.proofs.WordsKept.{words_with_coefficients}
+use Rattle.rule_reduce.specs.KeptWords.{IsAtMostOf}
+use Rattle.rule_reduce.specs.Laws.{IsIrreducible}
+use Rattle.rule_reduce.specs.RuleLists.{polynomials_of, IsRule}
+use Rattle.rule_reduce.specs.declared.rule.Rule.{Rule}
+use Rattle.rule_reduce.specs.declared.state.State.{State}
+use Rattle.ambiguities.specs.Ambiguities.{IsAmbiguity, overlap_word_of}
+use Rattle.ambiguities.specs.Resolved.{s_sum, IsResolved}
+use Rattle.ambiguities.specs.declared.ambiguity.Ambiguity.{Ambiguity}
+use Rattle.confluence.specs.Reducible.{IsReducible, HasReducibleGreatest, RestsBelowAreZero, RestsOfIdealAreZero}
+use Rattle.confluence.specs.Reductions.{HasLettersBelow, IsNonzero, IsZero, IsReduced, NormalFormsAreReduced}
+use Rattle.confluence.specs.ZeroRests.{ZeroRestsAreInside, ZeroRestsAreResolved}
 use Rattle.confluence.proofs.Integers.{nonzero_or}
 use Rattle.confluence.proofs.Spans.{Span, span_same, span_add, span_scale, nothing}
 use Rattle.confluence.proofs.Outside.{span_word, AnyRow}

@@ -1,5 +1,25 @@
 -- Sums of rows over generators and rules.
-use Rattle.confluence.proofs.Prelude.{◌≡◌, ◌≤◌, ℕ, zero, suc, ℤ, ◌+ℤ◌, ◌*ℤ◌, neg_ℤ, List, [], ◌∷◌, ◌++◌, map, length, get_or, refl, sym, ap, ap₂, ◌∙◌, arith, All, ints, length-append, get_or_append_left, All-append, All-weaker, All-cons, All-tail, All-map, *ℤ_comm, *ℤ-zero, +ℤ_idl, +ℤ_assoc, Word, Term, coefficient_of, poly_multiple, poly_between, generator_at, coefficient_of-append, coefficient_of-multiple, *ℤ_assoc, *ℤ-+ℤ, Compare, Origin, Row, origin_poly, traced_poly, traced_sum, Rule, State, polynomials_of, IsByRule, multiplied_row, IsReduced, negated_row, negated_rows, generator_rows, rows_less, IsEarlier, AddsUpTo}
+use Rattle.std.proofs.Common.{◌≡◌, ◌≤◌, ℕ, zero, suc, ℤ, ◌+ℤ◌, ◌*ℤ◌, neg_ℤ, List, [], ◌∷◌, ◌++◌, map, length, get_or, refl, sym, ap, ap₂, ◌∙◌, arith}
+use Rattle.std.proofs.Math.IntN.{*ℤ_comm, *ℤ-zero, +ℤ_idl, +ℤ_assoc}
+use Rattle.std.proofs.lemmas.Int.{ints}
+use Rattle.std.proofs.lemmas.List.{length-append, get_or_append_left}
+use Rattle.std.proofs.lemmas.List.Elements.{All-append, All-weaker, All-cons, All-tail, All-map}
+use Rattle.std.specs.List.{All}
+use Rattle.definitions.proofs.Coefficients.{coefficient_of-append, coefficient_of-multiple}
+use Rattle.definitions.proofs.Integers.{*ℤ_assoc, *ℤ-+ℤ}
+use Rattle.definitions.specs.Combination.{generator_at}
+use Rattle.definitions.specs.Poly.{Word, Term, coefficient_of, poly_multiple, poly_between}
+use Rattle.traced_rows.specs.Traces.{origin_poly, traced_poly, traced_sum}
+use Rattle.traced_rows.specs.declared.Origin.{Origin}
+use Rattle.traced_rows.specs.declared.Row.{Row}
+use Rattle.word_orders.specs.Admissible.{Compare}
+use Rattle.rule_reduce.specs.Laws.{IsByRule}
+use Rattle.rule_reduce.specs.RuleLists.{polynomials_of}
+use Rattle.rule_reduce.specs.Steps.{multiplied_row}
+use Rattle.rule_reduce.specs.declared.rule.Rule.{Rule}
+use Rattle.rule_reduce.specs.declared.state.State.{State}
+use Rattle.confluence.specs.Reductions.{IsReduced}
+use Rattle.confluence.specs.Rests.{negated_row, negated_rows, generator_rows, rows_less, IsEarlier, AddsUpTo}
 use Rattle.traced_rows.specs.declared.Origin.TheVariants as origin
 use Rattle.confluence.proofs.Integers.{neg_ℤ-*ℤ, first_part}
 use Rattle.confluence.proofs.LedRules.{coefficient_of-bare}

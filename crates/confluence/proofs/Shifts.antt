@@ -1,5 +1,13 @@
 -- The coefficients of a polynomial between two words, and other maps of coefficients that keep sums and multiples.
-use Rattle.confluence.proofs.Prelude.{◌≡◌, ◌≢◌, ◌⊎◌, inl, inr, refl, subst, sym, ap, ◌∙◌, List, ◌++◌, ◌+◌, ◌-◌, length, take, drop, Bool, true, false, true≢false, cond, ℤ, pos, negsuc, ◌+ℤ◌, ◌*ℤ◌, arith, false_from_ne_true, ints, take_at, drop_at, length-append, *ℤ-zero, +ℤ_idr, poly_between, Word, Term, word_eq, coefficient_of, word_eq-true, word_eq-same, coefficient_of-between_zero, coefficient_of-around}
+use Rattle.std.proofs.Common.{◌≡◌, ◌≢◌, ◌⊎◌, inl, inr, refl, subst, sym, ap, ◌∙◌, List, ◌++◌, ◌+◌, ◌-◌, length, take, drop, Bool, true, false, true≢false, cond, ℤ, pos, negsuc, ◌+ℤ◌, ◌*ℤ◌, arith}
+use Rattle.std.proofs.Math.IntN.{*ℤ-zero, +ℤ_idr}
+use Rattle.std.proofs.lemmas.Bool.{false_from_ne_true}
+use Rattle.std.proofs.lemmas.Int.{ints}
+use Rattle.std.proofs.lemmas.List.{take_at, drop_at, length-append}
+use Rattle.definitions.proofs.Linear.{word_eq-true, word_eq-same}
+use Rattle.definitions.proofs.Projection.{coefficient_of-between_zero}
+use Rattle.definitions.specs.Poly.{poly_between, Word, Term, word_eq, coefficient_of}
+use Rattle.ambiguities.proofs.Multiples.{coefficient_of-around}
 use Rattle.confluence.proofs.Integers.{nonzero_or}
 use Rattle.confluence.proofs.Spans.{Coefs, Span, nothing, more, part, single, span_same, span_add, span_scale}
 

@@ -1,5 +1,9 @@
 -- What some positive multiple is a sum of multiples of given polynomials, by coefficients.
-use Rattle.confluence.proofs.Prelude.{◌≡◌, ℕ, ◌<◌, refl, sym, ap, ◌∙◌, ℤ, pos, ◌+ℤ◌, ◌*ℤ◌, arith, ints, Word, *ℤ_comm, +ℤ_assoc, *ℤ-zero, +ℤ_idl, *ℤ-+ℤ, *ℤ_assoc}
+use Rattle.std.proofs.Common.{◌≡◌, ℕ, ◌<◌, refl, sym, ap, ◌∙◌, ℤ, pos, ◌+ℤ◌, ◌*ℤ◌, arith}
+use Rattle.std.proofs.Math.IntN.{*ℤ_comm, +ℤ_assoc, *ℤ-zero, +ℤ_idl}
+use Rattle.std.proofs.lemmas.Int.{ints}
+use Rattle.definitions.proofs.Integers.{*ℤ-+ℤ, *ℤ_assoc}
+use Rattle.definitions.specs.Poly.{Word}
 
 -- the coefficients of a polynomial
 abbrev pub Coefs : Type 0

@@ -1,5 +1,17 @@
 -- Between rows with a multiplier and spans.
-use Rattle.confluence.proofs.Prelude.{◌≡◌, ◌≢◌, ℕ, ◌*◌, ◌<◌, ◌⊎◌, inl, inr, refl, arith, sym, ap, ◌∙◌, List, [], ◌∷◌, ◌++◌, ℤ, pos, ◌+ℤ◌, ◌*ℤ◌, ◌<ℤ◌, ints, mul-pos, All, All-nil, All-cons, All-tail, coefficient_of, poly_between, poly_multiple, Word, Term, SumRow, generator_at, row_poly, row_sum, IsCombination, coefficient_of-append, coefficient_of-multiple, Order, polynomials_of, Rule, *ℤ_assoc, *ℤ-+ℤ, coefficient_of-around}
+use Rattle.std.proofs.Common.{◌≡◌, ◌≢◌, ℕ, ◌*◌, ◌<◌, ◌⊎◌, inl, inr, refl, arith, sym, ap, ◌∙◌, List, [], ◌∷◌, ◌++◌, ℤ, pos, ◌+ℤ◌, ◌*ℤ◌, ◌<ℤ◌}
+use Rattle.std.proofs.Math.Nat.{mul-pos}
+use Rattle.std.proofs.lemmas.Int.{ints}
+use Rattle.std.proofs.lemmas.List.Elements.{All-nil, All-cons, All-tail}
+use Rattle.std.specs.List.{All}
+use Rattle.definitions.proofs.Coefficients.{coefficient_of-append, coefficient_of-multiple}
+use Rattle.definitions.proofs.Integers.{*ℤ_assoc, *ℤ-+ℤ}
+use Rattle.definitions.specs.Combination.{Row as SumRow, generator_at, row_poly, row_sum, IsCombination}
+use Rattle.definitions.specs.Poly.{coefficient_of, poly_between, poly_multiple, Word, Term}
+use Rattle.word_orders.specs.Orders.{Order}
+use Rattle.rule_reduce.specs.RuleLists.{polynomials_of}
+use Rattle.rule_reduce.specs.declared.rule.Rule.{Rule}
+use Rattle.ambiguities.proofs.Multiples.{coefficient_of-around}
 use Rattle.confluence.proofs.Led.{no_led, led_at, HasLed, IsLed, IsAskedRow, Comes, has_decided, poly_at}
 use Rattle.confluence.proofs.Spans.{Coefs, Span, nothing, more, part, single}
 use Rattle.confluence.proofs.Shifts.{span_bind}

@@ -1,5 +1,7 @@
 -- The words of the terms of a polynomial.
-use Rattle.confluence.proofs.Prelude.{List, [], ◌∷◌, map, AllByRecursion, Word, Term}
+use Rattle.std.proofs.Common.{List, [], ◌∷◌, map}
+use Rattle.std.specs.List.{AllByRecursion}
+use Rattle.definitions.specs.Poly.{Word, Term}
 
 -- the polynomial with a function applied to its words
 abbrev pub map_words : (Word → Word) → List Term → List Term

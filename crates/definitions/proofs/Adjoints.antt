@@ -1,5 +1,10 @@
 -- Adjoints of words and polynomials.
-use Rattle.definitions.proofs.Prelude.{◌≡◌, ℕ, ◌<◌, ◌≤◌, ℤ, pos, ◌+ℤ◌, Bool, true, false, cond, List, [], ◌∷◌, ◌++◌, length, ◌⊎◌, inl, inr, sym, refl, ap, ap₂, subst, ◌∙◌, arith, append_assoc, append-nil, lt-ltb, eq-eqb, eqb-true, ltb, and_from, cases_lt, get_or_past, word_eq, coefficient_of, Quiver, IsQuiver, letters, source, target, star, leads, is_path, IsTyped, adjoint_word, adjoint_poly}
+use Rattle.std.proofs.Common.{◌≡◌, ℕ, ◌<◌, ◌≤◌, ℤ, pos, ◌+ℤ◌, Bool, true, false, cond, List, [], ◌∷◌, ◌++◌, length, ◌⊎◌, inl, inr, sym, refl, ap, ap₂, subst, ◌∙◌, arith, append_assoc, append-nil, lt-ltb, eq-eqb, eqb-true, ltb}
+use Rattle.std.proofs.lemmas.Bool.{and_from, cases_lt}
+use Rattle.std.proofs.lemmas.List.{get_or_past}
+use Rattle.definitions.specs.Generators.{adjoint_word, adjoint_poly}
+use Rattle.definitions.specs.Poly.{word_eq, coefficient_of}
+use Rattle.definitions.specs.Quiver.{Quiver, IsQuiver, letters, source, target, star, leads, is_path, IsTyped}
 use Rattle.definitions.proofs.Linear.{word_eq-same, word_eq-true, linear}
 use Rattle.definitions.proofs.Multiples.{times}
 use Rattle.definitions.proofs.Paths.{step, leads-append}

@@ -1,5 +1,9 @@
 -- Strictly descending lists with no zero coefficient: two that are the same as polynomials are one list.
-use Rattle.definitions.proofs.Prelude.{◌≡◌, ◌≢◌, ℕ, ℤ, pos, ◌+ℤ◌, Bool, true, false, List, [], ◌∷◌, ◌⊎◌, inl, inr, sym, refl, ap, ap₂, subst, ◌∙◌, true≢false, +ℤ_idr, false_from_ne_true, AllByRecursion, word_eq, coefficient_of, SamePolynomial}
+use Rattle.std.proofs.Common.{◌≡◌, ◌≢◌, ℕ, ℤ, pos, ◌+ℤ◌, Bool, true, false, List, [], ◌∷◌, ◌⊎◌, inl, inr, sym, refl, ap, ap₂, subst, ◌∙◌, true≢false}
+use Rattle.std.proofs.Math.IntN.{+ℤ_idr}
+use Rattle.std.proofs.lemmas.Bool.{false_from_ne_true}
+use Rattle.std.specs.List.{AllByRecursion}
+use Rattle.definitions.specs.Poly.{word_eq, coefficient_of, SamePolynomial}
 use Rattle.definitions.proofs.Linear.{word_eq-same, word_eq-true, coefficient_at, coefficient_other}
 
 -- what is asked of the order

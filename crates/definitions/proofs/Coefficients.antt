@@ -1,5 +1,12 @@
 -- The coefficients of sums, multiples and products by words, and a test of equality.
-use Rattle.definitions.proofs.Prelude.{◌≡◌, ℕ, ℤ, pos, ◌+ℤ◌, ◌*ℤ◌, Bool, true, false, cond, List, [], ◌∷◌, ◌++◌, sym, refl, ap, ap₂, ◌∙◌, and_parts, and_from, Decides-int_eq, list_all-append, inl, inr, ◌⊎◌, list_all, int_eq, *ℤ-zero, +ℤ_idl, +ℤ_assoc, word_eq, coefficient_of, SamePolynomial, poly_multiple, poly_eq}
+use Rattle.std.proofs.Common.{◌≡◌, ℕ, ℤ, pos, ◌+ℤ◌, ◌*ℤ◌, Bool, true, false, cond, List, [], ◌∷◌, ◌++◌, sym, refl, ap, ap₂, ◌∙◌, inl, inr, ◌⊎◌}
+use Rattle.std.proofs.Math.IntN.{*ℤ-zero, +ℤ_idl, +ℤ_assoc}
+use Rattle.std.proofs.lemmas.Bool.{and_parts, and_from}
+use Rattle.std.proofs.lemmas.Bool.Decides.{Decides-int_eq}
+use Rattle.std.proofs.lemmas.List.Folds.{list_all-append}
+use Rattle.std.specs.List.{list_all}
+use Rattle.std.specs.Ordering.{int_eq}
+use Rattle.definitions.specs.Poly.{word_eq, coefficient_of, SamePolynomial, poly_multiple, poly_eq}
 use Rattle.definitions.proofs.Linear.{word_eq-true, coefficient_other}
 use Rattle.definitions.proofs.Integers.{*ℤ-+ℤ}
 

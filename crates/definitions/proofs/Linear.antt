@@ -1,5 +1,8 @@
 -- Sums over the terms of a polynomial, of the coefficient times what a function gives at the word.
-use Rattle.definitions.proofs.Prelude.{◌≡◌, ◌≢◌, ℕ, zero, suc, ◌≤◌, ℤ, pos, ◌+ℤ◌, Bool, true, false, ◌&&◌, cond, List, [], ◌∷◌, ◌++◌, length, sym, refl, ap, ap₂, ◌∙◌, arith, eqb, eqb-true, eq-eqb, and_parts, +ℤ_idl, ℤ_discrete, word_eq, coefficient_of, SamePolynomial, poly_multiple, poly_between}
+use Rattle.std.proofs.Common.{◌≡◌, ◌≢◌, ℕ, zero, suc, ◌≤◌, ℤ, pos, ◌+ℤ◌, Bool, true, false, ◌&&◌, cond, List, [], ◌∷◌, ◌++◌, length, sym, refl, ap, ap₂, ◌∙◌, arith, eqb, eqb-true, eq-eqb}
+use Rattle.std.proofs.Math.IntN.{+ℤ_idl, ℤ_discrete}
+use Rattle.std.proofs.lemmas.Bool.{and_parts}
+use Rattle.definitions.specs.Poly.{word_eq, coefficient_of, SamePolynomial, poly_multiple, poly_between}
 use Rattle.definitions.proofs.Group.{IsGroup, zero_add, add_left_comm}
 use Rattle.definitions.proofs.Multiples.{times, times_in, times-+ℤ, times-*ℤ, times-none, times-add, additive-none, additive-times}
 

@@ -1,5 +1,14 @@
 -- Of rows whose sum is typed, those that are typed have the same sum.
-use Rattle.definitions.proofs.Prelude.{◌≡◌, ◌≢◌, ℕ, zero, suc, ℤ, pos, negsuc, ◌+ℤ◌, ◌*ℤ◌, neg_ℤ, Bool, true, false, cond, ◌||◌, get_or, List, [], ◌∷◌, ◌++◌, filter, ◌⊎◌, inl, inr, sym, refl, ap, ap₂, ◌∙◌, arith, true≢false, and_from, false_from_ne_true, or_cases, or_left, or_right, Decides-int_eq, +ℤ_assoc, +ℤ_comm, +ℤ_idl, +ℤ_idr, +ℤ_invr, *ℤ-zero, ℤ_discrete, list_all, AllByRecursion, int_eq, word_eq, coefficient_of, SamePolynomial, poly_multiple, poly_between, Quiver, is_path, IsTyped, Row, generator_at, row_poly, row_sum, is_typed_row, HasSignature, TypedRowsSuffice}
+use Rattle.std.proofs.Common.{◌≡◌, ◌≢◌, ℕ, zero, suc, ℤ, pos, negsuc, ◌+ℤ◌, ◌*ℤ◌, neg_ℤ, Bool, true, false, cond, ◌||◌, get_or, List, [], ◌∷◌, ◌++◌, filter, ◌⊎◌, inl, inr, sym, refl, ap, ap₂, ◌∙◌, arith, true≢false}
+use Rattle.std.proofs.Math.IntN.{+ℤ_assoc, +ℤ_comm, +ℤ_idl, +ℤ_idr, +ℤ_invr, *ℤ-zero, ℤ_discrete}
+use Rattle.std.proofs.lemmas.Bool.{and_from, false_from_ne_true, or_cases, or_left, or_right}
+use Rattle.std.proofs.lemmas.Bool.Decides.{Decides-int_eq}
+use Rattle.std.specs.List.{list_all, AllByRecursion}
+use Rattle.std.specs.Ordering.{int_eq}
+use Rattle.definitions.specs.Combination.{Row, generator_at, row_poly, row_sum, is_typed_row}
+use Rattle.definitions.specs.Poly.{word_eq, coefficient_of, SamePolynomial, poly_multiple, poly_between}
+use Rattle.definitions.specs.Quiver.{Quiver, is_path, IsTyped}
+use Rattle.definitions.specs.Soundness.{HasSignature, TypedRowsSuffice}
 use Rattle.definitions.proofs.Group.{IsGroup}
 use Rattle.definitions.proofs.Multiples.{natural_times, times, times-none}
 use Rattle.definitions.proofs.Linear.{linear, linear_agree, linear-none, linear-between, word_eq-true}

@@ -1,5 +1,12 @@
 -- Which words are paths, and which polynomials have a signature.
-use Rattle.definitions.proofs.Prelude.{◌≡◌, ◌≢◌, ℕ, zero, suc, ◌+◌, ◌-◌, ◌<◌, ◌≤◌, ℤ, pos, negsuc, Bool, true, false, cond, ◌&&◌, ◌||◌, List, [], ◌∷◌, ◌++◌, Option, Some, None, sym, refl, ap, ap₂, subst, ◌∙◌, arith, eqb, leb, ltb, eqb-true, eq-eqb, lt-ltb, option_map, AllByRecursion, flat_map, range_with_len, and_from, and_parts, word_eq, coefficient_of, poly_eq, poly_multiple, Quiver, IsQuiver, letters, source, target, star, leads, is_path, IsTyped, signature_of, adjoint_poly, new_adjoint, left_unit, right_unit, letter_units, units, generators_of, HasSignature}
+use Rattle.std.proofs.Common.{◌≡◌, ◌≢◌, ℕ, zero, suc, ◌+◌, ◌-◌, ◌<◌, ◌≤◌, ℤ, pos, negsuc, Bool, true, false, cond, ◌&&◌, ◌||◌, List, [], ◌∷◌, ◌++◌, Option, Some, None, sym, refl, ap, ap₂, subst, ◌∙◌, arith, eqb, leb, ltb, eqb-true, eq-eqb, lt-ltb}
+use Rattle.std.proofs.lemmas.Bool.{and_from, and_parts}
+use Rattle.std.specs.List.{AllByRecursion, flat_map, range_with_len}
+use Rattle.std.specs.Option.{option_map}
+use Rattle.definitions.specs.Generators.{adjoint_poly, new_adjoint, left_unit, right_unit, letter_units, units, generators_of}
+use Rattle.definitions.specs.Poly.{word_eq, coefficient_of, poly_eq, poly_multiple}
+use Rattle.definitions.specs.Quiver.{Quiver, IsQuiver, letters, source, target, star, leads, is_path, IsTyped, signature_of}
+use Rattle.definitions.specs.Soundness.{HasSignature}
 use Rattle.definitions.proofs.Linear.{word_eq-true, coefficient_other}
 use Rattle.definitions.proofs.Paths.{step}
 use Rattle.definitions.proofs.Adjoints.{typed-adjoint_poly}

@@ -1,5 +1,12 @@
 -- In each representation the relations of identities are zero, and so the assumptions make all generators of a statement zero that isn't starred.
-use Rattle.definitions.proofs.Prelude.{◌≡◌, ℕ, ◌-◌, ◌<◌, pos, negsuc, Bool, true, false, cond, ◌||◌, List, [], ◌∷◌, ◌++◌, sym, ap, ap₂, subst, ◌∙◌, eqb, eqb-true, eq-eqb, lt-ltb, leb, true≢false, refl, false_from_ne_true, and_from, AllByRecursion, flat_map, range_with_len, Structure, IsArrow, PreadditiveLaws, Quiver, IsQuiver, letters, source, target, star, leads, is_path, Representation, Represents, word_value, value_at, left_unit, right_unit, letter_units, units, HasValueZero, IsUnitSound}
+use Rattle.std.proofs.Common.{◌≡◌, ℕ, ◌-◌, ◌<◌, pos, negsuc, Bool, true, false, cond, ◌||◌, List, [], ◌∷◌, ◌++◌, sym, ap, ap₂, subst, ◌∙◌, eqb, eqb-true, eq-eqb, lt-ltb, leb, true≢false, refl}
+use Rattle.std.proofs.lemmas.Bool.{false_from_ne_true, and_from}
+use Rattle.std.specs.List.{AllByRecursion, flat_map, range_with_len}
+use Rattle.definitions.specs.Category.{Structure, IsArrow, PreadditiveLaws}
+use Rattle.definitions.specs.Generators.{left_unit, right_unit, letter_units, units}
+use Rattle.definitions.specs.Quiver.{Quiver, IsQuiver, letters, source, target, star, leads, is_path}
+use Rattle.definitions.specs.Representation.{Representation, Represents, word_value, value_at}
+use Rattle.definitions.specs.Soundness.{HasValueZero, IsUnitSound}
 use Rattle.definitions.proofs.Group.{IsGroup}
 use Rattle.definitions.proofs.Paths.{step, leads-append}
 use Rattle.definitions.proofs.Values.{word_at, word_at_is_arrow, group_at, value_at-linear, letter_is_arrow}

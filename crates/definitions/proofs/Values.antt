@@ -1,5 +1,8 @@
 -- Values of words and polynomials as sums in the group of the arrows between two objects.
-use Rattle.definitions.proofs.Prelude.{◌≡◌, ℕ, zero, suc, ◌<◌, ℤ, pos, negsuc, Bool, true, false, cond, List, [], ◌∷◌, sym, refl, ap, ap₂, subst, ◌∙◌, eqb-true, Structure, IsArrow, PreadditiveLaws, Quiver, letters, source, target, leads, is_path, Representation, Represents, natural_multiple, multiple, path_value, word_value, value_at}
+use Rattle.std.proofs.Common.{◌≡◌, ℕ, zero, suc, ◌<◌, ℤ, pos, negsuc, Bool, true, false, cond, List, [], ◌∷◌, sym, refl, ap, ap₂, subst, ◌∙◌, eqb-true}
+use Rattle.definitions.specs.Category.{Structure, IsArrow, PreadditiveLaws}
+use Rattle.definitions.specs.Quiver.{Quiver, letters, source, target, leads, is_path}
+use Rattle.definitions.specs.Representation.{Representation, Represents, natural_multiple, multiple, path_value, word_value, value_at}
 use Rattle.definitions.proofs.Group.{IsGroup, zero_add}
 use Rattle.definitions.proofs.Multiples.{natural_times, times, times-none}
 use Rattle.definitions.proofs.Linear.{linear, linear_in}

@@ -1,5 +1,17 @@
 -- Words with the same letters on either side.
-use Rattle.nc_polynomial.proofs.Prelude.{◌≡◌, ℕ, ◌+◌, List, [], ◌∷◌, ◌++◌, length, get_or, sym, refl, ap, ap₂, ◌∙◌, arith, nat_tests, ranked, tied_itself, length-append, All-map, nat_cmp_total, slice_cmp, nat_cmp, ordering_then, Ordering, Less, Equal, Greater, nat_list_cmp_total, Term, poly_between, word_cmp, IsShaped}
+use Rattle.std.proofs.Common.{◌≡◌, ℕ, ◌+◌, List, [], ◌∷◌, ◌++◌, length, get_or, sym, refl, ap, ap₂, ◌∙◌, arith}
+use Rattle.std.proofs.lemmas.Bool.Decides.{nat_tests}
+use Rattle.std.proofs.lemmas.Cmp.{ranked, tied_itself, nat_list_cmp_total}
+use Rattle.std.proofs.lemmas.List.{length-append}
+use Rattle.std.proofs.lemmas.List.Elements.{All-map}
+use Rattle.std.specs.Cmp.{nat_cmp_total}
+use Rattle.std.specs.Cmp.Lexicographic.{slice_cmp}
+use Rattle.std.specs.Ordering.{nat_cmp, ordering_then}
+use Rattle.std.specs.declared.cmp.Ordering.{Ordering}
+use Rattle.std.specs.declared.cmp.Ordering.TheVariants.{Less, Equal, Greater}
+use Rattle.definitions.specs.Poly.{Term, poly_between}
+use Rattle.word_core.specs.Canonical.{word_cmp}
+use Rattle.nc_polynomial.specs.Shape.{IsShaped}
 use Rattle.nc_polynomial.proofs.Shapes.{Descends, IsBelow, IsInRange, IsNonzero, IsDescending-from_recursion, recursion_from_IsDescending}
 
 cmp-before : (l u v : List ℕ) → slice_cmp nat_cmp (l ++ u) (l ++ v) ≡ slice_cmp nat_cmp u v

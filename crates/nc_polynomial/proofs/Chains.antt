@@ -1,5 +1,17 @@
 -- Operations in several parts: a fault of an earlier part is that of the whole.
-use Rattle.nc_polynomial.proofs.Prelude.{◌≡◌, ℕ, ℤ, true, false, List, [], ◌∷◌, ◌++◌, Option, Some, None, Result, Ok, Err, refl, ap, ap₂, subst, ◌∙◌, cond, All, IsCoefficient, is_coefficient, arith, nat_tests, append-nil, Overflow, PolyFault, exact_value, first_overflow, scaled, products, multiplied, multiplications, shifted, added, sums, Term, checked, unless_overflow, sized, finished, Explains, combined, sum_result, IsShaped}
+use Rattle.std.proofs.Common.{◌≡◌, ℕ, ℤ, true, false, List, [], ◌∷◌, ◌++◌, Option, Some, None, Result, Ok, Err, refl, ap, ap₂, subst, ◌∙◌, cond, arith}
+use Rattle.std.proofs.lemmas.Bool.Decides.{nat_tests}
+use Rattle.std.proofs.lemmas.List.{append-nil}
+use Rattle.std.specs.List.{All}
+use Rattle.definitions.specs.Poly.{Term}
+use Rattle.coef_int.specs.Operations.{exact_value, first_overflow}
+use Rattle.coef_int.specs.Range.{IsCoefficient, is_coefficient}
+use Rattle.coef_int.specs.declared.Overflow.{Overflow}
+use Rattle.nc_polynomial.specs.Arithmetic.{combined, sum_result}
+use Rattle.nc_polynomial.specs.Faults.{checked, unless_overflow, sized, finished, Explains}
+use Rattle.nc_polynomial.specs.Shape.{IsShaped}
+use Rattle.nc_polynomial.specs.Terms.{scaled, products, multiplied, multiplications, shifted, added, sums}
+use Rattle.nc_polynomial.specs.declared.fault.PolyFault.{PolyFault}
 use Rattle.nc_polynomial.specs.declared.fault.PolyFault.TheVariants as fault
 use Rattle.nc_polynomial.proofs.Shapes.{shaped-scaled, shaped-added, in_range-scaled, in_range-multiplied, in_range-shifted, in_range-added}
 

@@ -1,5 +1,13 @@
 -- Operations one by one, and the terms that they make.
-use Rattle.nc_polynomial.proofs.Prelude.{◌≡◌, ◌≢◌, ℕ, zero, suc, ℤ, pos, negsuc, List, [], ◌∷◌, ◌++◌, Option, Some, None, Result, Ok, Err, refl, sym, ap, ◌∙◌, arith, append_assoc, nat_tests, Overflow, IsCoefficient, PolyFault, exact_value, first_overflow, Term, Pair, keep, scaled, products, multiplied, multiplications, shifted, totals, total_operations, checked, unless_overflow}
+use Rattle.std.proofs.Common.{◌≡◌, ◌≢◌, ℕ, zero, suc, ℤ, pos, negsuc, List, [], ◌∷◌, ◌++◌, Option, Some, None, Result, Ok, Err, refl, sym, ap, ◌∙◌, arith, append_assoc}
+use Rattle.std.proofs.lemmas.Bool.Decides.{nat_tests}
+use Rattle.definitions.specs.Poly.{Term}
+use Rattle.coef_int.specs.Operations.{exact_value, first_overflow}
+use Rattle.coef_int.specs.Range.{IsCoefficient}
+use Rattle.coef_int.specs.declared.Overflow.{Overflow}
+use Rattle.nc_polynomial.specs.Faults.{checked, unless_overflow}
+use Rattle.nc_polynomial.specs.Terms.{Pair, keep, scaled, products, multiplied, multiplications, shifted, totals, total_operations}
+use Rattle.nc_polynomial.specs.declared.fault.PolyFault.{PolyFault}
 use Rattle.nc_polynomial.specs.declared.fault.PolyFault.TheVariants as fault
 
 -- terms before what a call returns

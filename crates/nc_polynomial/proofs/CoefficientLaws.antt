@@ -1,5 +1,14 @@
 -- The coefficients of multiples and of sums.
-use Rattle.nc_polynomial.proofs.Prelude.{◌≡◌, ℕ, zero, suc, ℤ, pos, negsuc, ◌+ℤ◌, ◌*ℤ◌, Bool, true, false, cond, List, [], ◌∷◌, map, sym, refl, ap, ap₂, ◌∙◌, arith, ints, *ℤ-zero, Ordering, Less, Equal, Greater, word_cmp, Pair, only_right, keep, scaled, aligned, aligned_at, totals, added, by_order, Term, word_eq, coefficient_of, *ℤ-+ℤ, word_cmp-same}
+use Rattle.std.proofs.Common.{◌≡◌, ℕ, zero, suc, ℤ, pos, negsuc, ◌+ℤ◌, ◌*ℤ◌, Bool, true, false, cond, List, [], ◌∷◌, map, sym, refl, ap, ap₂, ◌∙◌, arith}
+use Rattle.std.proofs.Math.IntN.{*ℤ-zero}
+use Rattle.std.proofs.lemmas.Int.{ints}
+use Rattle.std.specs.declared.cmp.Ordering.{Ordering}
+use Rattle.std.specs.declared.cmp.Ordering.TheVariants.{Less, Equal, Greater}
+use Rattle.definitions.proofs.Integers.{*ℤ-+ℤ}
+use Rattle.definitions.specs.Poly.{Term, word_eq, coefficient_of}
+use Rattle.word_core.proofs.Order.{word_cmp-same}
+use Rattle.word_core.specs.Canonical.{word_cmp}
+use Rattle.nc_polynomial.specs.Terms.{Pair, only_right, keep, scaled, aligned, aligned_at, totals, added, by_order}
 
 abbrev pub lefts : List Pair → List Term
 lefts pairs = map (λ a. (a.0, a.2)) pairs

@@ -1,5 +1,13 @@
 -- Terms with different words.
-use Rattle.nc_polynomial.proofs.Prelude.{cases_Bool, ◌≡◌, ◌≢◌, ◌++◌, ℕ, pos, ◌+ℤ◌, false, List, [], ◌∷◌, get_or, sym, refl, ap, subst, ◌∙◌, arith, inl, inr, +ℤ_idr, All, All-nil, All-cons, All-tail, is_eq, IsCoefficient, Term, word_eq, coefficient_of, word_eq-same, word_eq-true, coefficient_at, coefficient_other}
+use Rattle.std.proofs.Common.{◌≡◌, ◌≢◌, ◌++◌, ℕ, pos, ◌+ℤ◌, false, List, [], ◌∷◌, get_or, sym, refl, ap, subst, ◌∙◌, arith, inl, inr}
+use Rattle.std.proofs.Math.IntN.{+ℤ_idr}
+use Rattle.std.proofs.lemmas.Bool.{cases_Bool}
+use Rattle.std.proofs.lemmas.List.Elements.{All-nil, All-cons, All-tail}
+use Rattle.std.specs.List.{All}
+use Rattle.std.specs.Ordering.{is_eq}
+use Rattle.definitions.proofs.Linear.{word_eq-same, word_eq-true, coefficient_at, coefficient_other}
+use Rattle.definitions.specs.Poly.{Term, word_eq, coefficient_of}
+use Rattle.coef_int.specs.Range.{IsCoefficient}
 use Rattle.nc_polynomial.proofs.Shapes.{Descends, IsInRange, IsNonzero, over-front}
 use Rattle.nc_polynomial.proofs.Words.{word_eq-cmp, word_eq-turned}
 

@@ -1,5 +1,18 @@
 -- Common divisors of coefficients, and quotients that leave nothing.
-use Rattle.nc_polynomial.proofs.Prelude.{◌≡◌, ◌≢◌, ℕ, zero, suc, ◌<◌, ◌≤◌, ℤ, pos, negsuc, neg_ℤ, ◌+ℤ◌, ◌*◌, ◌*ℤ◌, List, [], ◌∷◌, ◌++◌, length, Some, take, get_or, ◌↔◌, sym, refl, ap, subst, ◌∙◌, arith, quot-rem, unsigned_abs-mul, mod-eq-zero_of_dvd, dvd_trans, length-map, get_or-map, All-take, All-weaker, All-pop, All-push, *ℤ_comm, *ℤ-zero, +ℤ_idr, one-dvd, eq-zero_of_zero-dvd, le-mul_of_pos_right, mul_comm, All, IsCoefficient, Term, poly_multiple, IsCanonical, IsContent, DividesEach, ◌∣◌, IsGcd, IsNonNegative, unsigned_abs, int_div, int_rem}
+use Rattle.std.proofs.Common.{◌≡◌, ◌≢◌, ℕ, zero, suc, ◌<◌, ◌≤◌, ℤ, pos, negsuc, neg_ℤ, ◌+ℤ◌, ◌*◌, ◌*ℤ◌, List, [], ◌∷◌, ◌++◌, length, Some, take, get_or, ◌↔◌, sym, refl, ap, subst, ◌∙◌, arith}
+use Rattle.std.proofs.Math.IntN.{*ℤ_comm, *ℤ-zero, +ℤ_idr}
+use Rattle.std.proofs.Math.Nat.{one-dvd, eq-zero_of_zero-dvd, le-mul_of_pos_right, mul_comm}
+use Rattle.std.proofs.lemmas.Int.{quot-rem, unsigned_abs-mul}
+use Rattle.std.proofs.lemmas.List.{length-map, get_or-map}
+use Rattle.std.proofs.lemmas.List.Elements.{All-take, All-weaker, All-pop, All-push}
+use Rattle.std.proofs.lemmas.Nat.Gcd.{mod-eq-zero_of_dvd, dvd_trans}
+use Rattle.std.specs.Int.{◌∣◌, IsGcd, IsNonNegative}
+use Rattle.std.specs.Int.RustNames.{unsigned_abs, int_div, int_rem}
+use Rattle.std.specs.List.{All}
+use Rattle.definitions.specs.Poly.{Term, poly_multiple}
+use Rattle.coef_int.specs.Range.{IsCoefficient}
+use Rattle.nc_polynomial.specs.Content.{IsContent, DividesEach}
+use Rattle.nc_polynomial.specs.Shape.{IsCanonical}
 use Rattle.nc_polynomial.proofs.Shapes.{Descends, IsBelow, IsInRange, IsNonzero, IsDescending-from_recursion, recursion_from_IsDescending}
 
 -- a number that divides leaves no remainder

@@ -1,5 +1,12 @@
 -- The terms of which a multiple is made: none for the factor zero, else all.
-use Rattle.nc_polynomial.proofs.Prelude.{◌≡◌, ◌≢◌, ℤ, pos, ◌*ℤ◌, List, [], ◌∷◌, sym, refl, ap, ap₂, ◌∙◌, mul-pos, arith, unsigned_abs-mul, All-tail, zero-*ℤ, All, unsigned_abs, Term, poly_multiple, keep, scaled}
+use Rattle.std.proofs.Common.{◌≡◌, ◌≢◌, ℤ, pos, ◌*ℤ◌, List, [], ◌∷◌, sym, refl, ap, ap₂, ◌∙◌, mul-pos, arith}
+use Rattle.std.proofs.Math.IntN.{zero-*ℤ}
+use Rattle.std.proofs.lemmas.Int.{unsigned_abs-mul}
+use Rattle.std.proofs.lemmas.List.Elements.{All-tail}
+use Rattle.std.specs.Int.RustNames.{unsigned_abs}
+use Rattle.std.specs.List.{All}
+use Rattle.definitions.specs.Poly.{Term, poly_multiple}
+use Rattle.nc_polynomial.specs.Terms.{keep, scaled}
 use Rattle.nc_polynomial.proofs.Checked.{keep-nonzero}
 use Rattle.nc_polynomial.proofs.Divisors.{abs_positive}
 use Rattle.nc_polynomial.proofs.Shapes.{IsNonzero}

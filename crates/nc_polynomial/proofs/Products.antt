@@ -1,5 +1,20 @@
 -- Products of polynomials.
-use Rattle.nc_polynomial.proofs.Prelude.{or_parts, ltb-false, ◌≡◌, ℕ, ◌≤◌, ℤ, pos, ◌+ℤ◌, ◌*ℤ◌, false, nat_lt, List, [], ◌∷◌, ◌++◌, length, map, Some, None, Ok, Err, sym, refl, ap, ap₂, subst, ◌∙◌, arith, nat_tests, +ℤ_idl, +ℤ_idr, +ℤ_assoc, append-nil, All-nil, All-cons, All, product_of, first_overflow, Term, SamePolynomial, coefficient_of, poly_multiple, poly_between, poly_product, coefficient_of-append, coefficient_of-multiple, PolyFault, keep, scaled, products, shifted, added, sums, IsShaped, IsCanonical, Explains, checked, unless_overflow, finished, sized, has_long_word, combined, sum_result, and_then, product_step, product_from}
+use Rattle.std.proofs.Common.{◌≡◌, ℕ, ◌≤◌, ℤ, pos, ◌+ℤ◌, ◌*ℤ◌, false, nat_lt, List, [], ◌∷◌, ◌++◌, length, map, Some, None, Ok, Err, sym, refl, ap, ap₂, subst, ◌∙◌, arith}
+use Rattle.std.proofs.Math.IntN.{+ℤ_idl, +ℤ_idr, +ℤ_assoc}
+use Rattle.std.proofs.lemmas.Bool.{or_parts, ltb-false}
+use Rattle.std.proofs.lemmas.Bool.Decides.{nat_tests}
+use Rattle.std.proofs.lemmas.List.{append-nil}
+use Rattle.std.proofs.lemmas.List.Elements.{All-nil, All-cons}
+use Rattle.std.specs.List.{All}
+use Rattle.definitions.proofs.Coefficients.{coefficient_of-append, coefficient_of-multiple}
+use Rattle.definitions.specs.Poly.{Term, SamePolynomial, coefficient_of, poly_multiple, poly_between, poly_product}
+use Rattle.coef_int.specs.Operations.{product_of, first_overflow}
+use Rattle.nc_polynomial.specs.Arithmetic.{combined, sum_result}
+use Rattle.nc_polynomial.specs.Faults.{Explains, checked, unless_overflow, finished, sized, has_long_word}
+use Rattle.nc_polynomial.specs.Product.{and_then, product_step, product_from}
+use Rattle.nc_polynomial.specs.Shape.{IsShaped, IsCanonical}
+use Rattle.nc_polynomial.specs.Terms.{keep, scaled, products, shifted, added, sums}
+use Rattle.nc_polynomial.specs.declared.fault.PolyFault.{PolyFault}
 use Rattle.nc_polynomial.proofs.Around.{shaped-between}
 use Rattle.nc_polynomial.proofs.Chains.{first-append, or_first, none_overflows, value_is, passes, explains-itself, explains-first, sized-value, finished-value}
 use Rattle.nc_polynomial.proofs.CoefficientLaws.{coefficient_of-added, coefficient_of-scaled}

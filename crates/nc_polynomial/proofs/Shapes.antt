@@ -1,5 +1,20 @@
 -- Sums and multiples of polynomials are descending, have no zero coefficient, and are in range where nothing overflows.
-use Rattle.nc_polynomial.proofs.Prelude.{◌≡◌, ◌≢◌, ℕ, zero, suc, ℤ, pos, negsuc, ◌+ℤ◌, ◌*ℤ◌, true, List, [], ◌∷◌, ◌++◌, get_or, map, None, neg_ℤ, sym, refl, ap, ◌∙◌, subst, arith, nat_tests, neg_ℤ-neg_ℤ, All, AllPairs-cons, All-nil, All-cons, All-tail, All-contains, All-map, Contains-append_right, Ordering, Less, Equal, Greater, Overflow, IsCoefficient, is_coefficient, word_cmp, product_of, sum_of, exact_value, first_overflow, Term, Pair, only_right, keep, scaled, products, multiplied, multiplications, shifted, negated, aligned, aligned_at, totals, total_operations, added, sums, by_order, IsDescending, IsShaped, word_cmp-same, word_cmp-turned, word_cmp-trans}
+use Rattle.std.proofs.Common.{◌≡◌, ◌≢◌, ℕ, zero, suc, ℤ, pos, negsuc, ◌+ℤ◌, ◌*ℤ◌, true, List, [], ◌∷◌, ◌++◌, get_or, map, None, neg_ℤ, sym, refl, ap, ◌∙◌, subst, arith}
+use Rattle.std.proofs.Math.IntN.{neg_ℤ-neg_ℤ}
+use Rattle.std.proofs.lemmas.Bool.Decides.{nat_tests}
+use Rattle.std.proofs.lemmas.List.Elements.{All-nil, All-cons, All-tail, All-contains, All-map, Contains-append_right}
+use Rattle.std.proofs.lemmas.List.Kept.{AllPairs-cons}
+use Rattle.std.specs.List.{All}
+use Rattle.std.specs.declared.cmp.Ordering.{Ordering}
+use Rattle.std.specs.declared.cmp.Ordering.TheVariants.{Less, Equal, Greater}
+use Rattle.definitions.specs.Poly.{Term}
+use Rattle.coef_int.specs.Operations.{product_of, sum_of, exact_value, first_overflow}
+use Rattle.coef_int.specs.Range.{IsCoefficient, is_coefficient}
+use Rattle.coef_int.specs.declared.Overflow.{Overflow}
+use Rattle.word_core.proofs.Order.{word_cmp-same, word_cmp-turned, word_cmp-trans}
+use Rattle.word_core.specs.Canonical.{word_cmp}
+use Rattle.nc_polynomial.specs.Shape.{IsShaped}
+use Rattle.nc_polynomial.specs.Terms.{Pair, only_right, keep, scaled, products, multiplied, multiplications, shifted, negated, aligned, aligned_at, totals, total_operations, added, sums, by_order, IsDescending}
 
 abbrev pub IsNonzero : Term → Type 0
 IsNonzero t = t.0 ≢ pos 0

@@ -1,5 +1,26 @@
 -- The terms of a table of words.
-use Rattle.nc_polynomial.proofs.Prelude.{cases_Bool, cond_both, ◌≡◌, ◌≢◌, ℕ, zero, suc, ◌+◌, ◌≤◌, ℤ, pos, negsuc, ◌+ℤ◌, length, false, cond, List, [], ◌∷◌, get_or, ◌++◌, map, Some, None, unwrap_or, sym, refl, ap, subst, ◌∙◌, arith, append_assoc, inl, inr, ints, +ℤ_idr, All, ByRecursion, BTreeMap, IsOrdered, Equal-is, All-nil, All-cons, All-tail, All-map, IsStrictlySortedBy, keys_of, lookup, is_eq, Less, Greater, IsCoefficient, Term, word_eq, coefficient_of, word_eq-true, coefficient_other, word_cmp, word_cmp-turned, word_cmp-same, word_cmp-itself, keep, reversed, coefficient_in, IsRunning, terms_in, IsShaped}
+use Rattle.std.proofs.Common.{◌≡◌, ◌≢◌, ℕ, zero, suc, ◌+◌, ◌≤◌, ℤ, pos, negsuc, ◌+ℤ◌, length, false, cond, List, [], ◌∷◌, get_or, ◌++◌, map, Some, None, unwrap_or, sym, refl, ap, subst, ◌∙◌, arith, append_assoc, inl, inr}
+use Rattle.std.proofs.Math.IntN.{+ℤ_idr}
+use Rattle.std.proofs.lemmas.Bool.{cases_Bool, cond_both}
+use Rattle.std.proofs.lemmas.Int.{ints}
+use Rattle.std.proofs.lemmas.List.Elements.{All-nil, All-cons, All-tail, All-map}
+use Rattle.std.specs.BTreeMap.{BTreeMap, IsOrdered}
+use Rattle.std.specs.Cmp.{Equal-is}
+use Rattle.std.specs.List.{All, AllByRecursion as ByRecursion}
+use Rattle.std.specs.List.Sorted.{IsStrictlySortedBy}
+use Rattle.std.specs.Map.{keys_of, lookup}
+use Rattle.std.specs.Ordering.{is_eq}
+use Rattle.std.specs.declared.cmp.Ordering.TheVariants.{Less, Greater}
+use Rattle.definitions.proofs.Linear.{word_eq-true, coefficient_other}
+use Rattle.definitions.specs.Poly.{Term, word_eq, coefficient_of}
+use Rattle.coef_int.specs.Range.{IsCoefficient}
+use Rattle.word_core.proofs.Order.{word_cmp-turned, word_cmp-same, word_cmp-itself}
+use Rattle.word_core.specs.Canonical.{word_cmp}
+use Rattle.nc_polynomial.specs.Ascending.{reversed}
+use Rattle.nc_polynomial.specs.Collected.{coefficient_in}
+use Rattle.nc_polynomial.specs.Running.{IsRunning, terms_in}
+use Rattle.nc_polynomial.specs.Shape.{IsShaped}
+use Rattle.nc_polynomial.specs.Terms.{keep}
 use Rattle.nc_polynomial.proofs.Checked.{keep-append, keep-nonzero}
 use Rattle.nc_polynomial.proofs.CoefficientLaws.{coefficient_of-keep}
 use Rattle.nc_polynomial.proofs.Shapes.{Descends, IsBelow, IsNonzero, IsDescending-from_recursion, descending-keep, all-keep}

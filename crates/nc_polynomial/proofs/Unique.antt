@@ -1,5 +1,15 @@
 -- Two polynomials with the same coefficients have the same terms.
-use Rattle.nc_polynomial.proofs.Prelude.{◌≡◌, ◌≢◌, ℕ, pos, Bool, true, false, List, [], ◌∷◌, get_or, ◌⊎◌, inl, inr, refl, ap, ◌∙◌, arith, All, All-tail, recursion_from_All, is_lt, ordering_reverse, Ordering, Less, Equal, Greater, Term, SamePolynomial, IsStrictOrder, IsCanonicalBy, unique_by, word_cmp, word_cmp_total, word_cmp-same, word_cmp-itself, IsShaped, IsCanonical}
+use Rattle.std.proofs.Common.{◌≡◌, ◌≢◌, ℕ, pos, Bool, true, false, List, [], ◌∷◌, get_or, ◌⊎◌, inl, inr, refl, ap, ◌∙◌, arith}
+use Rattle.std.proofs.lemmas.List.Elements.{All-tail, recursion_from_All}
+use Rattle.std.specs.List.{All}
+use Rattle.std.specs.Ordering.{is_lt, ordering_reverse}
+use Rattle.std.specs.declared.cmp.Ordering.{Ordering}
+use Rattle.std.specs.declared.cmp.Ordering.TheVariants.{Less, Equal, Greater}
+use Rattle.definitions.proofs.Canonical.{IsStrictOrder, IsCanonical as IsCanonicalBy, canonical_unique as unique_by}
+use Rattle.definitions.specs.Poly.{Term, SamePolynomial}
+use Rattle.word_core.proofs.Order.{word_cmp-same, word_cmp-itself}
+use Rattle.word_core.specs.Canonical.{word_cmp, word_cmp_total}
+use Rattle.nc_polynomial.specs.Shape.{IsShaped, IsCanonical}
 use Rattle.nc_polynomial.proofs.Shapes.{Descends, IsNonzero, recursion_from_IsDescending}
 
 -- whether the first word is below the second

@@ -1,5 +1,15 @@
 -- Sums and differences are combinations with the factors 1 and -1.
-use Rattle.nc_polynomial.proofs.Prelude.{ints, ◌≡◌, ◌≢◌, ℤ, pos, negsuc, ◌*ℤ◌, List, [], ◌∷◌, None, Ok, sym, refl, ap, ap₂, subst, ◌∙◌, arith, All-tail, All, IsCoefficient, product_of, first_overflow, Term, SamePolynomial, poly_sum, poly_multiple, scaled, products, negated, added, sums, IsShaped, checked, unless_overflow, combined, sum_result, difference_result}
+use Rattle.std.proofs.Common.{◌≡◌, ◌≢◌, ℤ, pos, negsuc, ◌*ℤ◌, List, [], ◌∷◌, None, Ok, sym, refl, ap, ap₂, subst, ◌∙◌, arith}
+use Rattle.std.proofs.lemmas.Int.{ints}
+use Rattle.std.proofs.lemmas.List.Elements.{All-tail}
+use Rattle.std.specs.List.{All}
+use Rattle.definitions.specs.Poly.{Term, SamePolynomial, poly_sum, poly_multiple}
+use Rattle.coef_int.specs.Operations.{product_of, first_overflow}
+use Rattle.coef_int.specs.Range.{IsCoefficient}
+use Rattle.nc_polynomial.specs.Arithmetic.{combined, sum_result, difference_result}
+use Rattle.nc_polynomial.specs.Faults.{checked, unless_overflow}
+use Rattle.nc_polynomial.specs.Shape.{IsShaped}
+use Rattle.nc_polynomial.specs.Terms.{scaled, products, negated, added, sums}
 use Rattle.nc_polynomial.proofs.Chains.{first-fits, passed_sum, finished-value}
 use Rattle.nc_polynomial.proofs.Kept.{scaled_by_nonzero}
 use Rattle.nc_polynomial.proofs.Shapes.{IsInRange, shaped-negated}

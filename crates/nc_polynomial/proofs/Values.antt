@@ -1,5 +1,10 @@
 -- What the calls return, as polynomials.
-use Rattle.nc_polynomial.proofs.Prelude.{ints, ◌≡◌, ℤ, negsuc, neg_ℤ, ◌*ℤ◌, arith, List, [], ◌∷◌, Ok, sym, refl, ap₂, subst, ◌∙◌, Term, SamePolynomial, poly_sum, poly_multiple, Same_trans, SamePolynomial-append, coefficient_of-append, coefficient_of-multiple, scaled, products, negated, added, sums, checked, sized}
+use Rattle.std.proofs.Common.{◌≡◌, ℤ, negsuc, neg_ℤ, ◌*ℤ◌, arith, List, [], ◌∷◌, Ok, sym, refl, ap₂, subst, ◌∙◌}
+use Rattle.std.proofs.lemmas.Int.{ints}
+use Rattle.definitions.proofs.Coefficients.{Same_trans, SamePolynomial-append, coefficient_of-append, coefficient_of-multiple}
+use Rattle.definitions.specs.Poly.{Term, SamePolynomial, poly_sum, poly_multiple}
+use Rattle.nc_polynomial.specs.Faults.{checked, sized}
+use Rattle.nc_polynomial.specs.Terms.{scaled, products, negated, added, sums}
 use Rattle.nc_polynomial.proofs.CoefficientLaws.{coefficient_of-added, coefficient_of-scaled}
 use Rattle.nc_polynomial.proofs.Chains.{value_is, sized-value}
 

@@ -1,5 +1,17 @@
 -- Words that are the same, and tables of words.
-use Rattle.nc_polynomial.proofs.Prelude.{◌≡◌, ℕ, ℤ, pos, ◌+ℤ◌, Bool, true, false, cond, ◌&&◌, List, [], ◌∷◌, Some, unwrap_or, refl, sym, ap, ◌∙◌, arith, and_parts, and_from, Decides-int_eq, ints, Decides, BTreeMap, get, both_ways, Equal-is, is_eq, int_eq, Term, word_eq, coefficient_of, word_eq-same, word_eq-true, word_cmp, word_cmp-same, word_cmp-itself, coefficient_in}
+use Rattle.std.proofs.Common.{◌≡◌, ℕ, ℤ, pos, ◌+ℤ◌, Bool, true, false, cond, ◌&&◌, List, [], ◌∷◌, Some, unwrap_or, refl, sym, ap, ◌∙◌, arith}
+use Rattle.std.proofs.lemmas.Bool.{and_parts, and_from}
+use Rattle.std.proofs.lemmas.Bool.Decides.{Decides-int_eq}
+use Rattle.std.proofs.lemmas.Int.{ints}
+use Rattle.std.specs.BTreeMap.{BTreeMap, get}
+use Rattle.std.specs.Bool.{Decides}
+use Rattle.std.specs.Cmp.{both_ways, Equal-is}
+use Rattle.std.specs.Ordering.{is_eq, int_eq}
+use Rattle.definitions.proofs.Linear.{word_eq-same, word_eq-true}
+use Rattle.definitions.specs.Poly.{Term, word_eq, coefficient_of}
+use Rattle.word_core.proofs.Order.{word_cmp-same, word_cmp-itself}
+use Rattle.word_core.specs.Canonical.{word_cmp}
+use Rattle.nc_polynomial.specs.Collected.{coefficient_in}
 
 pub word_eq-cmp : (v w : List ℕ) → word_eq v w ≡ is_eq (word_cmp v w)
 word_eq-cmp v w = both_ways (word_eq v w) (is_eq (word_cmp v w))

@@ -1,5 +1,42 @@
 -- The category of the normal forms of resolved rules, and what is zero in it.
-use Rattle.normal_forms.proofs.Prelude.{◌≡◌, ◌≢◌, ℕ, ◌<◌, pos, Bool, true, not, List, [], ◌∷◌, ◌++◌, refl, sym, ap, ◌∙◌, subst, arith, true≢false, ltb, ltb-true, and_parts, Decides-int_eq, ints, int_eq, All-cons, All-nil, All-head, All-tail, All, AllByRecursion, list_all, Word, Term, word_eq, coefficient_of, PreadditiveLaws, Quiver, IsQuiver, letters, leads, is_path, source, InRationalIdeal, HasSignature, HasValueZero, HasValueZeroAt, step, generators_typed, IsOver, asked_cmp, asked_rank, asked_cmp-admissible, over_range, range_over, IsOver-append, letter_count, quiver_of, letters-quiver_of, Rule, IsRule, polynomials_of, rule_at-all, Parts, numbers, is_in_play, polynomials, generators_in, posed_quiver, marked_are_objects, assumptions_have_signatures, IsTypedInPlay, HasLed, led_at, led_of, led_at-is, led_is, leds_are, parted, is_lower, all_words_filtered, Span, everything, all_resolved, Free, ideal_span, free_span, comes_from_span, all_grounded, IsBasis, normal_forms, forms_representation, SharpMeans}
+use Rattle.std.proofs.Common.{◌≡◌, ◌≢◌, ℕ, ◌<◌, pos, Bool, true, not, List, [], ◌∷◌, ◌++◌, refl, sym, ap, ◌∙◌, subst, arith, true≢false, ltb, ltb-true}
+use Rattle.std.proofs.lemmas.Bool.{and_parts}
+use Rattle.std.proofs.lemmas.Bool.Decides.{Decides-int_eq}
+use Rattle.std.proofs.lemmas.Int.{ints}
+use Rattle.std.proofs.lemmas.List.Elements.{All-cons, All-nil, All-head, All-tail}
+use Rattle.std.specs.List.{All, AllByRecursion, list_all}
+use Rattle.std.specs.Ordering.{int_eq}
+use Rattle.definitions.proofs.Paths.{step}
+use Rattle.definitions.proofs.Typed.{generators_typed}
+use Rattle.definitions.specs.Category.{PreadditiveLaws}
+use Rattle.definitions.specs.Combination.{InRationalIdeal}
+use Rattle.definitions.specs.Poly.{Word, Term, word_eq, coefficient_of}
+use Rattle.definitions.specs.Quiver.{Quiver, IsQuiver, letters, leads, is_path, source}
+use Rattle.definitions.specs.Soundness.{HasSignature, HasValueZero, HasValueZeroAt}
+use Rattle.word_core.specs.Letters.{IsOver}
+use Rattle.word_orders.proofs.AskedOrders.{asked_rank, asked_cmp-admissible}
+use Rattle.word_orders.proofs.Orders.{over_range, range_over}
+use Rattle.word_orders.proofs.Over.{IsOver-append}
+use Rattle.word_orders.specs.Specified.{asked_cmp}
+use Rattle.rule_reduce.proofs.Numbers.{rule_at-all}
+use Rattle.rule_reduce.specs.RuleLists.{IsRule, polynomials_of}
+use Rattle.rule_reduce.specs.declared.rule.Rule.{Rule}
+use Rattle.quiver.proofs.Counts.{letters-quiver_of}
+use Rattle.quiver.specs.Declarations.{letter_count, quiver_of}
+use Rattle.adjoint_rules.proofs.Generators.{posed_quiver, marked_are_objects, assumptions_have_signatures}
+use Rattle.adjoint_rules.specs.Problem.{numbers, is_in_play, polynomials, generators_in}
+use Rattle.adjoint_rules.specs.declared.parts.Parts.{Parts}
+use Rattle.confluence.proofs.FreeRows.{Free, ideal_span, free_span}
+use Rattle.confluence.proofs.Led.{HasLed, led_at, led_of, led_at-is}
+use Rattle.confluence.proofs.LedRules.{led_is, leds_are, parted, is_lower, all_words_filtered}
+use Rattle.confluence.proofs.Resolve.{everything}
+use Rattle.confluence.proofs.Resolved.{all_resolved}
+use Rattle.confluence.proofs.Spans.{Span}
+use Rattle.confluence.proofs.SumRows.{comes_from_span}
+use Rattle.confluence.specs.Typed.{IsTypedInPlay}
+use Rattle.normal_forms.specs.Descents.{all_grounded}
+use Rattle.normal_forms.specs.NormalForms.{IsBasis, normal_forms, forms_representation}
+use Rattle.normal_forms.specs.SharpMeans.{SharpMeans}
 use Rattle.normal_forms.proofs.Rationals.{rationals}
 use Rattle.normal_forms.proofs.Congruence.{AnyRow}
 use Rattle.normal_forms.proofs.WordForms.{normal_form_is}

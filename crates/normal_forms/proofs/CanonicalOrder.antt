@@ -1,5 +1,13 @@
 -- The canonical order as one to list words by.
-use Rattle.normal_forms.proofs.Prelude.{◌≡◌, ◌⊎◌, inl, inr, true, refl, ap, ◌∙◌, is_lt, ordering_reverse, Ordering, Less, Equal, Greater, Word, word_cmp, word_cmp_total, word_cmp-itself, word_cmp-admissible, comes_before}
+use Rattle.std.proofs.Common.{◌≡◌, ◌⊎◌, inl, inr, true, refl, ap, ◌∙◌}
+use Rattle.std.specs.Ordering.{is_lt, ordering_reverse}
+use Rattle.std.specs.declared.cmp.Ordering.{Ordering}
+use Rattle.std.specs.declared.cmp.Ordering.TheVariants.{Less, Equal, Greater}
+use Rattle.definitions.specs.Poly.{Word}
+use Rattle.word_core.proofs.CanonicalLaws.{word_cmp-admissible}
+use Rattle.word_core.proofs.Order.{word_cmp-itself}
+use Rattle.word_core.specs.Canonical.{word_cmp, word_cmp_total}
+use Rattle.normal_forms.specs.Maps.{comes_before}
 use Rattle.normal_forms.proofs.Collect.{Sorting}
 
 pub from_test : (x : Ordering) → is_lt x ≡ true → x ≡ Less

@@ -1,5 +1,9 @@
 -- Sorted lists with no zero coefficient: how a list of terms is collected into one, and that the coefficients determine it.
-use Rattle.normal_forms.proofs.Prelude.{◌≡◌, refl, sym, ap, ap₂, subst, ◌∙◌, Bool, true, false, cond, [], ◌∷◌, ◌⊎◌, inl, inr, true≢false, false_from_ne_true, Form, put, insert_term, collected, Word, word_eq, word_eq-true, word_eq-same}
+use Rattle.std.proofs.Common.{◌≡◌, refl, sym, ap, ap₂, subst, ◌∙◌, Bool, true, false, cond, [], ◌∷◌, ◌⊎◌, inl, inr, true≢false}
+use Rattle.std.proofs.lemmas.Bool.{false_from_ne_true}
+use Rattle.definitions.proofs.Linear.{word_eq-true, word_eq-same}
+use Rattle.definitions.specs.Poly.{Word, word_eq}
+use Rattle.normal_forms.specs.Forms.{Form, put, insert_term, collected}
 use Rattle.normal_forms.proofs.Field.{Field, numbers_of}
 use Rattle.normal_forms.proofs.FieldLaws.{none_plus, times_one, plus_times, times_none, plus_swap}
 use Rattle.normal_forms.proofs.Forms.{Each, hit, look, Alike}

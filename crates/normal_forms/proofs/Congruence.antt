@@ -1,5 +1,15 @@
 -- Polynomials that differ by a sum of rows over the rules, with multipliers in the field.
-use Rattle.normal_forms.proofs.Prelude.{◌≡◌, inl, inr, ℕ, ◌<◌, ◌*◌, refl, sym, ap, ap₂, subst, ◌∙◌, Bool, true, false, cond, List, [], ◌∷◌, ◌++◌, append_assoc, arith, ℤ, pos, ◌+ℤ◌, ◌*ℤ◌, mul-pos, Word, Term, word_eq, coefficient_of, poly_between, map_words, word_eq-true, Coefs, Span, nothing, more, part, span_scale, Order, Rules, Row, Resolved, poly, zero_or_reducible, everything, Form, with_words}
+use Rattle.std.proofs.Common.{◌≡◌, inl, inr, ℕ, ◌<◌, ◌*◌, refl, sym, ap, ap₂, subst, ◌∙◌, Bool, true, false, cond, List, [], ◌∷◌, ◌++◌, append_assoc, arith, ℤ, pos, ◌+ℤ◌, ◌*ℤ◌}
+use Rattle.std.proofs.Math.Nat.{mul-pos}
+use Rattle.definitions.proofs.Linear.{word_eq-true}
+use Rattle.definitions.specs.Poly.{Word, Term, word_eq, coefficient_of, poly_between}
+use Rattle.word_orders.specs.Orders.{Order}
+use Rattle.confluence.proofs.Closed.{zero_or_reducible}
+use Rattle.confluence.proofs.Meets.{Rules, Row, Resolved, poly}
+use Rattle.confluence.proofs.Resolve.{everything}
+use Rattle.confluence.proofs.Spans.{Coefs, Span, nothing, more, part, span_scale}
+use Rattle.confluence.proofs.TermWords.{map_words}
+use Rattle.normal_forms.specs.Forms.{Form, with_words}
 use Rattle.normal_forms.proofs.Field.{Field}
 use Rattle.normal_forms.proofs.FieldLaws.{int_same, part_cancel, minus_plus, none_plus, times_one, times_none, minus_times, times_swap, int_none}
 use Rattle.normal_forms.proofs.Forms.{words-words, words-same, words-append, Each, hit, look, scaled, sum-append, Alike, alike-words, alike-append, alike-scaled, scaled-append, scaled-words}

@@ -1,7 +1,6 @@
 -- Objects U and V, a map x of V, and the rules [U] and x x - x: an overlap, a zero object, and an object that isn't marked.
-use Rattle.normal_forms.proofs.Prelude.{◌≡◌, ◌≢◌, ◌<◌, ◌+◌, ℕ, zero, suc, pos, negsuc, Bool, true, false, List, [], ◌∷◌, ◌++◌, length, Some, Ok, refl, sym, ap, ◌∙◌, subst, arith, ints, eq-one_of_dvd-one, length-append, All-nil, All-cons, AllPairs-cons, All, AllPairs, Term, IsArrow, IsPath, InRationalIdeal, Object, word_cmp, IsOver, IsAdmissible, rank_of, word_cmp-admissible, IsShaped, IsCanonical, Sig, Declaration, object, arrow, quiver_of, typed_from_paths, Rule, IsRule, rule_at, polynomials_of, AreInPlay, start_of, words_with_coefficients, Kind, Overlap, Inclusion, Ambiguity, MeetsAs, IsAmbiguity, s_polynomial_of, IsResolved, s_polynomials_balance, Parts, IsPosed, IsShape, IsSide, IsDeclaredMap, IsTypedOf, HasObjects, HasLettersInPlay, IsInPlay, is_in_play, generators_in, IsTypedInPlay, IsReduced, normal_forms_are_reduced, rests_of_ideal_are_zero, zero_rests_are_resolved, shaped_as_written, canonical_as_written, Fraction, NormalMap, IsBasis, normal_forms, SharpMeans}
+use Rattle.normal_forms.proofs.Prelude.{◌≡◌, ◌≢◌, ◌<◌, ◌+◌, ℕ, zero, suc, pos, negsuc, Bool, true, false, List, [], ◌∷◌, ◌++◌, length, Some, Ok, refl, sym, ap, ◌∙◌, subst, arith, ints, eq-one_of_dvd-one, length-append, All-nil, All-cons, AllPairs-cons, All, AllPairs, Term, IsArrow, IsPath, InRationalIdeal, Object, word_cmp, IsOver, IsAdmissible, rank_of, word_cmp-admissible, IsShaped, IsCanonical, Sig, Declaration, object, arrow, quiver_of, typed_from_paths, Rule, IsRule, rule_at, polynomials_of, AreInPlay, start_of, words_with_coefficients, Kind, Overlap, Inclusion, Ambiguity, MeetsAs, IsAmbiguity, s_polynomial_of, IsResolved, s_polynomials_balance, Parts, IsPosed, IsShape, IsSide, IsDeclaredMap, IsTypedOf, HasObjects, HasLettersInPlay, IsInPlay, is_in_play, generators_in, IsTypedInPlay, IsReduced, normal_forms_are_reduced, rests_of_ideal_are_zero, zero_rests_are_resolved, shaped_as_written, canonical_as_written, Fraction, NormalMap, IsBasis, normal_forms, SharpMeans, Resolved}
 use Rattle.word_orders.specs.declared.any.OrderSpec.TheVariants as asked
-use Rattle.ambiguities.specs.Resolved.{Resolved}
 use Rattle.normal_forms.proofs.Basis.{sharp_means}
 use Rattle.normal_forms.proofs.MapSums.{maps_are_finite_sums}
 

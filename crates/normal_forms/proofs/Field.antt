@@ -1,5 +1,6 @@
 -- Fields that the integers are in, each of whose numbers is an integer over a positive one.
-use Rattle.normal_forms.proofs.Prelude.{◌≡◌, ◌≢◌, ℕ, ◌<◌, ℤ, pos, ◌+ℤ◌, ◌*ℤ◌, Bool, true, false, Numbers}
+use Rattle.std.proofs.Common.{◌≡◌, ◌≢◌, ℕ, ◌<◌, ℤ, pos, ◌+ℤ◌, ◌*ℤ◌, Bool, true, false}
+use Rattle.normal_forms.specs.Numbers.{Numbers}
 
 pub record Field (K : Type 0) : Type 0 where
   pub none : K

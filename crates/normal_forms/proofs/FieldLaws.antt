@@ -1,5 +1,7 @@
 -- What follows from the laws of a field.
-use Rattle.normal_forms.proofs.Prelude.{◌≡◌, ℕ, ◌<◌, sym, ap, ap₂, ◌∙◌, ℤ, pos, ◌+ℤ◌, neg_ℤ, arith, ints, +ℤ_invr}
+use Rattle.std.proofs.Common.{◌≡◌, ℕ, ◌<◌, sym, ap, ap₂, ◌∙◌, ℤ, pos, ◌+ℤ◌, neg_ℤ, arith}
+use Rattle.std.proofs.Math.IntN.{+ℤ_invr}
+use Rattle.std.proofs.lemmas.Int.{ints}
 use Rattle.normal_forms.proofs.Field.{Field}
 
 module _ {K : Type 0} (k : Field K) where

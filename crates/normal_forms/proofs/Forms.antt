@@ -1,5 +1,12 @@
 -- Lists of with_words with coefficients in a field, and sums over their terms.
-use Rattle.normal_forms.proofs.Prelude.{◌≡◌, ℕ, ◌<◌, ◌≤◌, suc, refl, sym, ap, ap₂, subst, ◌∙◌, Bool, true, false, cond, List, [], ◌∷◌, ◌++◌, length, arith, AllByRecursion, all-append, each_weaker, Form, with_words, multiple_form, Word, word_eq, word_eq-true, word_eq-same, strong}
+use Rattle.std.proofs.Common.{◌≡◌, ℕ, ◌<◌, ◌≤◌, suc, refl, sym, ap, ap₂, subst, ◌∙◌, Bool, true, false, cond, List, [], ◌∷◌, ◌++◌, length, arith}
+use Rattle.std.specs.List.{AllByRecursion}
+use Rattle.definitions.proofs.Linear.{word_eq-true, word_eq-same}
+use Rattle.definitions.proofs.UnitSound.{all-append}
+use Rattle.definitions.specs.Poly.{Word, word_eq}
+use Rattle.confluence.proofs.Inside.{strong}
+use Rattle.confluence.proofs.TermWords.{each_weaker}
+use Rattle.normal_forms.specs.Forms.{Form, with_words, multiple_form}
 use Rattle.normal_forms.proofs.Field.{Field, numbers_of}
 use Rattle.normal_forms.proofs.FieldLaws.{none_plus, times_one, plus_times, plus_cancel, times_none, none_times, minus_one, plus_swap, equal_from_rest}
 

@@ -1,5 +1,11 @@
 -- Numbers written in another way: what is made of them is written in that way too.
-use Rattle.normal_forms.proofs.Prelude.{◌≡◌, ℕ, ◌+◌, ℤ, Bool, true, false, cond, List, [], ◌∷◌, ◌++◌, length, take, drop, Option, Some, None, refl, ap, ap₂, ◌∙◌, subst, unsigned_abs, Word, Term, word_eq, Rule, Numbers, Form, with_words, multiple_form, product_form, put, insert_term, collected, IsGrounded, grounded, first_rule, other_terms, form_where, lower_forms, form_by, word_form, rational_normal_form}
+use Rattle.std.proofs.Common.{◌≡◌, ℕ, ◌+◌, ℤ, Bool, true, false, cond, List, [], ◌∷◌, ◌++◌, length, take, drop, Option, Some, None, refl, ap, ap₂, ◌∙◌, subst}
+use Rattle.std.specs.Int.RustNames.{unsigned_abs}
+use Rattle.definitions.specs.Poly.{Word, Term, word_eq}
+use Rattle.rule_reduce.specs.declared.rule.Rule.{Rule}
+use Rattle.normal_forms.specs.Forms.{Form, with_words, multiple_form, product_form, put, insert_term, collected}
+use Rattle.normal_forms.specs.Numbers.{Numbers}
+use Rattle.normal_forms.specs.RationalForms.{IsGrounded, grounded, first_rule, other_terms, form_where, lower_forms, form_by, word_form, rational_normal_form}
 
 -- the operations go along
 pub record IsHomomorphism {K L : Type 0} (k : Numbers K) (m : Numbers L) (h : K → L) : Type 0 where

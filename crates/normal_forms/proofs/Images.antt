@@ -1,5 +1,10 @@
 -- A category that is written in another way keeps its laws, its representations and their values.
-use Rattle.normal_forms.proofs.Prelude.{◌≡◌, ℕ, zero, suc, ℤ, pos, negsuc, refl, sym, ap, ap₂, subst, ◌∙◌, Bool, true, false, cond, List, [], ◌∷◌, Poly, Structure, IsArrow, PreadditiveLaws, Quiver, source, target, is_path, HasValueZero, HasValueZeroAt, Representation, Represents, Cancels, natural_multiple, multiple, path_value, word_value, value_at}
+use Rattle.std.proofs.Common.{◌≡◌, ℕ, zero, suc, ℤ, pos, negsuc, refl, sym, ap, ap₂, subst, ◌∙◌, Bool, true, false, cond, List, [], ◌∷◌}
+use Rattle.definitions.specs.Category.{Structure, IsArrow, PreadditiveLaws}
+use Rattle.definitions.specs.Poly.{Poly}
+use Rattle.definitions.specs.Quiver.{Quiver, source, target, is_path}
+use Rattle.definitions.specs.Representation.{Representation, Represents, Cancels, natural_multiple, multiple, path_value, word_value, value_at}
+use Rattle.definitions.specs.Soundness.{HasValueZero, HasValueZeroAt}
 
 -- The laws of a structure hold where they follow from a premise that each of its objects and arrows gives.
 pub laws_from_premise : {Object Arrow : Type 0} {c : Structure Object Arrow} (P : Type 0) → ((x : Object) → c.is_object x → P)

@@ -1,5 +1,10 @@
 -- Normal forms of polynomials with coefficients in a field.
-use Rattle.normal_forms.proofs.Prelude.{◌≡◌, ℕ, refl, sym, ap, ap₂, subst, ◌∙◌, List, [], ◌∷◌, ◌++◌, append_assoc, pos, Word, Term, AllWords, Order, Rules, Form, with_words}
+use Rattle.std.proofs.Common.{◌≡◌, ℕ, refl, sym, ap, ap₂, subst, ◌∙◌, List, [], ◌∷◌, ◌++◌, append_assoc, pos}
+use Rattle.definitions.specs.Poly.{Word, Term}
+use Rattle.word_orders.specs.Orders.{Order}
+use Rattle.confluence.proofs.Meets.{Rules}
+use Rattle.confluence.proofs.TermWords.{AllWords}
+use Rattle.normal_forms.specs.Forms.{Form, with_words}
 use Rattle.normal_forms.proofs.Field.{Field}
 use Rattle.normal_forms.proofs.FieldLaws.{times_one, minus_times, times_minus}
 use Rattle.normal_forms.proofs.Forms.{scaled, scaled-append, scaled-words, Each, each-append, hit, sum-append, Alike}

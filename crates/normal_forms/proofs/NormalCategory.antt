@@ -1,5 +1,19 @@
 -- The category of typed normal forms.
-use Rattle.normal_forms.proofs.Prelude.{◌≡◌, ℕ, ◌<◌, refl, sym, ap, ap₂, subst, ◌∙◌, Bool, true, false, cond, List, [], ◌∷◌, ◌++◌, append_assoc, append-nil, true≢false, eqb, ltb, eq-eqb, eqb-true, lt-ltb, ◌&&◌, and_from, IsTrue, AllByRecursion, Quiver, IsQuiver, letters, source, target, leads, is_path, Structure, IsArrow, PreadditiveLaws, leads-append, fits_from_path, path_from_fits, Step, step, all-append, Form, NormalMap, LeadsInPlay, structure_of, Word, Term, AllWords, Order, everything, Rules, Resolved}
+use Rattle.std.proofs.Common.{◌≡◌, ℕ, ◌<◌, refl, sym, ap, ap₂, subst, ◌∙◌, Bool, true, false, cond, List, [], ◌∷◌, ◌++◌, append_assoc, append-nil, true≢false, eqb, ltb, eq-eqb, eqb-true, lt-ltb, ◌&&◌}
+use Rattle.std.proofs.lemmas.Bool.{and_from}
+use Rattle.std.specs.List.{AllByRecursion}
+use Rattle.std.specs.Prelude.{IsTrue}
+use Rattle.definitions.proofs.Paths.{leads-append, fits_from_path, path_from_fits, Step, step}
+use Rattle.definitions.proofs.UnitSound.{all-append}
+use Rattle.definitions.specs.Category.{Structure, IsArrow, PreadditiveLaws}
+use Rattle.definitions.specs.Poly.{Word, Term}
+use Rattle.definitions.specs.Quiver.{Quiver, IsQuiver, letters, source, target, leads, is_path}
+use Rattle.word_orders.specs.Orders.{Order}
+use Rattle.confluence.proofs.Meets.{Rules, Resolved}
+use Rattle.confluence.proofs.Resolve.{everything}
+use Rattle.confluence.proofs.TermWords.{AllWords}
+use Rattle.normal_forms.specs.Forms.{Form}
+use Rattle.normal_forms.specs.Maps.{NormalMap, LeadsInPlay, structure_of}
 use Rattle.normal_forms.proofs.Field.{Field, numbers_of}
 use Rattle.confluence.proofs.Meets.{Parted as Rule}
 use Rattle.normal_forms.proofs.FieldLaws.{times_one, minus_one}

@@ -1,5 +1,32 @@
 -- The category of normal forms, written with plain fractions.
-use Rattle.normal_forms.proofs.Prelude.{◌≡◌, ℕ, Bool, true, false, cond, List, [], ◌∷◌, ◌++◌, slice_get, Some, suc, refl, sym, ap, ap₂, ◌∙◌, All, AllByRecursion, nat_lt, All-nil, All-cons, Word, Structure, Quiver, source, target, OccursNowhere, IsAdmissible, Order, order_from_laws, asked_cmp, asked_rank, asked_cmp-admissible, letter_count, quiver_of, Rule, IsRule, is_below, Parts, numbers, is_in_play, led_at-is, ordered, Rules, Fraction, is_zero, fractions, Form, multiple_form, product_form, collected, rational_normal_form, all_grounded, NormalMap, comes_before, LeadsInPlay, IsAscending, word_map, identity_map, zero_map, IsNonzero, IsBasis, is_marked_in, IsNormalMap, normal_form, normal_forms, forms_representation}
+use Rattle.std.proofs.Common.{◌≡◌, ℕ, Bool, true, false, cond, List, [], ◌∷◌, ◌++◌, slice_get, Some, suc, refl, sym, ap, ap₂, ◌∙◌}
+use Rattle.std.proofs.lemmas.List.Elements.{All-nil, All-cons}
+use Rattle.std.specs.List.{All, AllByRecursion}
+use Rattle.std.specs.Prelude.{nat_lt}
+use Rattle.definitions.specs.Category.{Structure}
+use Rattle.definitions.specs.Poly.{Word}
+use Rattle.definitions.specs.Quiver.{Quiver, source, target}
+use Rattle.word_core.specs.Occurrence.{OccursNowhere}
+use Rattle.word_orders.proofs.AskedOrders.{asked_rank, asked_cmp-admissible}
+use Rattle.word_orders.proofs.Orders.{order_from_laws}
+use Rattle.word_orders.specs.Admissible.{IsAdmissible}
+use Rattle.word_orders.specs.Orders.{Order}
+use Rattle.word_orders.specs.Specified.{asked_cmp}
+use Rattle.rule_reduce.specs.RuleLists.{IsRule}
+use Rattle.rule_reduce.specs.declared.rule.Rule.{Rule}
+use Rattle.ambiguities.specs.Resolved.{is_below}
+use Rattle.quiver.specs.Declarations.{letter_count, quiver_of}
+use Rattle.adjoint_rules.specs.Problem.{numbers, is_in_play}
+use Rattle.adjoint_rules.specs.declared.parts.Parts.{Parts}
+use Rattle.confluence.proofs.Led.{led_at-is}
+use Rattle.confluence.proofs.LedRules.{ordered}
+use Rattle.confluence.proofs.Meets.{Rules}
+use Rattle.normal_forms.specs.Descents.{all_grounded}
+use Rattle.normal_forms.specs.Forms.{Form, multiple_form, product_form, collected}
+use Rattle.normal_forms.specs.Fractions.{Fraction, is_zero, fractions}
+use Rattle.normal_forms.specs.Maps.{NormalMap, comes_before, LeadsInPlay, IsAscending, word_map, identity_map, zero_map}
+use Rattle.normal_forms.specs.NormalForms.{IsNonzero, IsBasis, is_marked_in, IsNormalMap, normal_form, normal_forms, forms_representation}
+use Rattle.normal_forms.specs.RationalForms.{rational_normal_form}
 use Rattle.normal_forms.proofs.Field.{numbers_of}
 use Rattle.normal_forms.proofs.Homomorphisms.{mapped, mapped-append, mapped-multiple, mapped-product, mapped-collected, mapped-normal}
 use Rattle.normal_forms.proofs.Rationals.{Rational, rationals, none_test, raw, raw_is_homomorphism, read, read_raw, raw_read}

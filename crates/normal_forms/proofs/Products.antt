@@ -1,5 +1,9 @@
 -- Products of polynomials with coefficients in a field, and congruent factors.
-use Rattle.normal_forms.proofs.Prelude.{◌≡◌, refl, sym, ap, ap₂, ◌∙◌, [], ◌∷◌, ◌++◌, append_assoc, append-nil, Word, Order, Rules, Form, with_words, product_form}
+use Rattle.std.proofs.Common.{◌≡◌, refl, sym, ap, ap₂, ◌∙◌, [], ◌∷◌, ◌++◌, append_assoc, append-nil}
+use Rattle.definitions.specs.Poly.{Word}
+use Rattle.word_orders.specs.Orders.{Order}
+use Rattle.confluence.proofs.Meets.{Rules}
+use Rattle.normal_forms.specs.Forms.{Form, with_words, product_form}
 use Rattle.normal_forms.proofs.Field.{Field, numbers_of}
 use Rattle.normal_forms.proofs.FieldLaws.{middle}
 use Rattle.normal_forms.proofs.Forms.{words-append, words-words, words-same, Each, each-append, hit, look, scaled, Alike, scaled-append, scaled-words}

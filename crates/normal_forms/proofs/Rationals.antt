@@ -1,5 +1,18 @@
 -- Fractions in lowest terms.
-use Rattle.normal_forms.proofs.Prelude.{◌≡◌, ◌≢◌, ℕ, ◌*◌, ◌/◌, ◌<◌, zero, suc, refl, arith, subst, sym, ap, ap₂, ◌∙◌, ℤ, pos, negsuc, ◌+ℤ◌, ◌*ℤ◌, neg_ℤ, true, false, ints, IsGcd, unsigned_abs, dvd_antisymm, same_from_IsGcd, mul-one, mul_comm, mul_assoc, dvd-mul_left, eq-one_of_dvd-one, mul-div_cancel', eq-zero_of_zero-dvd, ℕ_set, dvd_of_mul-dvd-mul_left, mul-dvd-mul_left, le_prop, *ℤ_comm, zero-*ℤ, +ℤ_idr, +ℤ_invr, +ℤ-*ℤ, *ℤ-+ℤ, *ℤ_assoc, *ℤ-neg_ℤ, gcd_of, gcd_of-IsGcd, gcd_of-scaled, Fraction, IsLowest, is_zero, quotient, fraction_over, fraction_sum, fraction_product, fraction_negative, whole, part_of, fractions, neg_ℤ-*ℤ, *ℤ_cancel, mul_swap}
+use Rattle.std.proofs.Common.{◌≡◌, ◌≢◌, ℕ, ◌*◌, ◌/◌, ◌<◌, zero, suc, refl, arith, subst, sym, ap, ap₂, ◌∙◌, ℤ, pos, negsuc, ◌+ℤ◌, ◌*ℤ◌, neg_ℤ, true, false}
+use Rattle.std.proofs.Math.Bridge.{le_prop}
+use Rattle.std.proofs.Math.IntN.{*ℤ_comm, zero-*ℤ, +ℤ_idr, +ℤ_invr}
+use Rattle.std.proofs.Math.Nat.{mul-one, mul_comm, mul_assoc, dvd-mul_left, eq-one_of_dvd-one, mul-div_cancel', eq-zero_of_zero-dvd, ℕ_set, dvd_of_mul-dvd-mul_left, mul-dvd-mul_left}
+use Rattle.std.proofs.lemmas.Int.{ints}
+use Rattle.std.proofs.lemmas.Nat.Gcd.{dvd_antisymm, same_from_IsGcd}
+use Rattle.std.specs.Int.{IsGcd}
+use Rattle.std.specs.Int.RustNames.{unsigned_abs}
+use Rattle.definitions.proofs.Integers.{+ℤ-*ℤ, *ℤ-+ℤ, *ℤ_assoc, *ℤ-neg_ℤ}
+use Rattle.coef_int.proofs.Divisors.{gcd_of-IsGcd, gcd_of-scaled}
+use Rattle.coef_int.specs.Divisor.{gcd_of}
+use Rattle.confluence.proofs.Integers.{neg_ℤ-*ℤ, *ℤ_cancel}
+use Rattle.confluence.proofs.Spans.{mul_swap}
+use Rattle.normal_forms.specs.Fractions.{Fraction, IsLowest, is_zero, quotient, over as fraction_over, fraction_sum, fraction_product, fraction_negative, whole, part_of, fractions}
 use Prim.Native.Nat.{◌∣◌}
 use Rattle.normal_forms.proofs.Field.{Field, numbers_of}
 use Rattle.normal_forms.proofs.Homomorphisms.{IsHomomorphism}

@@ -1,5 +1,20 @@
 -- The representation by normal forms: each d cancels, what the rules generate is zero, and nothing else is.
-use Rattle.normal_forms.proofs.Prelude.{◌≡◌, ℕ, ◌<◌, zero, suc, refl, sym, ap, ap₂, subst, ◌∙◌, Bool, true, false, cond, List, [], ◌∷◌, ◌++◌, ℤ, pos, negsuc, ◌*ℤ◌, true≢false, ltb, eqb-true, lt-ltb, ltb-true, arith, ints, ℤ_discrete, AllByRecursion, coefficient_of, Word, Term, letters, source, target, is_path, IsTyped, Structure, IsArrow, Representation, Represents, Cancels, natural_multiple, multiple, path_value, word_value, value_at, HasValueZero, HasValueZeroAt, step, Step, NormalMap, letter_map, filtered, coefficient_of-filtered, Coefs, Span, nothing, more, part, Order, Rules, Form}
+use Rattle.std.proofs.Common.{◌≡◌, ℕ, ◌<◌, zero, suc, refl, sym, ap, ap₂, subst, ◌∙◌, Bool, true, false, cond, List, [], ◌∷◌, ◌++◌, ℤ, pos, negsuc, ◌*ℤ◌, true≢false, ltb, eqb-true, lt-ltb, ltb-true, arith}
+use Rattle.std.proofs.Math.IntN.{ℤ_discrete}
+use Rattle.std.proofs.lemmas.Int.{ints}
+use Rattle.std.specs.List.{AllByRecursion}
+use Rattle.definitions.proofs.Paths.{step, Step}
+use Rattle.definitions.specs.Category.{Structure, IsArrow}
+use Rattle.definitions.specs.Poly.{coefficient_of, Word, Term}
+use Rattle.definitions.specs.Quiver.{letters, source, target, is_path, IsTyped}
+use Rattle.definitions.specs.Representation.{Representation, Represents, Cancels, natural_multiple, multiple, path_value, word_value, value_at}
+use Rattle.definitions.specs.Soundness.{HasValueZero, HasValueZeroAt}
+use Rattle.word_orders.specs.Orders.{Order}
+use Rattle.confluence.proofs.LedRules.{filtered, coefficient_of-filtered}
+use Rattle.confluence.proofs.Meets.{Rules}
+use Rattle.confluence.proofs.Spans.{Coefs, Span, nothing, more, part}
+use Rattle.normal_forms.specs.Forms.{Form}
+use Rattle.normal_forms.specs.Maps.{NormalMap, letter_map}
 use Rattle.normal_forms.proofs.Field.{Field, numbers_of}
 use Rattle.normal_forms.proofs.FieldLaws.{minus_plus, none_plus, minus_one, none_times, plus_times, minus_unique, minus_times, int_none, int_cancel}
 use Rattle.normal_forms.proofs.Forms.{Each, hit, look, scaled, sum-scaled, Alike}

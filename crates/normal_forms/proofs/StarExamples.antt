@@ -1,8 +1,7 @@
 -- An object U, a map a of U, the rule a, and a starred statement that assumes nothing: the normal forms tell a' from zero, but have no involution,
 -- since a goes to zero. Both ways they have one.
-use Rattle.normal_forms.proofs.Prelude.{◌≡◌, ◌<◌, ℕ, zero, suc, pos, Bool, true, false, List, [], ◌∷◌, length, Some, refl, sym, ap, ◌∙◌, arith, ints, length-append, All-nil, AllPairs-cons, All, AllByRecursion, Term, InvolutionLaws, IsPath, StarRepresents, InRationalIdeal, HasSignature, HasValueZero, star_sound, Object, word_cmp, IsOver, word_cmp-admissible, IsAdmissible, rank_of, Declaration, object, arrow, quiver_of, typed_from_paths, Rule, IsRule, rule_at, polynomials_of, AreInPlay, start_of, words_with_coefficients, Kind, Overlap, Inclusion, Ambiguity, MeetsAs, IsAmbiguity, Parts, IsPosed, IsShape, IsSide, IsDeclaredMap, IsTypedOf, HasObjects, HasLettersInPlay, IsInPlay, is_in_play, posed_quiver, IsTypedInPlay, IsReduced, normal_forms_are_reduced, rests_of_ideal_are_zero, shaped_as_written, Fraction, NormalMap, IsBasis, normal_forms, forms_representation, SharpMeans, StarSharpMeans, AllPairs}
+use Rattle.normal_forms.proofs.Prelude.{◌≡◌, ◌<◌, ℕ, zero, suc, pos, Bool, true, false, List, [], ◌∷◌, length, Some, refl, sym, ap, ◌∙◌, arith, ints, length-append, All-nil, AllPairs-cons, All, AllByRecursion, Term, InvolutionLaws, IsPath, StarRepresents, InRationalIdeal, HasSignature, HasValueZero, star_sound, Object, word_cmp, IsOver, word_cmp-admissible, IsAdmissible, rank_of, Declaration, object, arrow, quiver_of, typed_from_paths, Rule, IsRule, rule_at, polynomials_of, AreInPlay, start_of, words_with_coefficients, Kind, Overlap, Inclusion, Ambiguity, MeetsAs, IsAmbiguity, Parts, IsPosed, IsShape, IsSide, IsDeclaredMap, IsTypedOf, HasObjects, HasLettersInPlay, IsInPlay, is_in_play, posed_quiver, IsTypedInPlay, IsReduced, normal_forms_are_reduced, rests_of_ideal_are_zero, shaped_as_written, Fraction, NormalMap, IsBasis, normal_forms, forms_representation, SharpMeans, StarSharpMeans, AllPairs, Resolved}
 use Rattle.word_orders.specs.declared.any.OrderSpec.TheVariants as asked
-use Rattle.ambiguities.specs.Resolved.{Resolved}
 use Rattle.normal_forms.proofs.Basis.{basis_laws, inside_is_zero, sharp_means}
 use Rattle.normal_forms.proofs.StarSharp.{star_sharp_means}
 use Rattle.normal_forms.proofs.Examples.{one_term, at_object, all_pairs_one, alone, Differs, names_differ}

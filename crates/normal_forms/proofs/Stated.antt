@@ -1,5 +1,16 @@
 -- What a statement and its rules have to meet, and that the laws follow.
-use Rattle.normal_forms.proofs.Prelude.{◌≡◌, ℕ, ◌<◌, ◌≤◌, refl, sym, ap, subst, ◌∙◌, Bool, true, false, ◌||◌, cond, List, [], ◌∷◌, ◌++◌, ◌⊎◌, inl, inr, true≢false, ltb, lt-ltb, ltb-true, arith, and_parts, and_from, cases_lt, ◌&&◌, nat_eq, nat_lt, nat_le, if◌then◌else◌, AllByRecursion, list_any, Quiver, IsQuiver, letters, source, target, star, generators_of, left_unit, right_unit, Word, Term, coefficient_of, Span, Order, Rules, Resolved, everything, Form}
+use Rattle.std.proofs.Common.{◌≡◌, ℕ, ◌<◌, ◌≤◌, refl, sym, ap, subst, ◌∙◌, Bool, true, false, ◌||◌, cond, List, [], ◌∷◌, ◌++◌, ◌⊎◌, inl, inr, true≢false, ltb, lt-ltb, ltb-true, arith, ◌&&◌}
+use Rattle.std.proofs.lemmas.Bool.{and_parts, and_from, cases_lt}
+use Rattle.std.specs.List.{AllByRecursion, list_any}
+use Rattle.std.specs.Prelude.{nat_eq, nat_lt, nat_le, if◌then◌else◌}
+use Rattle.definitions.specs.Generators.{generators_of, left_unit, right_unit}
+use Rattle.definitions.specs.Poly.{Word, Term, coefficient_of}
+use Rattle.definitions.specs.Quiver.{Quiver, IsQuiver, letters, source, target, star}
+use Rattle.word_orders.specs.Orders.{Order}
+use Rattle.confluence.proofs.Meets.{Rules, Resolved}
+use Rattle.confluence.proofs.Resolve.{everything}
+use Rattle.confluence.proofs.Spans.{Span}
+use Rattle.normal_forms.specs.Forms.{Form}
 use Rattle.normal_forms.proofs.Field.{Field}
 use Rattle.normal_forms.proofs.Forms.{Each}
 use Rattle.normal_forms.proofs.Collect.{Sorting}

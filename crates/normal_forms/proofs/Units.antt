@@ -1,5 +1,15 @@
 -- The relations of the identities, among the generators_of of a statement.
-use Rattle.normal_forms.proofs.Prelude.{◌≡◌, ◌≢◌, ℕ, ◌+◌, ◌-◌, ◌<◌, ◌≤◌, zero, suc, refl, sym, ap, ap₂, subst, ◌∙◌, Bool, true, false, ◌||◌, cond, List, [], ◌∷◌, ◌++◌, ℤ, pos, negsuc, ◌⊎◌, inl, inr, true≢false, eqb, eq-eqb, eqb-true, arith, or_cases, nat_eq, nat_le, AllByRecursion, flat_map, list_any, range_with_len, Quiver, letters, source, target, star, generators_of, units, letter_units, left_unit, right_unit, new_adjoint, Word, coefficient_of, Span, Order, Rules, Form}
+use Rattle.std.proofs.Common.{◌≡◌, ◌≢◌, ℕ, ◌+◌, ◌-◌, ◌<◌, ◌≤◌, zero, suc, refl, sym, ap, ap₂, subst, ◌∙◌, Bool, true, false, ◌||◌, cond, List, [], ◌∷◌, ◌++◌, ℤ, pos, negsuc, ◌⊎◌, inl, inr, true≢false, eqb, eq-eqb, eqb-true, arith}
+use Rattle.std.proofs.lemmas.Bool.{or_cases}
+use Rattle.std.specs.List.{AllByRecursion, flat_map, list_any, range_with_len}
+use Rattle.std.specs.Prelude.{nat_eq, nat_le}
+use Rattle.definitions.specs.Generators.{generators_of, units, letter_units, left_unit, right_unit, new_adjoint}
+use Rattle.definitions.specs.Poly.{Word, coefficient_of}
+use Rattle.definitions.specs.Quiver.{Quiver, letters, source, target, star}
+use Rattle.word_orders.specs.Orders.{Order}
+use Rattle.confluence.proofs.Meets.{Rules}
+use Rattle.confluence.proofs.Spans.{Span}
+use Rattle.normal_forms.specs.Forms.{Form}
 use Rattle.normal_forms.proofs.Field.{Field}
 use Rattle.normal_forms.proofs.FieldLaws.{minus_one, minus_unique, int_none}
 use Rattle.normal_forms.proofs.Forms.{all_front, all_back, hit, look}

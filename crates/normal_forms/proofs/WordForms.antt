@@ -1,5 +1,32 @@
 -- The rational normal form of a sum of words is a normal form by the rules.
-use Rattle.normal_forms.proofs.Prelude.{◌≡◌, ◌≢◌, ℕ, zero, ℤ, suc, ◌+◌, pos, Bool, true, false, not, ◌&&◌, cond, List, [], ◌∷◌, ◌++◌, length, take, drop, filter, Option, Some, None, MatchOption, refl, sym, ap, ap₂, ◌∙◌, subst, append-nil, false_from_ne_true, Decides-int_eq, All-nil, All-cons, All-head, All-tail, All, unsigned_abs, int_eq, Word, Term, word_eq, coefficient_of, IsFirstPlace, OccursNowhere, Compare, IsAdmissible, Order, order_from_laws, over_range, less_below, AreDistinct, distinct-descending, words_listed, recursion_from_IsDescending, place_in, place_in-tells, Rule, IsRule, rule_at, rule_at-all, split_at, is_below, AllWords, below_from_test, test_from_below, Led, HasLed, led_at, led_of, led_at-is, ordered, filtered, is_lower, parted, Rules, Form, with_words, IsGrounded, grounded, rule_or, first_rule, other_terms, form_where, lower_forms, form_by, word_form, rational_normal_form}
+use Rattle.std.proofs.Common.{◌≡◌, ◌≢◌, ℕ, zero, ℤ, suc, ◌+◌, pos, Bool, true, false, not, ◌&&◌, cond, List, [], ◌∷◌, ◌++◌, length, take, drop, filter, Option, Some, None, MatchOption, refl, sym, ap, ap₂, ◌∙◌, subst, append-nil}
+use Rattle.std.proofs.lemmas.Bool.{false_from_ne_true}
+use Rattle.std.proofs.lemmas.Bool.Decides.{Decides-int_eq}
+use Rattle.std.proofs.lemmas.List.Elements.{All-nil, All-cons, All-head, All-tail}
+use Rattle.std.specs.Int.RustNames.{unsigned_abs}
+use Rattle.std.specs.List.{All}
+use Rattle.std.specs.Ordering.{int_eq}
+use Rattle.definitions.specs.Poly.{Word, Term, word_eq, coefficient_of}
+use Rattle.word_core.specs.Occurrence.{IsFirstPlace, OccursNowhere}
+use Rattle.nc_polynomial.proofs.Distinct.{AreDistinct, distinct-descending, words_listed}
+use Rattle.nc_polynomial.proofs.Shapes.{recursion_from_IsDescending}
+use Rattle.word_orders.proofs.Orders.{order_from_laws, over_range, less_below}
+use Rattle.word_orders.specs.Admissible.{Compare, IsAdmissible}
+use Rattle.word_orders.specs.Orders.{Order}
+use Rattle.rule_index.proofs.PlacesOfWords.{place_in-tells}
+use Rattle.rule_index.specs.Matches.{place_in}
+use Rattle.rule_reduce.proofs.Numbers.{rule_at-all}
+use Rattle.rule_reduce.proofs.WordsKept.{split_at}
+use Rattle.rule_reduce.specs.RuleLists.{IsRule, rule_at}
+use Rattle.rule_reduce.specs.declared.rule.Rule.{Rule}
+use Rattle.ambiguities.specs.Resolved.{is_below}
+use Rattle.confluence.proofs.Led.{Led, HasLed, led_at, led_of, led_at-is}
+use Rattle.confluence.proofs.LedRules.{ordered, filtered, is_lower, parted}
+use Rattle.confluence.proofs.Meets.{Rules}
+use Rattle.confluence.proofs.TermWords.{AllWords}
+use Rattle.confluence.proofs.Tests.{below_from_test, test_from_below}
+use Rattle.normal_forms.specs.Forms.{Form, with_words}
+use Rattle.normal_forms.specs.RationalForms.{IsGrounded, grounded, rule_or, first_rule, other_terms, form_where, lower_forms, form_by, word_form, rational_normal_form}
 use Rattle.normal_forms.proofs.Field.{Field, numbers_of}
 use Rattle.normal_forms.proofs.FieldLaws.{times_one, minus_times}
 use Rattle.normal_forms.proofs.Forms.{Each, scaled}

@@ -1,5 +1,9 @@
 -- How long the tables of the declarations are.
-use Rattle.quiver.proofs.Prelude.{◌≡◌, ℕ, ◌+◌, ◌*◌, ◌≤◌, true, false, List, [], ◌∷◌, ◌++◌, length, refl, ◌∙◌, arith, flat_map, letters, Declaration, object, arrow, objects_of, letters_of, object_count, map_count, letter_count, turns_from, objects_made, letters_made, object_table, letter_table, quiver_of, length-map}
+use Rattle.std.proofs.Common.{◌≡◌, ℕ, ◌+◌, ◌*◌, ◌≤◌, true, false, List, [], ◌∷◌, ◌++◌, length, refl, ◌∙◌, arith}
+use Rattle.std.proofs.lemmas.List.{length-map}
+use Rattle.std.specs.List.{flat_map}
+use Rattle.definitions.specs.Quiver.{letters}
+use Rattle.quiver.specs.Declarations.{Declaration, object, arrow, objects_of, letters_of, object_count, map_count, letter_count, turns_from, objects_made, letters_made, object_table, letter_table, quiver_of}
 
 length-turns_from : (p v a : ℕ) (ds : List Declaration) → length (turns_from p v a ds) ≡ length ds
 length-turns_from p v a [] = refl

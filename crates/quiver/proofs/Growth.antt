@@ -1,5 +1,12 @@
 -- The tables after one declaration more, and the declarations that the tables give back.
-use Rattle.quiver.proofs.Prelude.{◌≡◌, ℕ, ◌+◌, true, false, nat_eq, List, [], ◌∷◌, ◌++◌, length, map, sym, refl, ap, ap₂, ◌∙◌, arith, eq-eqb, Bool, rules, flat_map, flat_map-append, map-append, append-nil, append_assoc, length-append, get_or-append_seam, Declaration, object, arrow, name_of, objects_of, letters_of, object_count, letter_count, Turn, turns_from, turns, named_by, objects_made, letters_made, ObjectEntry, LetterEntry, object_table, letter_table, naming_table, Named, letter_in, declarations_by}
+use Rattle.std.proofs.Common.{◌≡◌, ℕ, ◌+◌, true, false, nat_eq, List, [], ◌∷◌, ◌++◌, length, map, sym, refl, ap, ap₂, ◌∙◌, arith, eq-eqb, Bool, rules}
+use Rattle.std.proofs.Math.Seq.{get_or-append_seam}
+use Rattle.std.proofs.lemmas.Grind.{flat_map-append}
+use Rattle.std.proofs.lemmas.List.{map-append, append-nil, append_assoc, length-append}
+use Rattle.std.specs.List.{flat_map}
+use Rattle.quiver.specs.Declarations.{Declaration, object, arrow, name_of, objects_of, letters_of, object_count, letter_count, Turn, turns_from, turns, named_by, objects_made, letters_made, ObjectEntry, LetterEntry, object_table, letter_table, naming_table}
+use Rattle.quiver.specs.Tables.{letter_in, declarations_by}
+use Rattle.quiver.specs.declared.named.Named.{Named}
 
 -- the turn of a declaration at these numbers
 abbrev pub turn : Declaration → ℕ → ℕ → ℕ → Turn

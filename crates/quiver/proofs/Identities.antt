@@ -1,5 +1,10 @@
 -- The identities of the objects, and the quiver that is declared where the objects come first.
-use Rattle.quiver.proofs.Prelude.{◌≡◌, ℕ, zero, suc, ◌+◌, ◌<◌, true, List, [], ◌∷◌, ◌++◌, length, get_or, sym, refl, ap, subst, ◌∙◌, arith, append_assoc, length-map, list_all, IsQuiver, letters, star, Declaration, object, arrow, letters_of, object_count, letter_count, ObjectEntry, LetterEntry, letter_table, no_object, letter_at, quiver_of, is_arrow, objects_first, ObjectsFirst, identity_in, IsDeclared, letter_in}
+use Rattle.std.proofs.Common.{◌≡◌, ℕ, zero, suc, ◌+◌, ◌<◌, true, List, [], ◌∷◌, ◌++◌, length, get_or, sym, refl, ap, subst, ◌∙◌, arith}
+use Rattle.std.proofs.lemmas.List.{append_assoc, length-map}
+use Rattle.std.specs.List.{list_all}
+use Rattle.definitions.specs.Quiver.{IsQuiver, letters, star}
+use Rattle.quiver.specs.Declarations.{Declaration, object, arrow, letters_of, object_count, letter_count, ObjectEntry, LetterEntry, letter_table, no_object, letter_at, quiver_of, is_arrow, objects_first, ObjectsFirst, identity_in, IsDeclared}
+use Rattle.quiver.specs.Tables.{letter_in}
 use Rattle.quiver.proofs.Counts.{letters-quiver_of}
 use Rattle.quiver.proofs.Growth.{objects_from, letters_from, letter_in_seam, longer}
 use Rattle.quiver.proofs.Letters.{IsLetter, letter_is, in_range_from_table, source-quiver_of, target-quiver_of, star-quiver_of}

@@ -1,5 +1,13 @@
 -- What the declarations of a quiver say of each letter, and that they declare a quiver.
-use Rattle.quiver.proofs.Prelude.{◌≡◌, ℕ, ◌+◌, ◌<◌, ◌≤◌, Bool, true, false, nat_eq, nat_lt, ◌&&◌, ◌||◌, not, List, [], ◌∷◌, ◌++◌, length, sym, refl, ap, subst, ◌∙◌, arith, ltb-true, eqb-true, ⊎_elim, and_parts, append_assoc, get_or-map, get_or-map_default, eq-or-lt_of_le, list_all, source, target, star, Declaration, object, arrow, object_count, letter_count, LetterEntry, letter_table, no_letter, letter_at, quiver_of, has_ends, IsDeclared, letter_in}
+use Rattle.std.proofs.Common.{◌≡◌, ℕ, ◌+◌, ◌<◌, ◌≤◌, Bool, true, false, nat_eq, nat_lt, ◌&&◌, ◌||◌, not, List, [], ◌∷◌, ◌++◌, length, sym, refl, ap, subst, ◌∙◌, arith, ltb-true, eqb-true, ⊎_elim}
+use Rattle.std.proofs.Math.ListN.{get_or-map as get_or-map_default}
+use Rattle.std.proofs.Math.Nat.{eq-or-lt_of_le}
+use Rattle.std.proofs.lemmas.Bool.{and_parts}
+use Rattle.std.proofs.lemmas.List.{append_assoc, get_or-map}
+use Rattle.std.specs.List.{list_all}
+use Rattle.definitions.specs.Quiver.{source, target, star}
+use Rattle.quiver.specs.Declarations.{Declaration, object, arrow, object_count, letter_count, LetterEntry, letter_table, no_letter, letter_at, quiver_of, has_ends, IsDeclared}
+use Rattle.quiver.specs.Tables.{letter_in}
 use Rattle.quiver.proofs.Counts.{length-letter_table}
 use Rattle.quiver.proofs.Growth.{letters_from, letter_in_seam, longer}
 

@@ -1,5 +1,6 @@
 -- Numbers of whatever size are written as text without line ends.
-use Rattle.report_readback.proofs.Prelude.{◌≡◌, ◌<◌, ◌+◌, ◌/◌, ◌%◌, ◌==◌, ℕ, zero, suc, ℤ, pos, negsuc, Bool, true, false, cond, List, [], ◌∷◌, arith, refl, codes, decimal, signed_decimal, digits_onto, digit_glyph, list_all, lt-ltb, ne_eqb, is_inside, IsLineText, are_low, literal, line_text-append, digits}
+use Rattle.report_readback.proofs.Prelude.{◌≡◌, ◌<◌, ◌+◌, ◌/◌, ◌%◌, ◌==◌, ℕ, zero, suc, ℤ, pos, negsuc, Bool, true, false, cond, List, [], ◌∷◌, arith, refl, codes, decimal, signed_decimal, digits_onto, digit_glyph, list_all, lt-ltb, ne_eqb, is_inside, IsLineText, are_low, literal, line_text-append}
+use Rattle.std.specs.Fmt.{digits}
 
 -- low characters and no line ends
 record IsLow (text : List ℕ) : Type 0 where

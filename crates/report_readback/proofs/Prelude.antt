@@ -167,8 +167,7 @@ pub use Rattle.outcome_laws.specs.EvidenceLimits.{IsCertificateWithin, IsLemmaCe
 pub use Rattle.outcome_laws.specs.Meanings.{IsOutcomeAt}
 pub use Rattle.model_checker.specs.Models.{HaveMatrices, Refutes}
 pub use Rattle.model_checker.specs.Representations.{map_at}
-pub use Rattle.model_candidates.specs.Candidates.{Breaks, IsCandidate, is_declared_map, matrix_by, model_by, naming, place_by}
-unfoldable pub use Rattle.model_candidates.specs.Candidates.{digits}
+pub use Rattle.model_candidates.specs.Candidates.{Breaks, IsCandidate, digits, is_declared_map, matrix_by, model_by, naming, place_by}
 pub use Rattle.model_search.proofs.SearchAnswers.{breaking_candidates_refute}
 pub use Rattle.report_readback.specs.Answered.{AcceptsOf, DerivedEvidenceIsAnswered, IsAnsweredWithinLimits, PassesLimit, RefusesOf, ReportedEvidenceIsAnswered}
 pub use Rattle.report_readback.specs.ModelsReadBack.{IsReadAsModels, ReportsReadBackAsModels, refuted_in}

@@ -11,7 +11,7 @@ pub use Rattle.std.proofs.lemmas.Option.{get_or_from_slice_get}
 pub use Rattle.std.specs.List.{All, range_with_len}
 pub use Rattle.std.specs.Option.{option_map}
 pub use Rattle.std.specs.Vec.{with_items}
-pub use Rattle.word_core.specs.Occurrence.{IsFirstPlace, OccursAt, OccursNowhere}
+pub use Rattle.word_core.specs.Occurrence.{IsFirstPlace, OccursNowhere}
 pub use Rattle.rule_index.specs.Automaton.{HasLetters, HasRoom, IsAdvanced, IsChained, IsChild, IsEnds, IsGrowing, IsGrown, IsInserted, IsLettered, IsLinked, IsLongest, IsMarked, IsMarkedAt, IsRelinked, IsSame, IsSpelled, IsStarts, IsThreaded, IsTree, IsWithin, Lists, ListsBelow, added_node, bucket_at, ends_with, first_of, grown, longest, marked, node_at, occurs, relinked, root, sooner, words_of}
 unfoldable pub use Rattle.rule_index.specs.Automaton.{bucket_of, letter_bucket_of}
 pub use Rattle.rule_index.specs.Cuts.{IsCounted, IsCut, IsKept, IsLinkedFrom, earlier}

@@ -1,5 +1,15 @@
 -- The greater of two words, in a total order that agrees with equality.
-use Rattle.rule_reduce.proofs.Prelude.{◌≡◌, ◌⊎◌, inl, inr, ℕ, List, [], ◌∷◌, Some, refl, sym, ap, ◌∙◌, subst, arith, All, All-nil, All-cons, All-tail, same_Some, tied_itself, ordering_reverse, Less, Equal, Greater, Term, by_order, Compare, IsAdmissible, greater_term, greatest_from, leading_term}
+use Rattle.std.proofs.Common.{◌≡◌, ◌⊎◌, inl, inr, ℕ, List, [], ◌∷◌, Some, refl, sym, ap, ◌∙◌, subst, arith}
+use Rattle.std.proofs.lemmas.Cmp.{tied_itself}
+use Rattle.std.proofs.lemmas.List.Elements.{All-nil, All-cons, All-tail}
+use Rattle.std.proofs.lemmas.Option.{same_Some}
+use Rattle.std.specs.List.{All}
+use Rattle.std.specs.Ordering.{ordering_reverse}
+use Rattle.std.specs.declared.cmp.Ordering.TheVariants.{Less, Equal, Greater}
+use Rattle.definitions.specs.Poly.{Term}
+use Rattle.nc_polynomial.specs.Terms.{by_order}
+use Rattle.word_orders.specs.Admissible.{Compare, IsAdmissible}
+use Rattle.rule_reduce.specs.Leading.{greater_term, greatest_from, leading_term}
 
 abbrev pub IsAtMost : Compare → List ℕ → List ℕ → Type 0
 IsAtMost compare u v = (u ≡ v) ⊎ (compare u v ≡ Less)

@@ -1,6 +1,24 @@
 -- Each step keeps the multiplier times the polynomial equal to the rest plus the sum of the rows.
 use Rattle.rule_reduce.proofs.Exits.{multiplied-scaled}
-use Rattle.rule_reduce.proofs.Prelude.{negated-multiple, ◌≡◌, ℕ, ℤ, ◌+ℤ◌, ◌*ℤ◌, neg_ℤ, List, [], ◌∷◌, ◌++◌, map, sym, ap, ap₂, ◌∙◌, arith, negsuc, ints, *ℤ_comm, +ℤ_idl, +ℤ_idr, +ℤ_assoc, zero-*ℤ, Term, coefficient_of, poly_multiple, poly_between, generator_at, *ℤ_assoc, +ℤ-*ℤ, coefficient_of-append, coefficient_of-multiple, multiplied, negated, shifted, coefficient_of-added, coefficient_of-scaled, scaled-between, Row, origin_poly, traced_poly, traced_sum, Rule, State, polynomials_of, Move, move_row, multiplied_row, moved, move_of, start_of, ReductionsBalance}
+use Rattle.std.proofs.Common.{◌≡◌, ℕ, ℤ, ◌+ℤ◌, ◌*ℤ◌, neg_ℤ, List, [], ◌∷◌, ◌++◌, map, sym, ap, ap₂, ◌∙◌, arith, negsuc}
+use Rattle.std.proofs.Math.IntN.{*ℤ_comm, +ℤ_idl, +ℤ_idr, +ℤ_assoc, zero-*ℤ}
+use Rattle.std.proofs.lemmas.Int.{ints}
+use Rattle.definitions.proofs.Coefficients.{coefficient_of-append, coefficient_of-multiple}
+use Rattle.definitions.proofs.Integers.{*ℤ_assoc, +ℤ-*ℤ}
+use Rattle.definitions.specs.Combination.{generator_at}
+use Rattle.definitions.specs.Poly.{Term, coefficient_of, poly_multiple, poly_between}
+use Rattle.traced_rows.specs.Traces.{origin_poly, traced_poly, traced_sum}
+use Rattle.traced_rows.specs.declared.Row.{Row}
+use Rattle.nc_polynomial.proofs.CoefficientLaws.{coefficient_of-added, coefficient_of-scaled}
+use Rattle.nc_polynomial.proofs.Products.{scaled-between}
+use Rattle.nc_polynomial.proofs.Values.{negated-multiple}
+use Rattle.nc_polynomial.specs.Terms.{multiplied, negated, shifted}
+use Rattle.rule_reduce.specs.Laws.{ReductionsBalance}
+use Rattle.rule_reduce.specs.NormalForms.{start_of}
+use Rattle.rule_reduce.specs.RuleLists.{polynomials_of}
+use Rattle.rule_reduce.specs.Steps.{Move, move_row, multiplied_row, moved, move_of}
+use Rattle.rule_reduce.specs.declared.rule.Rule.{Rule}
+use Rattle.rule_reduce.specs.declared.state.State.{State}
 use Rattle.rule_reduce.proofs.Numbers.{rule_at-polynomial}
 use Rattle.rule_reduce.proofs.Runs.{reduction_keeps}
 

@@ -1,5 +1,24 @@
 -- The choice that is computed is that of the greatest word, the least number and the leftmost place, and the only such one.
-use Rattle.rule_reduce.proofs.Prelude.{◌≡◌, inl, inr, ℕ, ◌<◌, ℤ, List, [], ◌∷◌, length, get_or, Option, Some, None, IfSome, refl, sym, ap, ap₂, ◌∙◌, subst, arith, All, Contains, get_or_default, All-nil, All-cons, All-tail, All-contains_itself, All-contains, none-some, same_Some, ordering_reverse, Ordering, Less, Equal, Greater, Term, IsDescending, by_order, word_cmp, OccursAt, OccursNowhere, word_cmp-itself, Compare, IsAdmissible, match_of, place_in, place_in-is, Rule, Choice, rule_at, entries_of, choice_or, better_choice, choice_from, choice_of, IsChoice, IsSettled, ChoicesAreExact}
+use Rattle.std.proofs.Common.{◌≡◌, inl, inr, ℕ, ◌<◌, ℤ, List, [], ◌∷◌, length, get_or, Option, Some, None, IfSome, refl, sym, ap, ap₂, ◌∙◌, subst, arith}
+use Rattle.std.proofs.lemmas.List.{get_or_default}
+use Rattle.std.proofs.lemmas.List.Elements.{All-nil, All-cons, All-tail, All-contains_itself, All-contains}
+use Rattle.std.proofs.lemmas.Option.{none-some, same_Some}
+use Rattle.std.specs.List.{All, Contains}
+use Rattle.std.specs.Ordering.{ordering_reverse}
+use Rattle.std.specs.declared.cmp.Ordering.{Ordering}
+use Rattle.std.specs.declared.cmp.Ordering.TheVariants.{Less, Equal, Greater}
+use Rattle.definitions.specs.Poly.{Term}
+use Rattle.word_core.proofs.Order.{word_cmp-itself}
+use Rattle.word_core.specs.Canonical.{word_cmp}
+use Rattle.word_core.specs.Occurrence.{OccursAt, OccursNowhere}
+use Rattle.nc_polynomial.specs.Terms.{IsDescending, by_order}
+use Rattle.word_orders.specs.Admissible.{Compare, IsAdmissible}
+use Rattle.rule_index.proofs.PlacesOfWords.{place_in-is}
+use Rattle.rule_index.specs.Matches.{match_of, place_in}
+use Rattle.rule_reduce.specs.Choices.{choice_or, better_choice, choice_from, choice_of, IsChoice, IsSettled, ChoicesAreExact}
+use Rattle.rule_reduce.specs.RuleLists.{rule_at, entries_of}
+use Rattle.rule_reduce.specs.declared.rule.Rule.{Rule}
+use Rattle.rule_reduce.specs.declared.state.Choice.{Choice}
 use Rattle.rule_reduce.proofs.Numbers.{rule_at-all}
 use Rattle.rule_reduce.proofs.Irreducible.{no_match, irreducible_where_none}
 use Rattle.rule_reduce.proofs.Matched.{Matched, matched}

@@ -1,5 +1,26 @@
 -- Where the arithmetic of a step ends.
-use Rattle.rule_reduce.proofs.Prelude.{length-keep, once_fits, ℕ, ◌+◌, ◌≡◌, ◌≤◌, ℤ, neg_ℤ, ◌*ℤ◌, List, [], ◌∷◌, ◌++◌, length, get_or, map, Option, Some, None, Result, Ok, Err, IsErr, IsErrAnd, MatchResult, ◌≢◌, pos, refl, sym, ap, ap₂, ◌∙◌, subst, arith, All, All-tail, All-map, ints, *ℤ_comm, Overflow, IsCoefficient, product_of, first_overflow, Term, PolyFault, IsDescending, keep, scaled, multiplied, multiplications, negated, shifted, products, added, sums, checked, unless_overflow, sized, finished, Explains, IsMemory, IsShaped, IsCanonical, checked-fits, IsDescending-from_recursion, recursion_from_IsDescending, descending-scaled, nonzero-scaled, in_range-neg_ℤ, shaped-negated, shaped_shift, shaped_add, ranged_multiply, first-fits, first-append, or_first, passes, explains-first, explains-last, none_overflows, value_is, ends, finished-value, Row, State, Move, moved, move_row, move_result, row_operations, multiplied_row, multiplied_state, state_operations, less_multiple, less_operations, if_sized, IsInRange}
+use Rattle.std.proofs.Common.{ℕ, ◌+◌, ◌≡◌, ◌≤◌, ℤ, neg_ℤ, ◌*ℤ◌, List, [], ◌∷◌, ◌++◌, length, get_or, map, Option, Some, None, Result, Ok, Err, IsErr, IsErrAnd, MatchResult, ◌≢◌, pos, refl, sym, ap, ap₂, ◌∙◌, subst, arith}
+use Rattle.std.proofs.Math.IntN.{*ℤ_comm}
+use Rattle.std.proofs.lemmas.Int.{ints}
+use Rattle.std.proofs.lemmas.List.Elements.{All-tail, All-map}
+use Rattle.std.specs.List.{All}
+use Rattle.definitions.specs.Poly.{Term}
+use Rattle.coef_int.specs.Operations.{product_of, first_overflow}
+use Rattle.coef_int.specs.Range.{IsCoefficient}
+use Rattle.coef_int.specs.declared.Overflow.{Overflow}
+use Rattle.traced_rows.specs.declared.Row.{Row}
+use Rattle.nc_polynomial.proofs.Chains.{shaped_add, ranged_multiply, first-fits, first-append, or_first, passes, explains-first, explains-last, none_overflows, value_is, ends, finished-value}
+use Rattle.nc_polynomial.proofs.Checked.{checked-fits}
+use Rattle.nc_polynomial.proofs.Products.{shaped_shift}
+use Rattle.nc_polynomial.proofs.Shapes.{IsDescending-from_recursion, recursion_from_IsDescending, descending-scaled, nonzero-scaled, in_range-neg_ℤ, shaped-negated}
+use Rattle.nc_polynomial.proofs.Tables.{length-keep}
+use Rattle.nc_polynomial.proofs.Units.{once_fits}
+use Rattle.nc_polynomial.specs.Faults.{checked, unless_overflow, sized, finished, Explains, IsMemory}
+use Rattle.nc_polynomial.specs.Shape.{IsShaped, IsCanonical}
+use Rattle.nc_polynomial.specs.Terms.{IsDescending, keep, scaled, multiplied, multiplications, negated, shifted, products, added, sums}
+use Rattle.nc_polynomial.specs.declared.fault.PolyFault.{PolyFault}
+use Rattle.rule_reduce.specs.Steps.{Move, moved, move_row, move_result, row_operations, multiplied_row, multiplied_state, state_operations, less_multiple, less_operations, if_sized, IsInRange}
+use Rattle.rule_reduce.specs.declared.state.State.{State}
 use Rattle.nc_polynomial.specs.declared.fault.PolyFault.TheVariants as fault
 use Rattle.rule_reduce.proofs.LettersKept.{each-multiplied}
 

@@ -1,5 +1,21 @@
 -- Where no term can be chosen, no leading word occurs in a word.
-use Rattle.rule_reduce.proofs.Prelude.{◌≡◌, ℕ, suc, List, [], ◌∷◌, get_or, Option, Some, None, MatchOption, refl, All, All-nil, All-cons, Ordering, Less, Equal, Greater, Term, by_order, OccursNowhere, IsFirstPlace, Compare, match_or, match_of, place_in, place_in-tells, Rule, Choice, entries_from, entries_of, choice_or, choice_from, choice_of, start_of, IsIrreducible, RestsAreIrreducible}
+use Rattle.std.proofs.Common.{◌≡◌, ℕ, suc, List, [], ◌∷◌, get_or, Option, Some, None, MatchOption, refl}
+use Rattle.std.proofs.lemmas.List.Elements.{All-nil, All-cons}
+use Rattle.std.specs.List.{All}
+use Rattle.std.specs.declared.cmp.Ordering.{Ordering}
+use Rattle.std.specs.declared.cmp.Ordering.TheVariants.{Less, Equal, Greater}
+use Rattle.definitions.specs.Poly.{Term}
+use Rattle.word_core.specs.Occurrence.{OccursNowhere, IsFirstPlace}
+use Rattle.nc_polynomial.specs.Terms.{by_order}
+use Rattle.word_orders.specs.Admissible.{Compare}
+use Rattle.rule_index.proofs.PlacesOfWords.{place_in-tells}
+use Rattle.rule_index.specs.Matches.{match_or, match_of, place_in}
+use Rattle.rule_reduce.specs.Choices.{choice_or, choice_from, choice_of}
+use Rattle.rule_reduce.specs.Laws.{IsIrreducible, RestsAreIrreducible}
+use Rattle.rule_reduce.specs.NormalForms.{start_of}
+use Rattle.rule_reduce.specs.RuleLists.{entries_from, entries_of}
+use Rattle.rule_reduce.specs.declared.rule.Rule.{Rule}
+use Rattle.rule_reduce.specs.declared.state.Choice.{Choice}
 use Rattle.rule_reduce.proofs.Runs.{reduction_keeps}
 
 -- no entry of a rule occurs where there is no match

@@ -1,5 +1,22 @@
 -- The words of a reduction stay below those of the polynomial, are typed like it, and have its letters or those of the rules.
-use Rattle.rule_reduce.proofs.Prelude.{◌≢◌, inl, inr, ℕ, pos, Bool, List, ◌++◌, get_or, refl, sym, ◌∙◌, subst, All, list_all, and_parts, and_from, All-weaker, list_all-append, Term, coefficient_of, Quiver, IsPath, fits_from_path, path_from_fits, IsOver, Compare, IsAdmissible, IsBelow, IsOver-append, IsOver-front, IsOver-back, IsShaped, recursion_from_IsDescending, distinct-descending, words_listed, Rule, IsRule, IsAtMostOf, WordsStayBelow, IsTypedRule, TypesAreKept, IsInPlay, IsPolyInPlay, LettersAreKept}
+use Rattle.std.proofs.Common.{◌≢◌, inl, inr, ℕ, pos, Bool, List, ◌++◌, get_or, refl, sym, ◌∙◌, subst}
+use Rattle.std.proofs.lemmas.Bool.{and_parts, and_from}
+use Rattle.std.proofs.lemmas.List.Elements.{All-weaker}
+use Rattle.std.proofs.lemmas.List.Folds.{list_all-append}
+use Rattle.std.specs.List.{All, list_all}
+use Rattle.definitions.proofs.Paths.{fits_from_path, path_from_fits}
+use Rattle.definitions.specs.Poly.{Term, coefficient_of}
+use Rattle.definitions.specs.Quiver.{Quiver, IsPath}
+use Rattle.word_core.specs.Letters.{IsOver}
+use Rattle.nc_polynomial.proofs.Distinct.{distinct-descending, words_listed}
+use Rattle.nc_polynomial.proofs.Shapes.{recursion_from_IsDescending}
+use Rattle.nc_polynomial.specs.Shape.{IsShaped}
+use Rattle.word_orders.proofs.Over.{IsOver-append, IsOver-front, IsOver-back}
+use Rattle.word_orders.specs.Admissible.{Compare, IsAdmissible}
+use Rattle.word_orders.specs.Orders.{IsBelow}
+use Rattle.rule_reduce.specs.KeptWords.{IsAtMostOf, WordsStayBelow, IsTypedRule, TypesAreKept, IsInPlay, IsPolyInPlay, LettersAreKept}
+use Rattle.rule_reduce.specs.RuleLists.{IsRule}
+use Rattle.rule_reduce.specs.declared.rule.Rule.{Rule}
 use Rattle.rule_reduce.proofs.Numbers.{rule_at-all}
 use Rattle.rule_reduce.proofs.AtMost.{IsAtMost, leading-greatest, leading-all}
 use Rattle.rule_reduce.proofs.WordsKept.{words_with_coefficients, words_kept}

@@ -1,5 +1,17 @@
 -- A step brings in no letters but those of the polynomial and of the rule.
-use Rattle.rule_reduce.proofs.Prelude.{scaled-between, ◌≡◌, ◌<◌, ℕ, ◌+◌, ℤ, ◌*ℤ◌, List, [], ◌∷◌, ◌++◌, length, get_or, take, drop, neg_ℤ, Some, Ok, arith, subst, All, All-tail, All-map, All-append, All-take, All-drop, Term, poly_between, multiplied, negated, shifted, aligned, all-keep, all-totals, all-aligned, all-scaled, IsOver, Rule, State, Choice, rule_at, Move, moved, move_of, step_result}
+use Rattle.std.proofs.Common.{◌≡◌, ◌<◌, ℕ, ◌+◌, ℤ, ◌*ℤ◌, List, [], ◌∷◌, ◌++◌, length, get_or, take, drop, neg_ℤ, Some, Ok, arith, subst}
+use Rattle.std.proofs.lemmas.List.Elements.{All-tail, All-map, All-append, All-take, All-drop}
+use Rattle.std.specs.List.{All}
+use Rattle.definitions.specs.Poly.{Term, poly_between}
+use Rattle.word_core.specs.Letters.{IsOver}
+use Rattle.nc_polynomial.proofs.Products.{scaled-between}
+use Rattle.nc_polynomial.proofs.Shapes.{all-keep, all-totals, all-aligned, all-scaled}
+use Rattle.nc_polynomial.specs.Terms.{multiplied, negated, shifted, aligned}
+use Rattle.rule_reduce.specs.RuleLists.{rule_at}
+use Rattle.rule_reduce.specs.Steps.{Move, moved, move_of, step_result}
+use Rattle.rule_reduce.specs.declared.rule.Rule.{Rule}
+use Rattle.rule_reduce.specs.declared.state.Choice.{Choice}
+use Rattle.rule_reduce.specs.declared.state.State.{State}
 use Rattle.rule_reduce.proofs.Numbers.{rule_at-all}
 use Rattle.rule_reduce.proofs.Runs.{step_keeps}
 

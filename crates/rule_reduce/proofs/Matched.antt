@@ -1,5 +1,11 @@
 -- The rule that matches a word: the first one whose leading word occurs in it.
-use Rattle.rule_reduce.proofs.Prelude.{◌≡◌, ℕ, zero, suc, ◌+◌, ◌<◌, List, [], ◌∷◌, slice_get, Some, None, MatchOption, refl, subst, arith, same_Some, some_pair_parts, OccursNowhere, IsFirstPlace, match_or, match_of, place_in, place_in-tells, Rule, rule_at, entries_from, entries_of}
+use Rattle.std.proofs.Common.{◌≡◌, ℕ, zero, suc, ◌+◌, ◌<◌, List, [], ◌∷◌, slice_get, Some, None, MatchOption, refl, subst, arith}
+use Rattle.std.proofs.lemmas.Option.{same_Some, some_pair_parts}
+use Rattle.word_core.specs.Occurrence.{OccursNowhere, IsFirstPlace}
+use Rattle.rule_index.proofs.PlacesOfWords.{place_in-tells}
+use Rattle.rule_index.specs.Matches.{match_or, match_of, place_in}
+use Rattle.rule_reduce.specs.RuleLists.{rule_at, entries_from, entries_of}
+use Rattle.rule_reduce.specs.declared.rule.Rule.{Rule}
 
 -- its place in the list
 record MatchedAt (rules : List Rule) (w : List ℕ) (index place : ℕ) : Type 0 where

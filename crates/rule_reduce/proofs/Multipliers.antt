@@ -1,5 +1,15 @@
 -- The multiplier of a reduction is positive.
-use Rattle.rule_reduce.proofs.Prelude.{suc, ◌<◌, ◌≤◌, ◌*◌, ◌/◌, ℤ, pos, negsuc, ◌*ℤ◌, ◌<ℤ◌, int_div, arith, zero, unsigned_abs, ints, le-div, le_of_dvd, IsRule, gcd_within, gcd_of, move_of, start_of, MultipliersArePositive, gcd_within-IsGcd, gcd_positive}
+use Rattle.std.proofs.Common.{suc, ◌<◌, ◌≤◌, ◌*◌, ◌/◌, ℤ, pos, negsuc, ◌*ℤ◌, ◌<ℤ◌, int_div, arith, zero}
+use Rattle.std.proofs.lemmas.Int.{ints}
+use Rattle.std.proofs.lemmas.Nat.{le-div}
+use Rattle.std.proofs.lemmas.Nat.Gcd.{le_of_dvd}
+use Rattle.std.specs.Int.RustNames.{unsigned_abs}
+use Rattle.coef_int.proofs.Divisors.{gcd_within-IsGcd, gcd_positive}
+use Rattle.coef_int.specs.Divisor.{gcd_within, gcd_of}
+use Rattle.rule_reduce.specs.Laws.{MultipliersArePositive}
+use Rattle.rule_reduce.specs.NormalForms.{start_of}
+use Rattle.rule_reduce.specs.RuleLists.{IsRule}
+use Rattle.rule_reduce.specs.Steps.{move_of}
 use Rattle.rule_reduce.proofs.Numbers.{rule_at-all}
 use Rattle.rule_reduce.proofs.Runs.{reduction_keeps}
 

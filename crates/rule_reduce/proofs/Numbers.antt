@@ -1,5 +1,12 @@
 -- Rules by their numbers.
-use Rattle.rule_reduce.proofs.Prelude.{length-take, ◌≡◌, ℕ, zero, suc, ◌+◌, ◌<◌, ◌≤◌, List, [], ◌∷◌, ◌++◌, length, take, get_or, slice_get, Option, Some, None, refl, sym, ap, ◌∙◌, arith, subst, All, All-nil, All-cons, same_Some, slice_get_within, slice_get-get_or, generator_at, Rule, rule_at, polynomials_of, entries_from, entries_of}
+use Rattle.std.proofs.Common.{◌≡◌, ℕ, zero, suc, ◌+◌, ◌<◌, ◌≤◌, List, [], ◌∷◌, ◌++◌, length, take, get_or, slice_get, Option, Some, None, refl, sym, ap, ◌∙◌, arith, subst}
+use Rattle.std.proofs.lemmas.List.{length-take}
+use Rattle.std.proofs.lemmas.List.Elements.{All-nil, All-cons}
+use Rattle.std.proofs.lemmas.Option.{same_Some, slice_get_within, slice_get-get_or}
+use Rattle.std.specs.List.{All}
+use Rattle.definitions.specs.Combination.{generator_at}
+use Rattle.rule_reduce.specs.RuleLists.{rule_at, polynomials_of, entries_from, entries_of}
+use Rattle.rule_reduce.specs.declared.rule.Rule.{Rule}
 
 -- a number that is too large
 slice_get-past : (rules : List Rule) (n : ℕ) → length rules ≤ n → slice_get rules n ≡ None

@@ -1,5 +1,9 @@
 -- The rows of a step.
-use Rattle.rule_reduce.proofs.Prelude.{ℤ, List, [], ◌∷◌, ◌++◌, get_or, map, All, All-push, All-map, Row, multiplied_row}
+use Rattle.std.proofs.Common.{ℤ, List, [], ◌∷◌, ◌++◌, get_or, map}
+use Rattle.std.proofs.lemmas.List.Elements.{All-push, All-map}
+use Rattle.std.specs.List.{All}
+use Rattle.traced_rows.specs.declared.Row.{Row}
+use Rattle.rule_reduce.specs.Steps.{multiplied_row}
 
 -- what multiplying a row keeps is kept by the rows of a step
 pub all-multiplied : (P : Row → Type 0) → ((by : ℤ) (row : Row) → P row → P (multiplied_row by row)) → (by : ℤ) (rows : List Row) (last : Row) → All P rows → P last → All P (map (multiplied_row by) rows ++ last ∷ [])

@@ -1,5 +1,14 @@
 -- Each row is a multiple of a rule.
-use Rattle.rule_reduce.proofs.Prelude.{◌≡◌, ℕ, zero, suc, ◌<◌, ◌≤◌, List, length, Some, arith, All, All-nil, slice_get_within, Row, Rule, rule_at, move_row, move_of, start_of, IsByRule, RowsAreByRules}
+use Rattle.std.proofs.Common.{◌≡◌, ℕ, zero, suc, ◌<◌, ◌≤◌, List, length, Some, arith}
+use Rattle.std.proofs.lemmas.List.Elements.{All-nil}
+use Rattle.std.proofs.lemmas.Option.{slice_get_within}
+use Rattle.std.specs.List.{All}
+use Rattle.traced_rows.specs.declared.Row.{Row}
+use Rattle.rule_reduce.specs.Laws.{IsByRule, RowsAreByRules}
+use Rattle.rule_reduce.specs.NormalForms.{start_of}
+use Rattle.rule_reduce.specs.RuleLists.{rule_at}
+use Rattle.rule_reduce.specs.Steps.{move_row, move_of}
+use Rattle.rule_reduce.specs.declared.rule.Rule.{Rule}
 use Rattle.rule_reduce.proofs.Rows.{all-multiplied}
 use Rattle.rule_reduce.proofs.Runs.{reduction_keeps}
 

@@ -1,5 +1,15 @@
 -- What each step keeps, the whole reduction keeps.
-use Rattle.rule_reduce.proofs.Prelude.{◌≡◌, ℕ, zero, suc, List, Some, None, Ok, Err, refl, subst, first_overflow, unless_overflow, sized, Compare, Rule, Choice, State, rule_at, entries_of, choice_of, Move, moved, move_operations, if_sized, move_result, move_of, step_by, step_result, then_next, at_limit, one_step, reduction}
+use Rattle.std.proofs.Common.{◌≡◌, ℕ, zero, suc, List, Some, None, Ok, Err, refl, subst}
+use Rattle.coef_int.specs.Operations.{first_overflow}
+use Rattle.nc_polynomial.specs.Faults.{unless_overflow, sized}
+use Rattle.word_orders.specs.Admissible.{Compare}
+use Rattle.rule_reduce.specs.Choices.{choice_of}
+use Rattle.rule_reduce.specs.NormalForms.{then_next, at_limit, one_step, reduction}
+use Rattle.rule_reduce.specs.RuleLists.{rule_at, entries_of}
+use Rattle.rule_reduce.specs.Steps.{Move, moved, move_operations, if_sized, move_result, move_of, step_by, step_result}
+use Rattle.rule_reduce.specs.declared.rule.Rule.{Rule}
+use Rattle.rule_reduce.specs.declared.state.Choice.{Choice}
+use Rattle.rule_reduce.specs.declared.state.State.{State}
 
 -- a step that goes well is its move
 pub move_result-value : (m : Move) (s t : State) → move_result m s ≡ Ok t → moved m s ≡ t

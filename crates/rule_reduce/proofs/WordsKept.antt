@@ -1,5 +1,24 @@
 -- A property of words that replacing a leading word by the other words of its rule keeps is kept by a reduction.
-use Rattle.rule_reduce.proofs.Prelude.{cases_Bool, ◌≡◌, ◌≢◌, ℕ, ◌+◌, pos, List, [], ◌∷◌, ◌++◌, length, take, drop, Some, Ok, refl, sym, ap, ap₂, ◌∙◌, subst, arith, inl, inr, All, take_at, drop_at, drop-drop, All-nil, All-tail, All-contains, same_Some, Term, word_eq, coefficient_of, word_eq-true, coefficient_other, OccursAt, Compare, Row, origin_poly, Rule, State, Choice, rule_at, polynomials_of, entries_of, choice_of, move_row, moved, move_of, start_of, normal_form_of, EachWord}
+use Rattle.std.proofs.Common.{◌≡◌, ◌≢◌, ℕ, ◌+◌, pos, List, [], ◌∷◌, ◌++◌, length, take, drop, Some, Ok, refl, sym, ap, ap₂, ◌∙◌, subst, arith, inl, inr}
+use Rattle.std.proofs.lemmas.Bool.{cases_Bool}
+use Rattle.std.proofs.lemmas.List.{take_at, drop_at, drop-drop}
+use Rattle.std.proofs.lemmas.List.Elements.{All-nil, All-tail, All-contains}
+use Rattle.std.proofs.lemmas.Option.{same_Some}
+use Rattle.std.specs.List.{All}
+use Rattle.definitions.proofs.Linear.{word_eq-true, coefficient_other}
+use Rattle.definitions.specs.Poly.{Term, word_eq, coefficient_of}
+use Rattle.word_core.specs.Occurrence.{OccursAt}
+use Rattle.traced_rows.specs.Traces.{origin_poly}
+use Rattle.traced_rows.specs.declared.Row.{Row}
+use Rattle.word_orders.specs.Admissible.{Compare}
+use Rattle.rule_reduce.specs.Choices.{choice_of}
+use Rattle.rule_reduce.specs.KeptWords.{EachWord}
+use Rattle.rule_reduce.specs.NormalForms.{start_of, normal_form_of}
+use Rattle.rule_reduce.specs.RuleLists.{rule_at, polynomials_of, entries_of}
+use Rattle.rule_reduce.specs.Steps.{move_row, moved, move_of}
+use Rattle.rule_reduce.specs.declared.rule.Rule.{Rule}
+use Rattle.rule_reduce.specs.declared.state.Choice.{Choice}
+use Rattle.rule_reduce.specs.declared.state.State.{State}
 use Rattle.rule_reduce.proofs.Numbers.{rule_at-polynomial}
 use Rattle.rule_reduce.proofs.Rows.{all-multiplied}
 use Rattle.rule_reduce.proofs.Runs.{reduction_keeps}

@@ -1,5 +1,7 @@
 -- What holds of each item of a list, with one item taken or put.
-use Rattle.traced_rows.proofs.Prelude.{◌≡◌, ℕ, ◌<◌, ◌≤◌, arith, List, [], ◌∷◌, ◌++◌, Some, sym, subst, All, All-nil, All-cons, All-push, All-pop}
+use Rattle.std.proofs.Common.{◌≡◌, ℕ, ◌<◌, ◌≤◌, arith, List, [], ◌∷◌, ◌++◌, Some, sym, subst}
+use Rattle.std.proofs.lemmas.List.Elements.{All-nil, All-cons, All-push, All-pop}
+use Rattle.std.specs.List.{All}
 
 pub all_one : {X : Type 0} (P : X → Type 0) (x : X) → P x → All P (x ∷ [])
 all_one P x h = All-cons P x [] h (All-nil P)

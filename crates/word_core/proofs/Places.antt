@@ -1,5 +1,11 @@
 -- Where a word occurs in another: what its places say of the letters.
-use Rattle.word_core.proofs.Prelude.{◌≡◌, ◌↔◌, ℕ, ◌+◌, ◌-◌, ◌≤◌, List, ◌++◌, length, take, drop, Bool, nat_eq, IsTrue, sym, refl, ap, ◌∙◌, arith, starts_with, drop-append_seam, length-append, take-append-drop, length-take-le, take_rest, starts_is, Decides-eqb, OccursAt}
+use Rattle.std.proofs.Common.{◌≡◌, ◌↔◌, ℕ, ◌+◌, ◌-◌, ◌≤◌, List, ◌++◌, length, take, drop, Bool, nat_eq, IsTrue, sym, refl, ap, ◌∙◌, arith}
+use Rattle.std.proofs.Math.Seq.{drop-append_seam}
+use Rattle.std.proofs.lemmas.Bool.Decides.{Decides-eqb}
+use Rattle.std.proofs.lemmas.List.{length-append, take-append-drop, length-take-le, take_rest}
+use Rattle.std.proofs.lemmas.Slice.Eq.{starts_is}
+use Rattle.std.specs.List.{starts_with}
+use Rattle.word_core.specs.Occurrence.{OccursAt}
 
 -- a word occurs between two others
 pub OccursAt-between : (l u r : List ℕ) → OccursAt (l ++ (u ++ r)) u (length l)

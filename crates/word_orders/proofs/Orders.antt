@@ -1,5 +1,12 @@
 -- Each admissible order is an order as proofs about words ask for it.
-use Rattle.word_orders.proofs.Prelude.{◌≡◌, ◌⊎◌, inl, inr, ℕ, List, [], ◌++◌, append-nil, refl, sym, ap, ap₂, ◌∙◌, tied_itself, ordering_reverse, Ordering, Less, Equal, Greater, IsOver, Compare, IsAdmissible, Order, IsBelow}
+use Rattle.std.proofs.Common.{◌≡◌, ◌⊎◌, inl, inr, ℕ, List, [], ◌++◌, append-nil, refl, sym, ap, ap₂, ◌∙◌}
+use Rattle.std.proofs.lemmas.Cmp.{tied_itself}
+use Rattle.std.specs.Ordering.{ordering_reverse}
+use Rattle.std.specs.declared.cmp.Ordering.{Ordering}
+use Rattle.std.specs.declared.cmp.Ordering.TheVariants.{Less, Equal, Greater}
+use Rattle.word_core.specs.Letters.{IsOver}
+use Rattle.word_orders.specs.Admissible.{Compare, IsAdmissible}
+use Rattle.word_orders.specs.Orders.{Order, IsBelow}
 use Rattle.word_orders.proofs.Induction.{word_induction}
 use Rattle.word_orders.proofs.Over.{IsOver-append, IsOver-front, IsOver-back, IsOver-decided}
 

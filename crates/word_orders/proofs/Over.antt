@@ -1,5 +1,9 @@
 -- Words over the letters below a number: their parts, and what is put together of them.
-use Rattle.word_orders.proofs.Prelude.{◌≡◌, ◌⊎◌, inl, inr, ◌<◌, ◌≤◌, ℕ, true, false, List, [], ◌∷◌, ◌++◌, length, nat_le, subst, arith, drop-append_seam, take-append_seam, leb_tells, All-append, All-cons, All-drop, All-head, All-nil, All-tail, All-take, IsOver}
+use Rattle.std.proofs.Common.{◌≡◌, ◌⊎◌, inl, inr, ◌<◌, ◌≤◌, ℕ, true, false, List, [], ◌∷◌, ◌++◌, length, nat_le, subst, arith}
+use Rattle.std.proofs.Math.Seq.{drop-append_seam, take-append_seam}
+use Rattle.std.proofs.lemmas.Bool.Decides.{leb_tells}
+use Rattle.std.proofs.lemmas.List.Elements.{All-append, All-cons, All-drop, All-head, All-nil, All-tail, All-take}
+use Rattle.word_core.specs.Letters.{IsOver}
 
 module _ (letters : ℕ) where
   abbrev below : ℕ → Type 0
